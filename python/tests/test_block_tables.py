@@ -114,12 +114,12 @@ def test_the_rows_of_three_pillars_are_as_worked_out_by_hand(worked):
     found = found.query("category != 'waste'").drop(columns=["method", "head_grade_gold"])
     assert [tuple(row) for row in found.to_numpy().tolist()] == [
         # Year, bench, rock, source, destination, category; in situ t, %, g/t, t, g; feed t, %; in it t, g; recovered t, g.
-        (1, 5, "OX", "pit", "leach", "ore", 100, 1.5, 0, 1.5, 0, 125, 1.2, 1.5, 0, 0.75, 0),
-        (2, 5, "SUL", "pit", "mill", "ore", 100, 2, 4, 2, 400, 125, 1.6, 2, 400, 1.6, 200),
-        (3, 5, "SUL", "pit", "mill", "ore", 100, 0.4, 0.5, 0.4, 50, 125, 0.32, 0.4, 50, 0.32, 25),
+        (1, 0, "OX", "pit", "leach", "ore", 100, 1.5, 0, 1.5, 0, 125, 1.2, 1.5, 0, 0.75, 0),
+        (2, 0, "SUL", "pit", "mill", "ore", 100, 2, 4, 2, 400, 125, 1.6, 2, 400, 1.6, 200),
+        (3, 0, "SUL", "pit", "mill", "ore", 100, 0.4, 0.5, 0.4, 50, 125, 0.32, 0.4, 50, 0.32, 25),
     ]
     waste = table(worked, "inventory").query("category == 'waste'")
-    assert waste["total_tonnes"].tolist() == [100] * 3 and waste["bench"].tolist() == [15] * 3
+    assert waste["total_tonnes"].tolist() == [100] * 3 and waste["bench"].tolist() == [10] * 3
 
 
 GRADES = {(3, 4, 1): 6, (7, 4, 1): 2, (5, 2, 2): 0.9, (3, 3, 2): 1.5, (8, 4, 2): 1.8, (6, 4, 1): 0.7, (4, 4, 1): 3}

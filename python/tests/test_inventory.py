@@ -65,14 +65,26 @@ def test_the_rows_of_three_pillars_are_as_worked_out_by_hand(tmp_path):
     found = table(folder).query("method == 'milp' and category != 'waste'").drop(columns=["method", "head_grade_gold"])
     assert [tuple(row) for row in found.to_numpy().tolist()] == [
         # Year, pushback, bench, rock, source, destination, category; in situ t, %, g/t, t, g; feed t, %; in it t, g; recovered t, g.
-        (1, 1, 5, "SUL", "pit", "rom", "stockpile", 100, 2, 4, 2, 400, 125, 1.6, 2, 400, 0, 0),
-        (2, 1, 5, "SUL", "rom", "mill", "ore", 100, 2, 4, 2, 400, 125, 1.6, 2, 400, 1.52, 200),
-        (2, 2, 5, "OX", "pit", "leach", "ore", 100, 1.5, 0, 1.5, 0, 125, 1.2, 1.5, 0, 0.75, 0),
-        (3, 3, 5, "SUL", "pit", "mill", "ore", 100, 0.4, 0.5, 0.4, 50, 125, 0.32, 0.4, 50, 0.32, 25),
+        (1, 1, 0, "SUL", "pit", "rom", "stockpile", 100, 2, 4, 2, 400, 125, 1.6, 2, 400, 0, 0),
+        (2, 1, 0, "SUL", "rom", "mill", "ore", 100, 2, 4, 2, 400, 125, 1.6, 2, 400, 1.52, 200),
+        (2, 2, 0, "OX", "pit", "leach", "ore", 100, 1.5, 0, 1.5, 0, 125, 1.2, 1.5, 0, 0.75, 0),
+        (3, 3, 0, "SUL", "pit", "mill", "ore", 100, 0.4, 0.5, 0.4, 50, 125, 0.32, 0.4, 50, 0.32, 25),
     ]
     blocks = pd.read_csv(folder / "tables/blocks.csv").set_index("name")
     assert blocks["share_mined"].tolist() == [1] * 6 and blocks.loc["b1-0-0", "share_leach"] == 1
     assert blocks["share_mill"].to_dict() == {name: float(name in ("b0-0-0", "b2-0-0")) for name in blocks.index}
+    # In schedule.csv what is reclaimed is no bench: of the first pillar nothing is mined in the year after.
+    mined = table(folder, "schedule").query("method == 'milp'").replace({"bench": {"": -1}}).astype({"bench": float})
+    names = ["year", "pushback", "bench", "share", "total_tonnes", "feed_tonnes", "recovered_copper"]
+    assert [tuple(row) for row in mined[names].to_numpy().tolist()] == [
+        (1, 1, 10, 1, 100, 0, 0),
+        (1, 1, 0, 1, 100, 0, 0),
+        (2, 0, -1, 0, 0, 125, 1.52),
+        (2, 2, 10, 1, 100, 0, 0),
+        (2, 2, 0, 1, 100, 125, 0.75),
+        (3, 3, 10, 1, 100, 0, 0),
+        (3, 3, 0, 1, 100, 125, 0.32),
+    ]
 
 
 def test_the_inventory_has_the_tonnes_and_metal_of_the_flows(written):

@@ -181,7 +181,7 @@ def more_at(word, place, much=1):
         ("shares", more_at("SHARE", 4, -0.1)),
         ("prec", lambda words: "" if words and int(words[0]) == 1 else None),
         ("prec", lambda words: "" if words and int(words[0]) == 7 else None),
-        ("blocks", lambda words: "bench 1 5" if words[0] == "bench" else None),
+        ("blocks", lambda words: "bench 1 0" if words[0] == "bench" else None),
         ("blocks", lambda words: "block 99" if words[0] == "block" else None),
     ],
 )

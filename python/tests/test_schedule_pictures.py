@@ -36,7 +36,7 @@ def schedule():
         "rule": np.array([[1, 0, 0], [0.5, 0.5, 0], [0, 0.5, 0.5]]),
         "lp": np.array([[1, 0, 0], [0.25, 0.75, 0], [0, 0.25, 0.75]]),
     }
-    grid = SimpleNamespace(elevations=lambda: np.array([15.0, 5.0]))
+    grid = SimpleNamespace(toes=lambda: np.array([10.0, 0.0]))
     project = SimpleNamespace(economics=SimpleNamespace(currency="USD"), metals=(METAL,))
     project.processes, project.schedule = (), None
     pushbacks = SimpleNamespace(plan=SimpleNamespace(grid=grid, project=project), factors=(0.5, 1.0))
@@ -76,7 +76,7 @@ def test_a_gantt_has_a_bar_for_each_share(schedule):
         assert bars.get_facecolors()[:, 3] == pytest.approx(0.25 + 0.75 * shares[bench, year])
         assert len({tuple(colour[:3]) for colour in bars.get_facecolors()}) == 2
         assert [text.get_text() for text in ax.texts] == ["pushback 1", "pushback 2"]
-        assert [tick.get_text() for tick in ax.get_yticklabels()] == ["15", "5", "15"]
+        assert [tick.get_text() for tick in ax.get_yticklabels()] == ["10", "0", "10"]
         low, high = ax.get_ylim()
         assert low > 5.5 and high < 0 and ax.get_xlim() == (0.5, 3.5)
     assert axes[0].get_title() == f"Rule: NPV {schedule.value('rule'):,.2f} USD"
@@ -86,7 +86,7 @@ def test_a_gantt_of_many_benches_has_a_row_per_pushback(schedule, monkeypatch):
     """A cell for each pushback and year in which it is mined, with its highest and lowest bench; the darkest has most tonnes."""
     monkeypatch.setattr(gantt, "MOST_ROWS", 2)
     axes = gantt.plot_gantt(schedule, Figure().subplots(2, 1))
-    benches, elevations = schedule.benches, schedule.pushbacks.plan.grid.elevations()
+    benches, toes = schedule.benches, schedule.pushbacks.plan.grid.toes()
     for ax, way in zip(axes, schedule.shares):
         shares = schedule.shares[way]
         cells = {(number, year) for bench, year in zip(*np.nonzero(shares)) for number in [benches.pushback[bench]]}
@@ -97,7 +97,7 @@ def test_a_gantt_of_many_benches_has_a_row_per_pushback(schedule, monkeypatch):
         assert {key: it.get_facecolor()[3] for key, it in found.items()} == pytest.approx(shades)
         for text in ax.texts:
             key = (round(text.get_position()[1]) + 1, round(text.get_position()[0]) - 1)
-            mined = elevations[benches.level[(benches.pushback == key[0]) & (shares[:, key[1]] > 0)]]
+            mined = toes[benches.level[(benches.pushback == key[0]) & (shares[:, key[1]] > 0)]]
             assert text.get_text() == f"{mined.max():.0f}\n{mined.min():.0f}"
         assert [tick.get_text() for tick in ax.get_yticklabels()] == ["pushback 1", "pushback 2"]
 

@@ -101,7 +101,7 @@ def test_blocks_are_browsed_by_sliders(driver, server):
     driver.get(f"{server.address}/blocks?name=plan")
     wait(driver, lambda it: it.execute_script("return document.body.dataset.milliseconds"))
     slide(driver, "bench", 0)
-    assert driver.find_element(ID, "bench-at").text == "5 m"
+    assert driver.find_element(ID, "bench-at").text == "toe 0 m"
     driver.find_element(CSS, "#outline option[value='0']").click()
     # The grade of the block at the place (4, 2, 0), and of that with the least: the ends of the colours.
     grade = {(i, j): (i * 7 + j * 5) % 11 / 4 for i in range(12) for j in range(10)}

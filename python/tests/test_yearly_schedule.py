@@ -42,7 +42,7 @@ def test_three_pillars_by_hand(plan_folder):
     rows_of = pd.read_csv(folder / "tables/schedule.csv").groupby("method")
     for _, found in rows_of:
         assert found["year"].tolist() == [1, 1, 2, 2, 3, 3] and found["pushback"].tolist() == [1, 1, 2, 2, 3, 3]
-        assert found["bench"].tolist() == [15, 5] * 3 and found["share"].tolist() == [1] * 6
+        assert found["bench"].tolist() == [10, 0] * 3 and found["share"].tolist() == [1] * 6
         assert found["total_tonnes"].tolist() == [100] * 6 and found["feed_tonnes"].tolist() == [0, 100] * 3
         assert found["recovered_copper"].tolist() == pytest.approx([0, 0.5, 0, 0.35, 0, 0.25])
         assert found["cash_flow"].tolist() == [-200, 2800, -200, 1600, -200, 800]

@@ -114,6 +114,10 @@ class Grid:
         """Returns the elevations of the centres of the levels in metres, from the top."""
         return self.origin[2] - np.arange(self.shape[0]) * self.size[2]
 
+    def toes(self) -> np.ndarray:
+        """Returns the elevations of the toes of the benches in metres, from the top: by these, tables and figures name the benches."""
+        return self.elevations() - self.size[2] / 2
+
     def extent(self) -> tuple[float, float, float, float, float, float]:
         """Returns west, east, south, north, floor and top of the grid in metres, along the axes of `frame`."""
         (x, y, z), (dx, dy, dz), (levels, rows, columns) = self.origin, self.size, self.shape

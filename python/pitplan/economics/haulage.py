@@ -71,6 +71,6 @@ def flat_lengths(grid: Grid, rules: Haulage) -> np.ndarray:
 
 def ramp_lengths(grid: Grid, rules: Haulage) -> np.ndarray:
     """Returns the horizontal metres of the ramp from each level's floor to the elevation of the exit, from the top."""
-    floors = Exact.of_floats((grid.elevations() - grid.size[2] / 2).round(ELEVATION_PLACES))
+    floors = Exact.of_floats(grid.toes().round(ELEVATION_PLACES))
     rise = floors.minus(Exact.of(rules.pit_exit[2], len(floors.whole))).floats()
     return np.asarray(np.abs(rise) / float(rules.ramp_gradient))

@@ -69,21 +69,21 @@ def plot_gantt(schedule: YearlySchedule, axes: Any) -> list[Axes]:
     for ax, way in zip(found, schedule.shares):
         (draw_gantt if is_by_bench(schedule) else draw_pushbacks)(schedule, way, ax)
     if is_by_bench(schedule):
-        found[0].set_ylabel("benches by pushback: elevation of the centroids, m")
+        found[0].set_ylabel("benches by pushback: elevation of the toe, m")
     return found
 
 
 def draw_pushbacks(schedule: YearlySchedule, way: str, ax: Axes) -> None:
-    """Draws a row per pushback with a cell per year, darker the more is mined there, and the elevations of its highest and lowest bench."""
+    """Draws a row per pushback with a cell per year, darker the more is mined there, and the toes of its highest and lowest bench."""
     shares, benches = schedule.shares[way], schedule.benches
-    elevations, count = schedule.pushbacks.plan.grid.elevations()[benches.level], int(benches.pushback.max())
+    toes, count = schedule.pushbacks.plan.grid.toes()[benches.level], int(benches.pushback.max())
     tonnes = np.zeros((count, shares.shape[1]))
     np.add.at(tonnes, benches.pushback - 1, shares * benches.of(ROCK)[:, None])
     tints, most = pushback_tints(count), float(tonnes.max(initial=0.0)) or 1.0
     for row, year in zip(*np.nonzero(tonnes)):
         shade = PALEST + (1 - PALEST) * tonnes[row, year] / most
         ax.add_patch(Rectangle((year + 0.5, row - 0.45), 1, 0.9, color=(*tints[row, :3], shade), linewidth=0))
-        mined = elevations[(benches.pushback == row + 1) & (shares[:, year] > 0)]
+        mined = toes[(benches.pushback == row + 1) & (shares[:, year] > 0)]
         is_dark = shade * (1 - tints[row, :3].mean()) > DARK
         words = {"ha": "center", "va": "center", "fontsize": 6.5, "color": "white" if is_dark else "black"}
         ax.text(year + 1, row, f"{mined.max():.0f}\n{mined.min():.0f}", **words)
@@ -94,7 +94,7 @@ def draw_pushbacks(schedule: YearlySchedule, way: str, ax: Axes) -> None:
     ax.xaxis.set_major_locator(MaxNLocator(integer=True))
     ax.set_xlabel(label_of(schedule.settings.calendar, longest))
     ax.set_title(
-        f"{TITLES.get(way, way)}: NPV {money(schedule.value(way), schedule)}; highest and lowest bench of each {schedule.settings.calendar.word}, m"
+        f"{TITLES.get(way, way)}: NPV {money(schedule.value(way), schedule)}; toe of highest and lowest bench of each {schedule.settings.calendar.word}, m"
     )
     if not shares.any():
         ax.text(0.5, 0.5, "nothing is mined", transform=ax.transAxes, ha="center", va="center")
@@ -133,10 +133,10 @@ def pushback_tints(count: int) -> np.ndarray:
 
 
 def name_benches(schedule: YearlySchedule, row: np.ndarray, longest: int, ax: Axes) -> None:
-    benches, elevations = schedule.benches, schedule.pushbacks.plan.grid.elevations()
+    benches, toes = schedule.benches, schedule.pushbacks.plan.grid.toes()
     each = -(-len(benches) // MOST_NAMES)
     shown = [bench for bench in range(len(benches)) if benches.level[bench] % each == 0]
-    ax.set_yticks(row[shown], [metres(elevations[benches.level[bench]]) for bench in shown], fontsize=7)
+    ax.set_yticks(row[shown], [metres(toes[benches.level[bench]]) for bench in shown], fontsize=7)
     for number in np.unique(benches.pushback):
         first = row[benches.pushback == number][0]
         ax.text(0.6, first - 1.0, f"pushback {number}", va="center", ha="left", fontsize=8, fontweight="bold")

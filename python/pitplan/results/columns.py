@@ -70,7 +70,6 @@ from .flow_columns import (
     LIMITS,
     MATERIAL_FLOWS,
     OF_BENCH,
-    OF_PUSHBACK,
     STOCKPILES,
 )
 
@@ -138,8 +137,9 @@ PUSHBACKS = Table(
 )
 SCHEDULE = Table(
     "schedule.csv",
-    "a row per method, bench and year",
-    (METHOD, YEAR, OF_PUSHBACK, OF_BENCH, Column("share", SHARE, "of the bench"), MINED, FEED, FEED_OF, RECOVERED)
+    "a row per method, bench and year in which a share of it is mined, and per year in which ore is reclaimed",
+    (METHOD, YEAR, replace(PUSHBACK, holds="from 1; 0: ore that is reclaimed from stockpiles"), OF_BENCH)
+    + (Column("share", SHARE, "of the bench"), MINED, FEED, FEED_OF, RECOVERED)
     + (*FLOWS, DISCOUNTS),
 )
 NPV_AT_MEAN_GRADE = replace(

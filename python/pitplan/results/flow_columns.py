@@ -9,7 +9,7 @@ from .common_columns import BENCH, FEED, FLOWS, HEAD_GRADE, METHOD, MINED, PUSHB
 
 # The places of material in tables of flows.
 OF_PUSHBACK = replace(PUSHBACK, holds="from 1; 0: what lay on a stockpile at the start")
-OF_BENCH = replace(BENCH, holds="elevation of its centroids; empty in pushback 0")
+OF_BENCH = replace(BENCH, holds="elevation of its toe; empty in pushback 0")
 CONTAINED = Column("contained_METAL", METAL, "metal in the feed", "contained METAL")
 IN_SITU = Column("in_situ_METAL", METAL, "metal in the in-situ tonnes", "METAL in situ")
 WITH_SMELTER = "with `[metals.smelter]`"

@@ -45,8 +45,8 @@ def certified(schedule: YearlySchedule, stage: Path, program: Optional[Path]) ->
     """
     model = replace(schedule.model, ore=schedule.material.blocks)
     found = FlowCertificate(model, schedule.material.parcel, schedule.flows[schedule.shown], prices_of(schedule))
-    elevations, made = schedule.pushbacks.plan.grid.elevations(), found.made
-    write(made, found.names(elevations, schedule.material.cells), stage)
+    toes, made = schedule.pushbacks.plan.grid.toes(), found.made
+    write(made, found.names(toes, schedule.material.cells), stage)
     processes, stockpiles = [it or "mill" for it in schedule.names], [it.name for it in model.stockpiles]
     destinations = tuple(it.named(processes, stockpiles) for it in found.destinations)
     proved = checked(stage, program, made.unit)

@@ -152,23 +152,24 @@ class YearlySchedule:
 
     def yearly(self, method: str) -> pd.DataFrame:
         """Returns one row per year: amounts, fixed_cost and capex if years cost anything, cash_flow after these, and discounted_cash_flow."""
-        flows, opened = self.amounts(method), self.from_opening(method)
+        mined, reclaimed = self.mined(method), self.reclaimed(method)
         count = self.flows[method].years
-        found = {name: amounts.sum(axis=0) + opened[name] for name, amounts in flows.items()}
+        found = {name: amounts.sum(axis=0) + reclaimed[name] for name, amounts in mined.items()}
         runs, money = running(self.flows[method].moved), self.problem.money
         costs = {"fixed_cost": money.fixed(count) * runs, "capex": money.spent(count) * runs} if money.columns else {}
         cash = found.pop(CASH)
         present = cash * self.discounts(count) - self.problem.costs_of_years(count) * runs
         return pd.DataFrame(found | costs | {CASH: cash - sum(costs.values()), "discounted_cash_flow": present})
 
-    def amounts(self, method: str) -> dict[str, np.ndarray]:
-        """Returns what flows of each bench in each year by the names of tables, each of shape (benches, years)."""
-        flows = self.flows[method].of_benches
+    def mined(self, method: str) -> dict[str, np.ndarray]:
+        """Returns what flows of each bench as it is mined, by the names of tables, each of shape (benches, years)."""
+        flows = self.flows[method].from_pit
         return {name: flows[:, :, number] for number, name in enumerate(self.benches.names) if tables.is_shown(name)}
 
-    def from_opening(self, method: str) -> dict[str, np.ndarray]:
-        """Returns what flows in each year of what lay on stockpiles at the start, by the names of tables, each of shape (years,)."""
-        return dict(zip(self.benches.names, self.flows[method].of_opening.T))
+    def reclaimed(self, method: str) -> dict[str, np.ndarray]:
+        """Returns what is reclaimed from stockpiles in each year, by the names of tables, each of shape (years,)."""
+        flows = self.flows[method].from_stockpiles.sum(axis=0) + self.flows[method].of_opening
+        return {name: flows[:, number] for number, name in enumerate(self.benches.names) if tables.is_shown(name)}
 
     def left(self, method: str) -> float:
         """Returns the tonnes of the pushbacks that a method leaves unmined."""
@@ -356,18 +357,18 @@ def pace_of(schedule: YearlySchedule) -> scheduler.Pace:
 
 
 def table(schedule: YearlySchedule) -> pd.DataFrame:
-    """Returns one row per method, bench and year in which anything of the bench is mined or processed; in pushback 0, without a bench, what is
-    reclaimed of what lay on stockpiles at the start.
+    """Returns one row per method, bench and year in which a share of the bench is mined; and in pushback 0, without a bench, one per year in which
+    ore is reclaimed from stockpiles.
 
-    Columns: method; year from 1; pushback; bench, the elevation of its centroids; share of the bench; total_tonnes, feed_tonnes,
+    Columns: method; year from 1; pushback; bench, the elevation of its toe; share of the bench; total_tonnes, feed_tonnes,
     recovered_METAL; cash_flow at the year's prices, and discounted_cash_flow, both without period costs.
     """
     return pd.concat([rows_of(schedule, method) for method in schedule.flows], ignore_index=True)
 
 
-def rows_of_opening(schedule: YearlySchedule, method: str) -> pd.DataFrame:
-    """Returns the rows of a method for what lay on stockpiles at the start."""
-    amounts = {name: values for name, values in schedule.from_opening(method).items() if tables.is_shown(name)}
+def rows_of_reclaimed(schedule: YearlySchedule, method: str) -> pd.DataFrame:
+    """Returns the rows of a method for the ore that is reclaimed."""
+    amounts = schedule.reclaimed(method)
     year = np.flatnonzero(amounts[ORE])
     head = {"method": np.full(len(year), method, dtype=object), "year": year + 1, "pushback": 0}
     flows = {name: values[year] for name, values in amounts.items()}
@@ -376,21 +377,20 @@ def rows_of_opening(schedule: YearlySchedule, method: str) -> pd.DataFrame:
 
 
 def rows_of(schedule: YearlySchedule, method: str) -> pd.DataFrame:
-    benches, shares, amounts = schedule.benches, schedule.shares[method], schedule.amounts(method)
-    # Ore that is reclaimed from a stockpile has a row although nothing is mined.
-    year, bench = np.nonzero((shares + amounts[ORE]).T)
+    benches, shares, amounts = schedule.benches, schedule.shares[method], schedule.mined(method)
+    year, bench = np.nonzero(shares.T)
     discounts = schedule.discounts(shares.shape[1])
     head = {
         "method": np.full(len(year), method, dtype=object),
         "year": year + 1,
         "pushback": benches.pushback[bench],
-        "bench": schedule.pushbacks.plan.grid.elevations()[benches.level[bench]],
+        "bench": schedule.pushbacks.plan.grid.toes()[benches.level[bench]],
         "share": shares[bench, year],
     }
     flows = {name: values[bench, year] for name, values in amounts.items()}
     rows = pd.DataFrame(head | flows | {"discounted_cash_flow": flows[CASH] * discounts[year]})
-    opened = rows_of_opening(schedule, method)
-    return pd.concat([opened, rows]).sort_values("year", kind="stable") if len(opened) else rows
+    reclaimed = rows_of_reclaimed(schedule, method)
+    return pd.concat([reclaimed, rows]).sort_values("year", kind="stable") if len(reclaimed) else rows
 
 
 def years(schedule: YearlySchedule) -> pd.DataFrame:

@@ -57,7 +57,7 @@ def flow_of(answer: Answer) -> MaterialFlow:
         some = np.flatnonzero(share > SLIGHT)
         found = {"method": CASE, "year": year[some], "source": PIT, "destination": destination}
         found["total_tonnes"] = blocks.tonnes[some] * share[some]
-        found["bench"] = answer.elevations[blocks.keys["level"].to_numpy()[some]]
+        found["bench"] = answer.toes[blocks.keys["level"].to_numpy()[some]]
         parts.append(pd.concat([blocks.keys.iloc[some].reset_index(drop=True), pd.DataFrame(found)], axis=1))
     flow = MaterialFlow(answer, blocks, pd.concat(parts, ignore_index=True), rounded=0.0)
     return replace(flow, rows=flow.rows.assign(**{name: due for name, (due, _) in flow.expected.items()}))

@@ -12,6 +12,9 @@ from planaudit.schedules.certificate_texts import Texts
 from planaudit.schedules.opening import OpeningLots
 from planaudit.schedules.pushback_bounds import Bound
 
+# How far from a toe an elevation may lie, in benches.
+SLIGHT = 1e-6
+
 
 @dataclass(frozen=True)
 class CertifiedBenches:
@@ -41,8 +44,9 @@ class CertifiedBenches:
         answer, found = self.bound.answer, {}
         for place in self.places("bench"):
             pushback, elevation = self.names[place].split()[1:]
-            level = (answer.elevations[0] - float(elevation)) / answer.size[2]
-            found[int(pushback), round(level)] = int(place)
+            level = (answer.toes[0] - float(elevation)) / answer.size[2]
+            if abs(level - round(level)) < SLIGHT:
+                found[int(pushback), round(level)] = int(place)
         return np.array([found.get((int(p), int(z)), -1) for p, z in self.bound.benches.to_numpy()], dtype=int)
 
     @cached_property

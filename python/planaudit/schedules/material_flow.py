@@ -220,7 +220,7 @@ def read(answer: Answer) -> tuple[MaterialFlow, list[str]]:
     numbers = {name: float for name in rows if name not in texts and name not in ("year", "pushback", "bin")}
     # Blocks without a resource class have an empty one.
     rows = rows.fillna(dict.fromkeys(texts, "")).astype(numbers | {name: int for name in ("year", "pushback", "bin")})
-    steps = ((answer.elevations[0] - rows["bench"]) / answer.size[2]).astype(float)
+    steps = ((answer.toes[0] - rows["bench"]) / answer.size[2]).astype(float)
     steps = steps.where(rows["pushback"] > 0, levels_of_opening(rows, blocks)).fillna(UNKNOWN)
     rows["level"] = np.rint(steps).astype(int)
     processes = {name or MILL for name in blocks.processes}

@@ -244,7 +244,7 @@ class PushbackCertificate:
         rows = self.answer.schedule
         assert rows is not None
         shown = rows[(rows["method"] == self.told["shown"]) & (rows["pushback"] > 0)]
-        level = np.rint((self.answer.elevations[0] - shown["bench"]) / self.answer.size[2]).astype(int)
+        level = np.rint((self.answer.toes[0] - shown["bench"]) / self.answer.size[2]).astype(int)
         place = pd.Series(self.benches.bench_places, index=pd.MultiIndex.from_frame(self.bound.benches))
         block = place.reindex(pd.MultiIndex.from_arrays([shown["pushback"], level])).to_numpy()
         due = shown.groupby([block, shown["year"].to_numpy() - 1])["share"].sum()

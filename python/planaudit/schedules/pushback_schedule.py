@@ -34,7 +34,7 @@ from planaudit.schedules import (
 from planaudit.schedules.discounts import discount, present_costs
 from planaudit.schedules.grade_limits import grade_limits, most_of
 from planaudit.schedules.limits import least_of
-from planaudit.schedules.material_flow import UNKNOWN, MaterialFlow
+from planaudit.schedules.material_flow import PIT, UNKNOWN, MaterialFlow
 from planaudit.schedules.mixed_reclaim import npv_at_mean_grade
 from planaudit.schedules.opening import FIRST
 from planaudit.schedules.periods import capacities_of_feed, counted, maxima_of_periods, minima_of_periods
@@ -122,14 +122,13 @@ def levelled(answer: Answer, told: dict[str, Any]) -> tuple[list[str], pd.DataFr
     """Returns rows of schedule.csv with an unknown place, as differences, and the other rows with the level of their bench."""
     assert answer.schedule is not None
     rows = answer.schedule.copy()
-    # What lay on stockpiles at the start is of no bench.
-    opening = (rows["pushback"] == 0) & rows["bench"].isna() & (rows["share"] == 0)
-    steps = ((answer.elevations[0] - rows["bench"]) / answer.size[2]).where(~opening, FIRST).fillna(UNKNOWN)
+    # Ore that is reclaimed is of no bench, and mines nothing.
+    reclaimed = (rows["pushback"] == 0) & rows["bench"].isna() & (rows["share"] == 0) & (rows["feed_tonnes"] > 0)
+    steps = ((answer.toes[0] - rows["bench"]) / answer.size[2]).where(~reclaimed, FIRST).fillna(UNKNOWN)
     rows["level"] = np.rint(steps).astype(int)
-    lost = (abs(steps - rows["level"]) > SLIGHT) | ~(rows["level"].between(0, answer.shape[0] - 1) | opening)
-    # Reclaiming ore from a stockpile mines nothing.
-    nothing = (rows["share"] < 0) | ((rows["share"] == 0) & (rows["feed_tonnes"] <= 0))
-    lost |= ~(rows["pushback"].between(1, answer.said["pushback"].max()) | opening) | (rows["year"] < 1) | nothing
+    lost = (abs(steps - rows["level"]) > SLIGHT) | (rows["year"] < 1)
+    mined = rows["level"].between(0, answer.shape[0] - 1) & (rows["share"] > 0)
+    lost |= ~(mined & rows["pushback"].between(1, answer.said["pushback"].max()) | reclaimed)
     differences = [
         f"{row.method}, year {row.year}: no bench {row.bench:.10g} of pushback {row.pushback}, or no share {row.share:g}"
         for row in some(rows, lost)
@@ -210,7 +209,8 @@ def flows_of(way: Way, rows: pd.DataFrame, flow: MaterialFlow) -> tuple[pd.DataF
     mine = mine.assign(feed_tonnes=mine["feed_tonnes"].where(mine["destination"].isin(flow.names), 0.0))
     names = ["feed_tonnes", *(f"recovered_{metal.name}" for metal in way.answer.project.metals), "cash_flow"]
     keys = ["year", "pushback", "level"]
-    mine = mine.assign(level=mine["level"].clip(lower=FIRST))
+    of_pit = mine["source"] == PIT
+    mine = mine.assign(pushback=mine["pushback"].where(of_pit, 0), level=mine["level"].where(of_pit, FIRST))
     at = pd.MultiIndex.from_frame(rows[keys])
     groups = mine.groupby(keys)
     found = groups[names].sum().reindex(at).fillna(0.0).reset_index(drop=True)

@@ -34,7 +34,7 @@ def rows_of(blocks: ScheduledBlocks, number: int) -> pd.DataFrame:
     mined = (schedule.year < planned.problem.years) & (plan.values.tonnes[planned.cells] > 0)
     some = np.flatnonzero(mined & (schedule.share[:, number] > SLIGHT))
     cells, share = planned.cells[some], schedule.share[some, number]
-    found = {"method": BLOCK, "year": schedule.year[some] + 1, "bench": plan.grid.elevations()[level_of(plan, cells)]}
+    found = {"method": BLOCK, "year": schedule.year[some] + 1, "bench": plan.grid.toes()[level_of(plan, cells)]}
     found |= codes_of(plan, cells) | {"source": PIT, "destination": destination}
     tonnes, fed = plan.values.tonnes[cells] * share, np.zeros(len(share)) if destination == WASTE else share
     found |= {"total_tonnes": tonnes}

@@ -119,10 +119,10 @@ class FlowCertificate:
         ]
         return Predecessors(np.append(0, np.cumsum(sizes)).astype(np.int64), np.concatenate([*of_benches, before]))
 
-    def names(self, elevations: NDArray[np.float64], cells: NDArray[np.int64]) -> list[str]:
-        """Returns the name of each block of the texts: pushback and elevation of a bench, `id` of a block of ore, stockpile of a lot."""
+    def names(self, toes: NDArray[np.float64], cells: NDArray[np.int64]) -> list[str]:
+        """Returns the name of each block of the texts: pushback and toe of a bench, `id` of a block of ore, stockpile of a lot."""
         benches, lots = self.model.benches, self.model.opening
-        found = [f"bench {p} {elevations[level]:.10g}" for p, level in zip(benches.pushback, benches.level)]
+        found = [f"bench {p} {toes[level]:.10g}" for p, level in zip(benches.pushback, benches.level)]
         found += [f"block {cell}" for cell in cells.tolist()]
         return found + [f"opening {self.model.stockpiles[number].name}" for number in lots.stockpile]
 

@@ -77,18 +77,36 @@ class Flows:
     @cached_property
     def of_benches(self) -> NDArray[np.float64]:
         """What flows of each bench in each year, by the names of the benches, shape (benches, years, names). Cash is not discounted."""
+        return np.asarray(self.from_pit + self.from_stockpiles)
+
+    @cached_property
+    def from_pit(self) -> NDArray[np.float64]:
+        """What flows of each bench as it is mined, shape (benches, years, names): rock, ore that is processed at once, and the costs of stacking
+        and dumps."""
         model, ore = self.model, self.model.ore
         flows = model.problem.priced(self.dug[:, :, None] * model.benches.amounts[:, None, :])
         for number, name in enumerate(model.benches.names):
             if name in ore.amounts:
-                np.add.at(flows[:, :, number], ore.bench, self.processed(name).sum(axis=0))
+                np.add.at(flows[:, :, number], ore.bench, np.einsum("kp,kpt->pt", ore.of(name), self.direct))
         gained = np.einsum("kpt,kpt->pt", model.gains[:, :, : self.years], self.direct)
-        gained += np.einsum("skpt,skpt->pt", model.reclaim_gains[..., : self.years], self.reclaimed)
         gained -= np.einsum("sp,spt->pt", model.stacking, self.stocked)
         cash = flows[:, :, model.benches.names.index(CASH)]
         np.add.at(cash, ore.bench, gained)
         a_tonne = (self.dumped * model.waste.costs[:, None]).sum(axis=1)
         cash -= (self.wasted * a_tonne).sum(axis=1)
+        return flows
+
+    @cached_property
+    def from_stockpiles(self) -> NDArray[np.float64]:
+        """What flows of the ore of each bench as it is reclaimed, shape (benches, years, names)."""
+        model, ore = self.model, self.model.ore
+        flows = np.zeros((len(model.benches), self.years, len(model.benches.names)))
+        for number, name in enumerate(model.benches.names):
+            if name in ore.amounts:
+                again = np.einsum("skp,skpt->pt", model.reclaimed_of(name), self.reclaimed)
+                np.add.at(flows[:, :, number], ore.bench, again)
+        gained = np.einsum("skpt,skpt->pt", model.reclaim_gains[..., : self.years], self.reclaimed)
+        np.add.at(flows[:, :, model.benches.names.index(CASH)], ore.bench, gained)
         return flows
 
     @cached_property

@@ -193,7 +193,7 @@ def written(flows: Flows, move: Move, lots: Lots, rows: NDArray[np.int64], at: N
         {
             "year": year + 1,
             "pushback": benches.pushback[sums["bench"]],
-            "bench": plan.grid.elevations()[benches.level[sums["bench"]]],
+            "bench": plan.grid.toes()[benches.level[sums["bench"]]],
             "bin": sums["bin"],
             **{shown_name(name): sums[name] for name in lots.codes},
             "source": move.source,

@@ -313,7 +313,7 @@ class App {
     el("bench").value = levels - 1 - level;
     el("row").value = row;
     el("column").value = column;
-    el("bench-at").textContent = shown(top - (level + 0.5) * dz, 9) + " m";
+    el("bench-at").textContent = "toe " + shown(top - (level + 1) * dz, 9) + " m";
     el("row-at").textContent = north + " " + shown(south + (row + 0.5) * dy, 9) + " m";
     el("column-at").textContent = east + " " + shown(west + (column + 0.5) * dx, 9) + " m";
     el("across-says").textContent = "Section at " + el("row-at").textContent + ", looking north";
