@@ -160,10 +160,18 @@ def test_each_destination_is_a_layer_of_its_own(schedule):
     axes = schedule_figures.plot_tonnes(stocked, Figure().subplots(1, 2))
     found = {bars.get_label(): [bar.get_height() for bar in bars] for bars in axes[1].containers}
     assert found["mill"] == [25, 100, 75] and found["mill, reclaimed"] == [0, 30, 0] and found["leach"] == [10] * 3
-    assert found["to the stockpile"] == [30, 0, 0] and list(found)[-1] == "waste"
-    assert axes[1].containers[-1][1].get_y() == 140
+    assert found["to the stockpile"] == [30, 0, 0] and list(found)[-2:] == ["waste", "mill, reclaimed"]
+    # What is mined is below the mining capacity, without the ore that is reclaimed; this is beside it, on the ore that is milled at once.
+    mined, reclaimed = axes[1].containers[-2][1], axes[1].containers[-1][1]
+    assert mined.get_y() == 110 and reclaimed.get_y() == 110
+    assert all(
+        bar.get_x() + bar.get_width() <= reclaimed.get_x() + 1e-9
+        for bars in axes[1].containers[:-1]
+        for bar in [bars[1]]
+    )
+    assert reclaimed.get_x() + reclaimed.get_width() < axes[1].containers[0][2].get_x()
     names = [text.get_text() for text in axes[1].figure.legends[0].get_texts()]
-    assert names[:5] == ["mill", "mill, reclaimed", "leach", "to the stockpile", "waste"]
+    assert names[:5] == ["mill", "leach", "to the stockpile", "waste", "mill, reclaimed"]
 
 
 def test_a_process_has_one_colour_in_all_pictures(schedule):

@@ -45,6 +45,8 @@ COLOURS = {
     "relaxed": PLAIN,
     "upper_bound": PLAIN,
 }
+# The width of a year's bar, and how much of it the ore has that is reclaimed.
+WIDTH, BESIDE = 0.84, 0.26
 MARKED = {"marker": "o", "markersize": 3, "linewidth": 1.4}
 # The line of the rule is broad, so that it stays visible below another.
 LINES = {
@@ -69,7 +71,8 @@ def write_tonnes(schedule: YearlySchedule, path: Path) -> None:
 
 
 def plot_tonnes(schedule: YearlySchedule, axes: Any) -> list[Axes]:
-    """Draws where the material of each year goes, with the capacities.
+    """Draws where the material that is mined in each year goes, with the capacities; reclaimed ore is beside it, on top of the ore that the
+    processes take from the pit, so that the mining capacity holds for the one and the processing capacity for the other.
 
     Parameters
     ----------
@@ -91,9 +94,9 @@ def plot_tonnes(schedule: YearlySchedule, axes: Any) -> list[Axes]:
     near = [line.get_ydata().max() for line in found[0].lines if line.get_ydata().max() <= FAR_ABOVE * top]
     for ax in found:
         ax.set_ylim(0, MARGIN * max(top, *near, 0.0) or 1.0)
-    what = "total material and reclaimed ore" if schedule.is_stocked else "total material"
+    what = "total material; hatched, beside it: reclaimed ore" if schedule.is_stocked else "total material"
     found[0].set_ylabel(f"{what}, {sign}t")
-    add_legend(found, [label for _, _, label, _ in layers_of(schedule)])
+    add_legend(found, [label for _, _, label, _ in (*layers_of(schedule), *reclaimed_layers(schedule))])
     return found
 
 
@@ -137,12 +140,10 @@ def tonnes_of(schedule: YearlySchedule) -> pd.Series:
 
 def layers_of(schedule: YearlySchedule) -> list[tuple[str, str, str, dict[str, Any]]]:
     """Returns the layers of a year's bar from below: source, destination, label and look."""
-    found: list[tuple[str, str, str, dict[str, Any]]] = []
-    stockpiles = schedule.model.stockpiles
-    for name, colour in palette.of_processes(schedule.names).items():
-        found.append((PIT, name, name, {"color": colour}))
-        look = {"color": colour, "alpha": 0.55, "hatch": "///", "edgecolor": "white"}
-        found += [(it.name, name, f"{name}, reclaimed", look) for it in stockpiles]
+    processes, stockpiles = palette.of_processes(schedule.names), schedule.model.stockpiles
+    found: list[tuple[str, str, str, dict[str, Any]]] = [
+        (PIT, name, name, {"color": colour}) for name, colour in processes.items()
+    ]
     for name, colour in palette.of_stockpiles(it.name for it in stockpiles).items():
         label = "to the stockpile" if len(stockpiles) == 1 else f"to {name}"
         found.append((PIT, name, label, {"color": colour}))
@@ -152,8 +153,17 @@ def layers_of(schedule: YearlySchedule) -> list[tuple[str, str, str, dict[str, A
     return found if dumps else [*found, (PIT, AS_WASTE, "waste", {"color": palette.WASTE})]
 
 
+def reclaimed_layers(schedule: YearlySchedule) -> list[tuple[str, str, str, dict[str, Any]]]:
+    """Returns the layers of the ore that is reclaimed in a year, as `layers_of` does."""
+    found: list[tuple[str, str, str, dict[str, Any]]] = []
+    for name, colour in palette.of_processes(schedule.names).items():
+        look = {"color": colour, "alpha": 0.55, "hatch": "///", "edgecolor": "white"}
+        found += [(it.name, name, f"{name}, reclaimed", look) for it in schedule.model.stockpiles]
+    return found
+
+
 def draw_flows(ax: Axes, schedule: YearlySchedule, way: str, size: float) -> None:
-    """Draws a bar per year with a layer per destination; a text if nothing is mined."""
+    """Draws a bar per year with a layer per destination, and one beside it of the ore that is reclaimed; a text if nothing is mined."""
     count = schedule.flows[way].years
     ax.set_xlabel(label_of(schedule.settings.calendar, count))
     if not count:
@@ -161,13 +171,24 @@ def draw_flows(ax: Axes, schedule: YearlySchedule, way: str, size: float) -> Non
         ax.set_xlim(0.4, 1.6)
         ax.set_xticks([])
         return
-    tonnes, years, below = tonnes_of(schedule), np.arange(1, count + 1), np.zeros(count)
-    for source, destination, label, look in layers_of(schedule):
+    tonnes, years = tonnes_of(schedule), np.arange(1, count + 1)
+
+    def high(source: str, destination: str) -> np.ndarray:
         keys = pd.MultiIndex.from_product([[way], years, [source], [destination]], names=tonnes.index.names)
-        high = tonnes.reindex(keys, fill_value=0.0).to_numpy() / size
-        if high.any():
-            ax.bar(years, high, 0.8, bottom=below, label=label, linewidth=0, **look)
-        below = below + high
+        return np.asarray(tonnes.reindex(keys, fill_value=0.0).to_numpy() / size)
+
+    fed = np.sum([high(PIT, name) for name in palette.of_processes(schedule.names)], axis=0)
+    wide = WIDTH - BESIDE if schedule.is_stocked else WIDTH
+    bars = (
+        (layers_of(schedule), 0.0 * fed, wide, (wide - WIDTH) / 2),
+        (reclaimed_layers(schedule), fed, BESIDE, wide / 2),
+    )
+    for layers, below, width, shift in bars:
+        for source, destination, label, look in layers:
+            tall = high(source, destination)
+            if tall.any():
+                ax.bar(years + shift, tall, width, bottom=below, label=label, linewidth=0, **look)
+            below = below + tall
     ax.xaxis.set_major_locator(MaxNLocator(integer=True))
     ax.set_xlim(0.4, count + 0.6)
 
