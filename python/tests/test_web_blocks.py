@@ -74,6 +74,31 @@ def test_the_arrays_are_those_of_the_table(served, client):
     assert get(client, "row", cell=10**9).json() == {}
 
 
+@pytest.mark.parametrize("of", ["project", "result"])
+def test_nulls_are_drawn_as_nulls_and_not_as_zero(tmp_path, of):
+    """A null grade is read as 0, and the browser gets nan for it, which it draws grey. A grade of 0 stays 0."""
+    table = pillars()
+    null, zero = table.index[table["cu"] == 0][[0, 2]], table.index[table["cu"] == 0][1]
+    table.loc[null, "cu"] = -99
+    table.to_csv(tmp_path / "blocks.csv", index=False)
+    text = PUSHBACKS.replace("[table]\n", '[table]\nempty = "zero"\nnull_values = [-99]\n', 1)
+    (tmp_path / "project.toml").write_text(text)
+    if of == "result":
+        pitplan.write_shells(tmp_path / "project.toml", tmp_path / "plan", writing=UNDRAWN)
+    blocks = (
+        block_data.of_project(tmp_path / "project.toml")
+        if of == "project"
+        else block_data.of_results(tmp_path / "plan")
+    )
+    column = blocks.column("cu")
+    names = blocks.frame["name"]
+    assert set(names[np.isnan(column.values)]) == set(table["name"][null])
+    assert column.values[names == table["name"][zero]] == 0 and column.as_json["nulls"] == 2
+    cell = int(blocks.cells[np.flatnonzero(names == table["name"][null[0]])[0]])
+    assert blocks.row(cell)["cu"] == "null, read as 0"
+    assert not np.isnan(blocks.column("tonnes").values).any()
+
+
 def test_the_cell_of_a_block_gives_its_place(client):
     model = get(client, "model").json()
     cells = np.frombuffer(get(client, "cells").content, dtype="<u4")

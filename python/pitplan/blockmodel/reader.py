@@ -6,7 +6,7 @@ Rows are counted as in a spreadsheet: if the header is row 1, the first block is
 from __future__ import annotations
 
 from collections.abc import Sequence
-from dataclasses import dataclass, replace
+from dataclasses import dataclass, field, replace
 from pathlib import Path
 from typing import Optional
 
@@ -57,6 +57,8 @@ class Table:
         Warnings about texts that spreadsheets may take for formulas.
     cells : Cells, optional
         The cells of the rows, if the project names their sizes.
+    zeros : dict of str to bool array
+        By column the rows of the file, without those left out, whose null is read as 0.
     """
 
     frame: pd.DataFrame
@@ -66,6 +68,7 @@ class Table:
     unused: tuple[str, ...] = ()
     warned: tuple[str, ...] = ()
     cells: Optional[Cells] = None
+    zeros: dict[str, np.ndarray] = field(default_factory=dict)
 
 
 def read(project: Project) -> Table:
@@ -217,6 +220,7 @@ def checked(frame: pd.DataFrame, project: Project, source: str = "table") -> Tab
         unused=tuple(str(name) for name in frame.columns if name not in file_columns(project)),
         warned=tuple(spreadsheet_formulas.warnings_of(frame, codes, source, project.table.rules.nulls.of)),
         cells=laid,
+        zeros={name: null[rows.kept] for name, null in rows.zeros.items()},
     )
 
 

@@ -16,7 +16,9 @@ import pandas as pd
 from numpy.typing import NDArray
 
 from pitplan import preparation
+from pitplan.blockmodel import reader
 from pitplan.blockmodel.grid import Grid
+from pitplan.blockmodel.reader import Table
 from pitplan.config import project_writer
 from pitplan.config.project import Project, load
 from pitplan.core.numeric_fields import is_numeric
@@ -66,6 +68,7 @@ class Shown:
             # The highest hundredth shares a colour, so that one rich block does not make all others pale.
             most = float(np.quantile(above, 0.99)) if len(above) else float(some.max(initial=0))
             said |= {"least": float(some.min(initial=0)), "most": most, "greatest": float(some.max(initial=0))}
+            said["nulls"] = len(self.values) - len(some)
         return said
 
 
@@ -87,6 +90,8 @@ class Blocks:
         Revenue factors of shells; empty without shells.
     selected : float
         That of the selected shell; 0 without shells.
+    nulls : dict of str to bool array
+        By column the rows of `frame` whose null is read as 0, which are drawn grey.
     kept : dict of str to Shown
         The columns that were asked for.
     """
@@ -98,6 +103,7 @@ class Blocks:
     codes: list[str]
     factors: list[float] = field(default_factory=list)
     selected: float = 0.0
+    nulls: dict[str, NDArray[Any]] = field(default_factory=dict)
     kept: dict[str, Shown] = field(default_factory=dict)
 
     def column(self, name: str) -> Shown:
@@ -128,7 +134,10 @@ class Blocks:
             return Shown(name, "", number, [f"{name} {k}" for k in range(1, last + 1)], [hex_of(it) for it in shades])
         if name in self.codes or not is_numeric(values):
             return coded(name, values.astype(str).str.strip().replace("nan", ""))
-        return Shown(name, unit, values.to_numpy(dtype=np.float32))
+        numbers = values.to_numpy(dtype=np.float32)
+        return Shown(
+            name, unit, np.where(self.nulls[name], np.float32("nan"), numbers) if name in self.nulls else numbers
+        )
 
     @property
     def as_json(self) -> dict[str, Any]:
@@ -168,8 +177,10 @@ class Blocks:
         found = np.flatnonzero(self.cells == cell)
         if not len(found):
             return {}
-        row = self.frame.iloc[int(found[0])]
-        return {str(name): text_of(value) for name, value in row.items()}
+        number = int(found[0])
+        null = {name for name, rows in self.nulls.items() if rows[number]}
+        row = self.frame.iloc[number]
+        return {str(name): "null, read as 0" if name in null else text_of(value) for name, value in row.items()}
 
 
 def text_of(value: Any) -> str:
@@ -197,10 +208,12 @@ def of_results(folder: Path) -> Blocks:
     rules = found.record["shells"]
     order = np.argsort(found.blocks["id"].to_numpy(), kind="stable")
     frame = found.blocks.iloc[order].reset_index(drop=True)
-    selected = float(rules.get("selected") or 0)
-    return Blocks(
-        found.grid, frame, frame["id"].to_numpy(), project, list(found.record["codes"]), found.factors, selected
-    )
+    selected, cells = float(rules.get("selected") or 0), frame["id"].to_numpy()
+    nulls: dict[str, NDArray[Any]] = {}
+    # Without the block model there are the numbers of the result, in which a null is 0.
+    with suppress(PlanError):
+        nulls = nulls_of(reader.read(project), project, found.grid, cells)
+    return Blocks(found.grid, frame, cells, project, list(found.record["codes"]), found.factors, selected, nulls)
 
 
 def of_project(path: Path) -> Blocks:
@@ -209,8 +222,25 @@ def of_project(path: Path) -> Blocks:
     steps = (*preparation.BLOCKS, *(it for it in preparation.GROUND if it is not preparation.lay_slope_domains))
     model = preparation.take(preparation.read_table(project), steps)
     order = np.argsort(model.grid.rows, kind="stable")
-    frame = model.frame.iloc[order].reset_index(drop=True)
-    return Blocks(model.grid, frame, model.grid.rows[order], project, [str(it) for it in project.table.codes])
+    frame, cells = model.frame.iloc[order].reset_index(drop=True), model.grid.rows[order]
+    nulls = nulls_of(model.read, project, model.grid, cells)
+    return Blocks(model.grid, frame, cells, project, [str(it) for it in project.table.codes], nulls=nulls)
+
+
+def nulls_of(table: Table, project: Project, grid: Grid, cells: NDArray[Any]) -> dict[str, NDArray[Any]]:
+    """Returns by column which cells have a null that the table reads as 0; none if its rows are reblocked, since blocks have mean grades."""
+    if project.table.reblock or not table.zeros:
+        return {}
+    x, y, z = (table.frame[name].to_numpy() for name in (project.table.x, project.table.y, project.table.z))
+    places = ((grid.origin[2] - z) / grid.size[2], *grid.steps(x, y)[::-1])
+    level, row, column = (np.rint(place).astype(np.int64) for place in places)
+    is_inside = np.all([(at >= 0) & (at < count) for at, count in zip((level, row, column), grid.shape)], axis=0)
+    found = {}
+    for name, null in table.zeros.items():
+        some, is_null = null & is_inside, np.zeros(grid.count, dtype=bool)
+        is_null[np.ravel_multi_index((level[some], row[some], column[some]), grid.shape)] = True
+        found[name] = is_null[cells]
+    return found
 
 
 class Store:

@@ -243,6 +243,15 @@ function legend(column) {
     });
     item.append(shown(low) + " ", strip, " " + shown(column.most) + unit + (column.greatest > column.most ? " and more, up to " + shown(column.greatest) : ""));
     parts.push(item);
+    if (column.nulls) {
+      const patch = document.createElement("canvas"), said = document.createElement("span");
+      patch.width = patch.height = 12;
+      const fill = patch.getContext("2d");
+      fill.fillStyle = "#9a9a9a";
+      fill.fillRect(0, 0, 12, 12);
+      said.append(patch, " null, read as 0: " + shown(column.nulls) + " blocks");
+      parts.push(said);
+    }
   }
   el("legend").replaceChildren(...parts);
 }
