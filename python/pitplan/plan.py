@@ -229,13 +229,9 @@ class Plan:
         }
 
     def notes_of_needs(self, pairs: Pairs) -> list[str]:
-        """Precedences that are written, that leave the model, and that no shell can use."""
+        """Precedences that are written, and that no shell can use. A shell that reaches the edge of the model has a warning of its own."""
         left, last = self.grid.count - int(self.used.sum()), self.project.shells.revenue_factors[-1]
         notes = [f"{pairs.written:,} slope precedences for {self.grid.count - left:,} blocks"]
-        if pairs.clipped:
-            notes.append(
-                f"{pairs.clipped:,} slope precedences leave the block model and are ignored, so slopes there are unconstrained"
-            )
         if left:
             notes.append(
                 f"{left:,} blocks cannot be in any shell up to revenue factor {factor_text(last)}; "

@@ -21,7 +21,7 @@ def test_it_notes_what_prepare_notes_and_writes_nothing(mine):
     notes = pitplan.check(mine)
     assert {path: path.read_bytes() for path in mine.parent.iterdir()} == before
     assert notes == write_plan(load(mine), mine.parent / "plan")["notes"] and any(
-        "leave the block model" in note for note in notes
+        "slope precedences for" in note for note in notes
     )
 
 

@@ -37,7 +37,7 @@ def test_null_codes_are_zero_missing_or_refused(plan_folder):
     plan = Plan.from_project(with_rules(plan_folder, table, 'null_values = [-99, "NA"]', nulls))
     assert plan.table["cu"].tolist() == [0, 0, 0] + [1.5] * 14 and len(plan.table) == 17
     assert "1 rows are left out: tonnes is null, which [table] reads as a missing block" in plan.notes
-    assert "WARNING: 3 null or empty tonnes or grades are read as 0" in plan.notes
+    assert "WARNING: 3 rows are null or empty in cu, and are read as 0 there" in plan.notes
     said = refused(with_rules(plan_folder, table, 'null_values = [-99, "NA", -1]', 'nulls = { tonnes = "missing" }'))
     assert said.endswith(
         'blocks.csv row 2 column cu: is empty or a null code, as are 2 more: set [table.nulls] "cu" = "zero" or "missing"'

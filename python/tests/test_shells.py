@@ -119,10 +119,17 @@ def test_pits_that_touch_the_model_are_warned_of(plan_folder):
     assert touched == [
         f"WARNING: the largest shell reaches the {side}" for side in ("west side", "south side", "north side", "floor")
     ]
-    assert (
-        notes[0].endswith("(3 blocks, from revenue factor 0.50); extend the model")
-        or "blocks, from revenue factor 0.50" in notes[0]
-    )
+    said = "blocks, from revenue factor 0.50), beyond which no slope is kept: extend the model"
+    assert all(note.endswith(said) for note in notes)
+
+
+def test_pits_inside_the_model_have_no_word_of_its_edge(plan_folder):
+    """Precedences of blocks near the edge leave the model, and no shell mines them."""
+    table = rows(9, 9, 4, cu=lambda i, j, k: 8 if (i, j, k) == (4, 4, 2) else 0)
+    plan = pitplan.Plan.from_project(plan_folder(table))
+    solution = plan.shells().solution
+    assert shell_tables.edge_notes(plan, solution) == []
+    assert not [note for note in plan.notes if "edge" in note or "leave the block model" in note]
 
 
 def test_factor_1000_is_always_there(plan_folder):

@@ -130,9 +130,19 @@ def test_empty_fields_and_the_text_are_told(plan_folder):
     table.to_csv(path.parent / "blocks.csv", index=False, sep=";")
     lines = told(Plan.from_project(path))
     assert "the fields are separated by semicolons; [table] separator sets another separator" in lines
-    assert "WARNING: 6 null or empty tonnes or grades are read as 0" in lines
+    assert "WARNING: 6 rows are null or empty in cu, and are read as 0 there" in lines
     # Each once: not among the lines of the table and the notes.
     assert len(lines) == len(set(lines))
+
+
+def test_a_row_that_is_null_in_two_metals_is_counted_once(plan_folder):
+    table = rows(4, 3, 2, cu=lambda i, j, k: -99 if i == 0 else 2.0, au=lambda i, j, k: -99 if i < 2 else 0.5)
+    second = '\n[[metals]]\nname = "gold"\ncolumn = "au"\nunit = "gram_per_tonne"\nprice = 50\nrecovery = 0.5\n[slopes]'
+    nulls = ('file = "blocks.csv"', 'file = "blocks.csv"\nempty = "zero"\nnull_values = [-99]')
+    lines = told(Plan.from_project(plan_folder(table, PROJECT, nulls, ("\n[slopes]", second))))
+    assert [it for it in lines if "null or" in it] == [
+        "WARNING: 12 rows are null or empty in cu, au, and are read as 0 there"
+    ]
 
 
 def test_a_table_without_tonnes_has_a_mean_of_nothing():

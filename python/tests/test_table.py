@@ -139,7 +139,7 @@ def test_empty_fields_are_taken_as_0_where_the_project_says_so(plan_folder):
     table = rows(2, 2, 2).astype(object)
     table.loc[[1, 2], "cu"] = ""
     plan = pitplan.Plan.from_project(plan_folder(table, PROJECT, ('id = "name"', 'id = "name"\nempty = "zero"')))
-    assert "WARNING: 2 null or empty tonnes or grades are read as 0" in plan.notes
+    assert "WARNING: 2 rows are null or empty in cu, and are read as 0 there" in plan.notes
     assert plan.table["cu"].tolist() == [0.0] * 8
 
 

@@ -95,7 +95,16 @@ def of_ground(table: Table, grid: Grid, project: Project) -> list[str]:
     lines += not_used(table.unused)
     missing = [name for name in OPTIONAL if getattr(columns, name) is None]
     lines += [f"no column in the project: {', '.join(missing)}"] if missing else []
-    return lines + ([f"WARNING: {table.filled:,} null or empty tonnes or grades are read as 0"] if table.filled else [])
+    return [*lines, *of_nulls(table)]
+
+
+def of_nulls(table: Table) -> list[str]:
+    """Returns a warning that counts each row once that has a null which is read as 0, however many of its columns are null."""
+    if not table.filled:
+        return []
+    count = int(np.count_nonzero(np.any([*table.zeros.values()], axis=0)))
+    columns = ", ".join(name for name, null in table.zeros.items() if null.any())
+    return [f"WARNING: {count:,} rows are null or empty in {columns}, and are read as 0 there"]
 
 
 def of_grades(grades: Sequence[Grade]) -> list[str]:

@@ -327,6 +327,6 @@ def edge_notes(plan: Plan, solution: Solution) -> list[str]:
         if len(touching):
             notes.append(
                 f"WARNING: the largest shell reaches the {name} of the block model ({len(touching):,} blocks, "
-                f"from revenue factor {factor_text(touching.min())}); extend the model"
+                f"from revenue factor {factor_text(touching.min())}), beyond which no slope is kept: extend the model"
             )
     return notes
