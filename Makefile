@@ -66,7 +66,9 @@ install:
 	install -D -m 644 LICENSE $(DOC)/LICENSE
 	for file in $(DOCUMENTS); do install -D -m 644 $$file $(DOC)/$$file || exit; done
 	test ! -e build/site || (cd build/site && find . -type f -exec install -D -m 644 {} $(DOC)/site/{} ";")
-	test ! -e $(PROGRAM).version || install -D -m 644 $(PROGRAM).version $(DOC)/version
+	for name in $(PROGRAM) build/pitschedule build/libpitshell.so; do \
+	  test ! -e $$name.version || install -D -m 644 -t $(DOC) $$name.version || exit; \
+	done
 	install -D -m 644 -t $(DESTDIR)$(PREFIX)/share/man/man1 man/pitshell.1 man/pitschedule.1 man/pitplan.1
 	for name in pitshell pitschedule pitplan; do \
 	  install -D -m 644 completions/$$name.bash $(DESTDIR)$(PREFIX)/share/bash-completion/completions/$$name || exit; \

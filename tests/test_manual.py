@@ -88,8 +88,8 @@ def test_install_puts_all_in_place(tmp_path: pathlib.Path) -> None:
         places[f"share/fish/vendor_completions.d/{name}.fish"] = COMPLETIONS / f"{name}.fish"
     if (TOP / "build" / "pitschedule").exists():
         places["bin/pitschedule"] = TOP / "build" / "pitschedule"
-    told = PROGRAM.with_suffix(".version")
-    places |= {"share/doc/pitshell/version": told} if told.exists() else {}
+    records = [PROGRAM.with_suffix(".version"), *(TOP / "build" / f"{name}.version" for name in ("pitschedule", "libpitshell.so"))]
+    places |= {f"share/doc/pitshell/{file.name}": file for file in records if file.exists()}
     if (TOP / "build" / "libpitshell.so").exists():
         places |= {f"lib/{name}": TOP / "build" / name for name in ("libpitshell.so", "libpitshell.a")}
         places |= {"include/pitshell.h": TOP / "include" / "pitshell.h"}

@@ -33,7 +33,8 @@ from crates import TOP
 
 BUILD = TOP / "build"
 DIST = BUILD / "dist"
-MADE = ("pitshell", "pitschedule", "pitshell.version", "libpitshell.so", "libpitshell.a")
+RECORDS = ("pitshell.version", "pitschedule.version", "libpitshell.so.version")
+MADE = ("pitshell", "pitschedule", "libpitshell.so", "libpitshell.a", *RECORDS)
 LEAST_C_LIBRARY = 17
 CONTROL = """Package: pitshell
 Version: {version}
@@ -191,7 +192,7 @@ def main() -> int:
     shutil.rmtree(DIST, ignore_errors=True)
     DIST.mkdir(parents=True)
     machine = f"manylinux_{c_library().replace('.', '_')}_{platform.machine()}"
-    program = {f"pitshell/{name}": BUILD / name for name in ("libpitshell.so", "pitshell", "pitschedule")}
+    program = {f"pitshell/{name}": BUILD / name for name in ("libpitshell.so", "pitshell", "pitschedule", *RECORDS)}
     checkers = {f"pitplan/checkers/{name}": TOP / "tools" / name for name in ("check_certificate.py", "replay_journal.py")}
     made = [debian_package(), archive(), wheel("pitshell", program, f"py3-none-{machine}"), wheel("pitplan", checkers, "py3-none-any")]
     made += [source_archive()] if is_clone() else []

@@ -100,6 +100,7 @@ def test_shells_are_the_same_to_the_byte(tmp_path, hill):
     told = [json.loads((place / "plan.json").read_text())["shells"]["solver"] for place in (arrays, texts)]
     hashes = [hash_of(file) for file in (pitshell.LIBRARY, program.program())]
     assert [(it["by"], it["sha256"]) for it in told] == [("library", hashes[0]), ("program", hashes[1])]
+    assert all(it["proved"] for it in told)
     for place, it in zip((arrays, texts), told):
         page = (place / "report.html").read_text()
         assert (
@@ -107,6 +108,17 @@ def test_shells_are_the_same_to_the_byte(tmp_path, hill):
             and f"Proved for the {it['by']}, given" in page
             and ("solver/mine.prec" in page) == (it["by"] == "program")
         )
+
+
+def test_the_report_of_a_solver_that_no_build_recorded_claims_no_proof(tmp_path, hill, monkeypatch):
+    copy = tmp_path / "pitshell"
+    copy.write_bytes(program.program().read_bytes() + b"\n")
+    copy.chmod(0o755)
+    monkeypatch.setenv("PITSHELL", str(copy))
+    assert main(["shells", str(hill), "--out", str(tmp_path / "out"), "--solver", "program", "--quiet"]) == 0
+    page = " ".join((tmp_path / "out" / "report.html").read_text().split())
+    said = f"Not known to be proved: no build of this installation recorded the SHA-256 of the program, {hash_of(copy)[:12]}"
+    assert said in page and "Proved for the" not in page and "Not proved either: how" in page
 
 
 def test_a_pit_with_fixed_blocks_and_without_is_the_same(tmp_path, plan_folder):

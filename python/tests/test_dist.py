@@ -111,7 +111,8 @@ def test_the_debian_package_serves_where_it_is_unpacked(dist, tmp_path):
     }
     wanted |= {
         "share/doc/pitshell/copyright",
-        "share/doc/pitshell/version",
+        "share/doc/pitshell/pitshell.version",
+        "share/doc/pitshell/libpitshell.so.version",
         "share/bash-completion/completions/pitshell",
         "share/bash-completion/completions/pitplan",
         "share/zsh/site-functions/_pitplan",

@@ -1,5 +1,6 @@
 """`pitplan doctor`: what an installation has, against Debian's own list; what it lacks, by name and with the remedy."""
 
+import hashlib
 import json
 import re
 import subprocess
@@ -12,7 +13,9 @@ from conftest import ROOT
 import pitplan
 from pitplan.cli import main
 from pitplan.commands import doctor
+from pitplan.core import paths
 from pitplan.core.libraries import LIBRARIES, Library
+from pitplan.solver import choice
 
 
 def by_part(found):
@@ -130,3 +133,28 @@ def test_the_remedy_is_one_that_serves_this_python(monkeypatch):
     assert [it.remedy for it in (arrow, gdal)] == ["pip install pyarrow", "apt-get install python3-gdal"]
     monkeypatch.setattr(sys, "path", ["/usr/lib/python3.11", "/home/planner/pitshell/lib/python3.11/site-packages"])
     assert [it.remedy for it in (arrow, gdal)] == ["pip install pyarrow", "pip install gdal"]
+
+
+@pytest.mark.parametrize("is_recorded", [True, False])
+def test_a_solver_is_proved_only_if_the_build_recorded_its_bytes(monkeypatch, tmp_path, is_recorded):
+    """A program of the same words and another SHA-256 solves as well, and is not called proved."""
+    copy = tmp_path / "pitshell"
+    copy.write_bytes(paths.program().read_bytes() + (b"" if is_recorded else b"\n"))
+    copy.chmod(0o755)
+    monkeypatch.setenv("PITSHELL", str(copy))
+    sha256 = hashlib.sha256(copy.read_bytes()).hexdigest()
+    said = "proved" if is_recorded else "not known to be proved: no build recorded it"
+    assert doctor.solved_by_program().endswith(f" in {copy}, SHA-256 {sha256[:12]}, {said}")
+    assert choice.chosen("program") == choice.Solver("program", f"pitshell {pitplan.__version__}", sha256, is_recorded)
+
+
+@pytest.mark.parametrize(
+    "place", ["prefix/lib/pitshell/python/pitshell", "prefix/lib/pitshell/build", "prefix/share/doc/pitshell"]
+)
+def test_the_records_of_wheel_clone_and_installation_are_read(monkeypatch, tmp_path, place):
+    monkeypatch.setattr(paths, "PACKAGES", tmp_path / "prefix" / "lib" / "pitshell" / "python")
+    recorded, other = "a" * 64, "b" * 64
+    (tmp_path / place).mkdir(parents=True)
+    text = f"pitshell 1.0.0\ncommit 1\nsha256 {recorded}\nsources {other}\nproved with a kit\n"
+    (tmp_path / place / "pitshell.version").write_text(text)
+    assert choice.is_proved(recorded) and not choice.is_proved(other)

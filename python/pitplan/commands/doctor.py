@@ -18,6 +18,7 @@ from pathlib import Path
 from typing import Any, Callable
 
 from pitplan.core import paths, processes
+from pitplan.core.atomic_files import hash_of
 from pitplan.core.libraries import LIBRARIES, Library
 from pitplan.core.optional_packages import THREE
 from pitplan.errors import PlanError, on_one_line
@@ -102,7 +103,7 @@ def solved_by_library() -> str:
 
     package = library.loaded()
     demand_worth(str(package.solve([-3, 5], [[1, 0]]).worth))
-    return f"{package.__version__} in {package.LIBRARY}, SHA-256 {library.identity()['sha256'][:12]}"
+    return f"{package.__version__} in {package.LIBRARY}, {digest_of(library.identity()['sha256'])}"
 
 
 def solved_by_program() -> str:
@@ -117,7 +118,14 @@ def solved_by_program() -> str:
         text = program.call("solve", "--model", model, "--prec", prec).decode()
     found = re.search(r"^WORTH: (\S+)$", text, re.MULTILINE)
     demand_worth(found[1] if found else text[:40])
-    return f"{identity['version'].split()[-1]} in {paths.program()}, SHA-256 {identity['sha256'][:12]}"
+    return f"{identity['version'].split()[-1]} in {paths.program()}, {digest_of(identity['sha256'])}"
+
+
+def digest_of(sha256: str) -> str:
+    """Returns the SHA-256 of a solver in short, and whether the build recorded it as proved."""
+    from pitplan.solver import choice
+
+    return f"SHA-256 {sha256[:12]}, {'proved' if choice.is_proved(sha256) else 'not known to be proved: no build recorded it'}"
 
 
 def demand_worth(found: str) -> None:
@@ -133,7 +141,8 @@ def schedule_program() -> Finding:
         said = subprocess.run([place, "--version"], capture_output=True, text=True, check=True).stdout
     except (OSError, subprocess.CalledProcessError) as error:
         return Finding("program pitschedule", "", False, purpose, f"{on_one_line(str(error))}: {REINSTALL}")
-    return Finding("program pitschedule", f"{said.split()[-1]} in {place}", False, purpose)
+    found = f"{said.split()[-1]} in {place}, {digest_of(hash_of(place))}"
+    return Finding("program pitschedule", found, False, purpose)
 
 
 def of_library(wanted: Library) -> Finding:

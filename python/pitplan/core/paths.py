@@ -47,6 +47,13 @@ def executable(name: str, variable: str) -> Optional[Path]:
     return Path(found) if found else None
 
 
+def build_records() -> list[Path]:
+    """Returns the files that say what a build has proved: in the wheel, in build/ of this repository, and in the documents of an installation."""
+    installed = [prefix / "share" / "doc" / "pitshell" for prefix in PACKAGES.parents[2:3]]
+    folders = (PACKAGES / "pitshell", PACKAGES.parent / "build", *installed)
+    return [file for folder in folders for file in sorted(folder.glob("*.version"))]
+
+
 def checker() -> Path:
     """The short checker of certificates, which shares nothing with the program."""
     installed = PACKAGE / "checkers" / "check_certificate.py"

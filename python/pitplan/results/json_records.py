@@ -78,6 +78,7 @@ SOLVER = {
     "by": Kind("library or program", lambda value: value in ("library", "program")),
     "version": TEXT,
     "sha256": SHA256,
+    "proved": Lacking(TRUTH),
 }
 SHELLS = {"revenue_factors": RISING, "selected": FACTOR, "solver": SOLVER}
 PLAN = {

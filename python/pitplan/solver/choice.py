@@ -7,6 +7,7 @@ continued with another.
 from __future__ import annotations
 
 import os
+import re
 from dataclasses import dataclass
 from pathlib import Path
 from typing import Optional
@@ -17,16 +18,30 @@ from pitplan.errors import PlanError, ProgramError
 from . import library, program
 
 LIBRARY, PROGRAM = "library", "program"
+# A line of a record of the build, as tools/build.py writes it.
+RECORDED = re.compile(r"^sha256 ([0-9a-f]{64})$", re.MULTILINE)
 BY = (LIBRARY, PROGRAM)
 
 
 @dataclass(frozen=True)
 class Solver:
-    """`library` or `program`, its version, and the SHA-256 of its file."""
+    """The solver that is used.
+
+    Attributes
+    ----------
+    by : str
+        `library` or `program`.
+    version : str
+    sha256 : str
+        Of its file.
+    proved : bool
+        Whether the build of this installation recorded this SHA-256, as it does for the files that it proved.
+    """
 
     by: str
     version: str
     sha256: str
+    proved: bool = False
 
 
 def chosen(by: Optional[str] = None) -> Solver:
@@ -43,7 +58,13 @@ def chosen(by: Optional[str] = None) -> Solver:
     by = by or preferred()
     if by not in BY:
         raise PlanError(f"solver: found {by}, expected one of {', '.join(BY)}")
-    return Solver(by, **(library.identity() if by == LIBRARY else program.identity()))
+    identity = library.identity() if by == LIBRARY else program.identity()
+    return Solver(by, **identity, proved=is_proved(identity["sha256"]))
+
+
+def is_proved(sha256: str) -> bool:
+    """Returns whether the build recorded this SHA-256 as that of a file that it proved."""
+    return any(sha256 in RECORDED.findall(file.read_text(encoding="utf-8")) for file in paths.build_records())
 
 
 def preferred() -> str:
