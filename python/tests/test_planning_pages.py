@@ -6,18 +6,15 @@ import shutil
 from dataclasses import replace
 from decimal import Decimal
 
-import pandas as pd
 import pytest
 from conftest import ROOT
 
 import pitplan
 from pitplan.cli import main
 from pitplan.config.pushbacks import PushbackRules
-from pitplan.config.schedule import ScheduleRules
 from pitplan.config.sensitivity import SensitivityRules
 from pitplan.config.stockpiles import Stockpile
 from pitplan.scheduling import pushback_schedule
-from pitplan.scheduling.blocks import tables as block_result
 from pitplan.scheduling.flow.cutoffs import cutoffs
 from pitplan.solver import mine_files
 
@@ -26,10 +23,8 @@ EXAMPLE = ROOT / "examples" / "plan" / "project.toml"
 
 
 def test_the_lines_for_a_notebook_run(tmp_path, monkeypatch):
-    """In a folder of the example's files, since the last line writes there; its project has no pushbacks as it stands."""
+    """In a folder of the example's files, since the last line writes there."""
     monkeypatch.chdir(shutil.copytree(EXAMPLE.parent, tmp_path / "plan"))
-    with open("project.toml", "a", encoding="utf-8") as project:
-        project.write("\n[pushbacks]\nrevenue_factors = [0.5, 1.0]\n")
     names = {}
     exec(re.search(r"```python\n(.*?)```", PAGES["notebook"], re.DOTALL)[1], names)
     shells = names["shells"]
@@ -104,72 +99,26 @@ def test_the_net_present_values_of_the_page_are_those_of_the_example():
     )
 
 
-def test_the_pushbacks_of_the_page_are_those_of_the_example():
-    project = pitplan.load(EXAMPLE)
-    plan = pitplan.Plan.from_project(
-        pitplan.pushbacks.nested.ending(replace(project, pushbacks=PushbackRules(4, None, None, 1.0)))
-    )
-    table = pitplan.pushbacks.nested.table(pitplan.pushbacks.nested.divide(plan)).set_index("pushback")
-    rows = re.findall(
-        r"^\| (\d) \| ([\d.]+) \| (\d+) \| ([\d,.]+) \| ([\d,.]+) \| ([\d.]+) \| ([\d.]+) \| ([\d.]+) \|$",
-        PAGES["pushbacks"],
-        re.MULTILINE,
-    )
-    assert [int(row[0]) for row in rows] == table.index.tolist()
-    for number, factor, blocks, rock, ore, strip, copper, worth in rows:
-        pushback = table.loc[int(number)]
-        assert (pushback["revenue_factor"], pushback["blocks"]) == (float(factor), int(blocks))
-        assert [f"{pushback[name] / 1000:,.1f}" for name in ("tonnes", "feed_tonnes")] == [rock, ore]
-        assert [
-            f"{pushback['strip_ratio']:.2f}",
-            f"{pushback['head_grade_copper']:.3f}",
-            f"{pushback['undiscounted_cash_flow'] / 1e6:.1f}",
-        ] == [
-            strip,
-            copper,
-            worth,
-        ]
-
-
 def test_the_schedule_of_the_page_is_that_of_the_example():
     project = pitplan.load(EXAMPLE)
-    rules = ScheduleRules(bench_lag=1, vertical_advance_rate=8.0, ramp_up=(0.5, 1.0))
+    rules = project.schedule
     plain, stocked = (
         pushback_schedule.make(
             pitplan.pushbacks.nested.divide(
-                pitplan.Plan.from_project(
-                    pitplan.pushbacks.nested.ending(
-                        replace(project, pushbacks=PushbackRules(4, None, None, 1.0), schedule=asked)
-                    )
-                )
+                pitplan.Plan.from_project(pitplan.pushbacks.nested.ending(replace(project, schedule=asked)))
             )
         )
         for asked in (rules, replace(rules, stockpiles=(Stockpile(1.0),)))
     )
-    ways = pushback_schedule.methods(plain).set_index("method")
-    assert f"earn {ways['npv']['rule'] / 1e6:.2f} M USD by rule in {ways['years']['rule']} years" in PAGES["schedules"]
-    assert f"each pushback {plain.lead} benches behind the one before" in PAGES["schedules"]
-    said = f"The linear programme finds a schedule of {ways['npv']['lp'] / 1e6:.2f} in {ways['years']['lp']} years, "
-    assert (
-        f"{said}{100 * ways['optimality_gap']['lp']:.1f} % below the upper bound of {plain.upper_bound / 1e6:.2f}"
-        in PAGES["schedules"]
-    )
+    assert f"By the rule each pushback is {plain.lead} benches behind the one before" in PAGES["schedules"]
     cutoff = cutoffs(plain)[""][1]
-    assert f"In year 2 its cut-off is {cutoff:.2f} USD per tonne of feed" in PAGES["schedules"]
+    said = f"In year 2 the cut-off of the linear programme is {cutoff:.2f} USD per tonne of feed"
+    assert said in PAGES["schedules"]
     value, bound = stocked.value("lp") / 1e6, stocked.upper_bound / 1e6
     assert (
         f"With a stockpile that costs 1 USD per tonne it earns {value:.2f}, below a bound of {bound:.2f}"
         in PAGES["schedules"]
     )
-
-
-def test_the_schedule_by_block_of_the_page_is_that_of_the_example():
-    project = pitplan.load(EXAMPLE)
-    table = block_result.make(
-        pitplan.Plan.from_project(replace(project, schedule=ScheduleRules(ramp_up=(0.5, 1.0))))
-    ).table.iloc[0]
-    said = f"the example's blocks earn {table['npv'] / 1e6:.2f} M USD, {100 * table['optimality_gap']:.2f} % less than the bound of {table['upper_bound'] / 1e6:.2f}."
-    assert f"With `ramp_up = [0.5, 1.0]` {said}" in PAGES["block-schedules"]
 
 
 def test_the_widths_of_the_page_are_those_of_the_example():
@@ -217,18 +166,6 @@ def test_the_sensitivity_of_the_page_is_that_of_the_example(tmp_path):
         f"has {100 * share:.1f} % of the tonnage and is worth {skin['', 0.0]} M USD, and still {skin['price', -0.1]}"
         in PAGES["uncertainty"]
     )
-
-
-def test_the_shells_of_the_page_are_those_of_the_example():
-    expected = pd.read_csv(EXAMPLE.parent / "expected" / "shells.csv").set_index("revenue_factor")
-    rows = re.findall(r"^\| (\d\.\d\d) \| (.*) \|$", PAGES["shells"], re.MULTILINE)
-    places = {"tonnes": (1e6, 2), "feed_tonnes": (1e6, 2), "strip_ratio": (1, 2), "head_grade_copper": (1, 3)}
-    places |= {name: (1e6, 1) for name in ("undiscounted_cash_flow", "npv_best", "npv_worst")} | {"years": (1, 1)}
-    assert len(rows) == 5
-    for factor, row in rows:
-        shell = expected.loc[float(factor)]
-        due = [f"{shell[name] / unit:.{decimals}f}" for name, (unit, decimals) in places.items()]
-        assert row.split(" | ") == [f"{shell['blocks']:.0f}", *due]
 
 
 def test_init_prints_the_lines_of_the_page(tmp_path, monkeypatch, capsys):
