@@ -94,10 +94,13 @@ def browser(tmp_path_factory):
     found.end()
 
 
-# Scrolls to the end of a page, and returns the titles that its contents mark as current.
+# Scrolls to the end of a page, and returns the titles that its contents mark as current: the last one within five seconds.
 CURRENT = """new Promise(resolve => {
+    const marked = () => [...document.querySelectorAll('.toc-tree li.scroll-current > a')].map(it => it.textContent);
+    const last = [...document.querySelectorAll('.toc-tree li > a')].at(-1)?.textContent;
+    const wait = turns => marked().at(-1) === last || !turns ? resolve(marked()) : setTimeout(wait, 100, turns - 1);
     scrollTo({top: document.body.scrollHeight, behavior: 'instant'});
-    setTimeout(() => resolve([...document.querySelectorAll('.toc-tree li.scroll-current > a')].map(it => it.textContent)), 300);
+    wait(50);
 })"""
 SHADES = {"light": "rgb(255, 255, 255)", "dark": "rgb(19, 20, 22)"}
 
