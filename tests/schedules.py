@@ -71,8 +71,8 @@ def value_of(problem: Problem, shares: Shares) -> int:
     return sum(share * problem.gain(*place) for place, share in shares.items()) // 10**12
 
 
-def faults_of(problem: Problem, shares: Shares) -> set[str]:
-    """Each line that may tell why shares are no schedule; none if they are one."""
+def faults_of(problem: Problem, shares: Shares) -> list[str]:
+    """The lines that tell why shares are no schedule, in the order in which they are checked; none if they are one."""
     mined = [[0] * (problem.periods + 1) for _ in range(problem.blocks)]
     used: dict[tuple[int, int], int] = {}
     for (block, period, destination), share in shares.items():
@@ -80,13 +80,15 @@ def faults_of(problem: Problem, shares: Shares) -> set[str]:
             mined[block][after] += share
         for place, amount in problem.used(block, period, destination).items():
             used[place] = used.get(place, 0) + share * amount
-    faults = {f"block {b} more than once by the end of period {t}" for b in range(problem.blocks) for t in range(problem.periods) if mined[b][t] > MILLION}
-    faults |= {f"block {u} before block {p} in period {t}" for u, p in problem.arcs for t in range(problem.periods) if mined[u][t] > mined[p][t]}
+    faults = []
+    for t in range(problem.periods):
+        faults += [f"block {b} more than once by the end of period {t}" for b in range(problem.blocks) if mined[b][t] > MILLION]
+        faults += [f"block {u} before block {p} in period {t}" for u, p in sorted(problem.arcs) if mined[u][t] > mined[p][t]]
     for r, capacities in enumerate(problem.capacities):
         for s, capacity in enumerate(capacities):
             use = used.get((r, s), 0)
             if use > MILLION * capacity:
-                faults.add(f"limit {r} in period {s}: {six_decimals(-(-use // MILLION))} of {six_decimals(capacity)}")
+                faults.append(f"limit {r} in period {s}: {six_decimals(-(-use // MILLION))} of {six_decimals(capacity)}")
     return faults
 
 

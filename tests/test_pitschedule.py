@@ -1,5 +1,6 @@
 """The program pitschedule against a check and a bound in whole numbers, and against linear and integer programmes."""
 
+import itertools
 import os
 import pathlib
 import random
@@ -171,7 +172,7 @@ def test_values_and_bounds_of_random_problems(folder: Folder, seed: int) -> None
 @pytest.mark.parametrize("seed", range(10))
 def test_random_shares(folder: Folder, seed: int) -> None:
     """30 problems a seed, with shares drawn at random: they are a schedule exactly if the check in whole numbers finds no fault, and
-    the fault that is told is one of those that it finds."""
+    the fault that is told is the first one that it finds."""
     chance = random.Random(seed)
     seen = set()
     for _ in range(30):
@@ -182,7 +183,7 @@ def test_random_shares(folder: Folder, seed: int) -> None:
         status, out, _ = folder.run("check", "problem", "prec", "schedule")
         faults = schedules.faults_of(problem, shares)
         if faults:
-            assert status == 4 and out.startswith("NO SCHEDULE\n") and out.splitlines()[1] in faults
+            assert (status, out) == (4, f"NO SCHEDULE\n{faults[0]}\n")
         else:
             assert (status, out) == (0, f"SCHEDULE\nVALUE: {schedules.six_decimals(schedules.value_of(problem, shares))}\n")
         seen.add(out.split(" ")[1].split("\n")[-1] if faults else "schedule")
@@ -242,14 +243,27 @@ def test_each_cut_of_lines_is_refused(folder: Folder, name: str) -> None:
         ("problem", "DISCOUNTS 1 0.5", "DISCOUNTS 1 0,5", "problem: not a decimal line 9"),
         ("problem", "AMOUNTS 1 10 -2", "AMOUNTS 1 10", "problem: wrong number of fields line 21"),
         ("problem", "USE 2 1 0 1", "USE 2 1 0 1\nUSE 2 1 0 1", "problem: wrong header line 20"),
-        ("problem", "USE 2 1 0 1", "USE 2 2 0 1", "problem: beyond the limits"),
-        ("problem", "VALUE 2 1 1", "VALUE 3 1 1", "problem: beyond the limits"),
-        ("problem", "DISCOUNTS 1 0.5", "DISCOUNTS 1 1.000001", "problem: beyond the limits"),
+        ("problem", "USE 2 1 0 1", "USE 2 2 0 1", "problem: USE 4: there is no such limit\n"),
+        ("problem", "USE 2 1 0 1", "USE 3 1 0 1", "problem: USE 4: there is no such destination\n"),
+        ("problem", "USE 2 1 0 1", "USE 2 1 3 1", "problem: USE 4: there is no such column\n"),
+        ("problem", "USE 2 1 0 1", "USE 2 1 0 65537", "problem: USE 4: the lag is above 65536\n"),
+        ("problem", "USE 2 1 0 1", "USE 5000000000 1 0 1", "problem: USE 4: there is no such destination\n"),
+        ("problem", "VALUE 2 1 1", "VALUE 3 1 1", "problem: VALUE 2: there is no such destination\n"),
+        ("problem", "VALUE 2 1 1", "VALUE 2 3 1", "problem: VALUE 2: there is no such column\n"),
+        ("problem", "VALUE 2 1 1", "VALUE 2 1 65537", "problem: VALUE 2: the lag is above 65536\n"),
+        ("problem", "DISCOUNTS 1 0.5", "DISCOUNTS 1 1.000001", "problem: the discount factor of period 1 is not from -1 to 1\n"),
+        ("problem", "DISCOUNTS 1 0.5", "DISCOUNTS -1.000001 2", "problem: the discount factor of period 0 is not from -1 to 1\n"),
+        ("problem", "CAPACITIES 1 2", "CAPACITIES 1 1000000000000", "problem: not a decimal line 11\n"),
+        ("problem", "AMOUNTS 1 10 -2", "AMOUNTS 1 10000000000.000001 -2", "problem: amount 4 (from 0, line by line) is not from -10000000000 to 10000000000\n"),
+        ("problem", "AMOUNTS 1 10 -2", "AMOUNTS 1 10 -10000000000.000001", "problem: amount 5 (from 0, line by line) is not from -10000000000 to 10000000000\n"),
         ("problem", "PERIODS 2", "PERIODS 5000000000", "problem: wrong number of fields line 9"),
-        ("schedule", "SHARE 1 1 0 0.5", "SHARE 2 1 0 0.5", "schedule: share 3 is no share of a block of the problem"),
-        ("schedule", "SHARE 1 1 0 0.5", "SHARE 1 1 0 1.000001", "schedule: share 3 is no share of a block of the problem"),
+        *(
+            ("schedule", "SHARE 1 1 0 0.5", share, "schedule: share 3 names no block, period or destination of the problem, or is not from 0 to 1\n")
+            for share in ("SHARE 2 1 0 0.5", "SHARE 1 2 0 0.5", "SHARE 1 1 3 0.5", "SHARE 1 1 0 1.000001", "SHARE 1 1 0 -0.000001", "SHARE 5000000000 1 0 0.5")
+        ),
         ("schedule", "SHARE 1 1 0 0.5", "SHARE 0 0 1 0.500001", "schedule: with share 3 more than a whole block goes to one destination in one period"),
-        ("prices", "PRICE 0 0", "PRICE 0 -0.000001", "prices: price 3 is negative or above 10^9"),
+        ("prices", "PRICE 0 0", "PRICE 0 -0.000001", "prices: price 3 (from 0, line by line) is not from 0 to 1000000000\n"),
+        ("prices", "PRICE 0 0", "PRICE 1000000000.000001 0", "prices: price 2 (from 0, line by line) is not from 0 to 1000000000\n"),
         ("prec", "1 1 0", "1 1 1", "precedence: block needs itself in precedence line 1"),
         ("prec", "1 1 0", "0 1 1\n1 1 0", "precedence: cycle"),
     ],
@@ -263,10 +277,166 @@ def test_what_is_refused(folder: Folder, name: str, old: str, new: str, told: st
     assert err.startswith(f"pitschedule: {told}")
 
 
+@pytest.mark.parametrize(
+    "name, old, new",
+    [
+        ("problem", "USE 2 1 0 1", "USE 2 1 2 1"),
+        ("problem", "USE 2 1 0 1", "USE 2 1 0 65536"),
+        ("problem", "VALUE 2 1 1", "VALUE 2 2 65536"),
+        ("problem", "DISCOUNTS 1 0.5", "DISCOUNTS -1 1"),
+        ("problem", "CAPACITIES 1 2", "CAPACITIES 999999999999.999999 -999999999999.999999"),
+        ("problem", "AMOUNTS 1 10 -2", "AMOUNTS 1 10000000000 -10000000000"),
+        ("schedule", "SHARE 1 1 0 0.5", "SHARE 1 1 2 1"),
+        ("schedule", "SHARE 1 1 0 0.5", "SHARE 1 1 0 0"),
+        ("prices", "PRICE 0 0", "PRICE 0 1000000000"),
+    ],
+)
+def test_the_last_lawful_number(folder: Folder, name: str, old: str, new: str) -> None:
+    """The numbers next to those that `test_what_is_refused` shows refused."""
+    text = (EXAMPLE / f"two_blocks.{name}").read_text()
+    folder.write(name, text.replace(old, new, 1))
+    status, out, err = folder.check()
+    assert status in (0, 4) and "BOUND: " in out and err == ""
+
+
+def sized(blocks: int = 1, periods: int = 1, destinations: int = 1, columns: int = 0, limits: int = 0, values: int = 0, uses: int = 0) -> str:
+    """The text of a problem with these counts, whose numbers are 0."""
+    counts = zip(schedules.HEADS, (blocks, periods, destinations, columns, limits, values, uses))
+    heads = "".join(f"{word} {count}\n" for word, count in counts)
+    years = " 0" * periods
+    return (
+        f"PROBLEM 1\n{heads}DISCOUNTS{years}\n"
+        + f"CAPACITIES{years}\n" * limits
+        + "VALUE 0 0 0\n" * values
+        + "USE 0 0 0 0\n" * uses
+        + ("AMOUNTS" + " 0" * columns + "\n") * blocks
+    )
+
+
+@pytest.mark.parametrize(
+    "last, above, told",
+    [
+        ({"blocks": 4194304}, {"blocks": 4194305}, "4194305 blocks, allowed are 0 to 4194304"),
+        ({"periods": 65536}, {"periods": 65537}, "65537 periods, allowed are 1 to 65536"),
+        ({"periods": 1}, {"periods": 0}, "0 periods, allowed are 1 to 65536"),
+        ({"destinations": 64}, {"destinations": 65}, "65 destinations, allowed are 1 to 64"),
+        ({"destinations": 1}, {"destinations": 0}, "0 destinations, allowed are 1 to 64"),
+        ({"columns": 1024}, {"columns": 1025}, "1025 columns, allowed are 0 to 1024"),
+        ({"limits": 65536}, {"limits": 65537}, "65537 limits, allowed are 0 to 65536"),
+        ({"columns": 1, "values": 1024}, {"columns": 1, "values": 1025}, "1025 terms, allowed are 0 to 1024"),
+        (
+            {"columns": 1, "limits": 1, "values": 1000, "uses": 24},
+            {"columns": 1, "limits": 1, "values": 1000, "uses": 25},
+            "1025 terms, allowed are 0 to 1024",
+        ),
+        ({"blocks": 1048576, "periods": 4}, {"blocks": 838861, "periods": 5}, "4194305 nodes (blocks times periods), allowed are 0 to 4194304"),
+        ({"limits": 32768, "periods": 2}, {"limits": 32769, "periods": 2}, "65538 capacities (limits times periods), allowed are 0 to 65536"),
+    ],
+)
+def test_the_last_lawful_count(folder: Folder, last: dict[str, int], above: dict[str, int], told: str) -> None:
+    folder.write("prec", "")
+    folder.write("schedule", "SCHEDULE 1\nSHARES 0\n")
+    folder.write("problem", sized(**last))
+    assert folder.run("check", "problem", "prec", "schedule") == (0, "SCHEDULE\nVALUE: 0.000000\n", "")
+    folder.write("problem", sized(**above))
+    assert folder.run("check", "problem", "prec", "schedule") == (1, "", f"pitschedule: problem: {told}\n")
+
+
+def test_a_count_beyond_any_number_in_memory(folder: Folder) -> None:
+    folder.write("problem", sized().replace("DESTINATIONS 1", "DESTINATIONS 9999999999"))
+    assert folder.check() == (1, "", "pitschedule: problem: 9999999999 destinations, allowed are 1 to 64\n")
+
+
+def test_the_last_lawful_number_of_pairs(folder: Folder) -> None:
+    """65,536 blocks in 64 periods are 4,194,304 nodes; with 983,040 arcs there are 64 * (983,040 + 65,536) = 67,108,864 pairs of nodes."""
+    blocks, most = 65536, 983040
+    folder.write("problem", sized(blocks=blocks, periods=64))
+    folder.write("schedule", "SCHEDULE 1\nSHARES 0\n")
+    for arcs, answer in [
+        (most, (0, "SCHEDULE\nVALUE: 0.000000\n", "")),
+        (
+            most + 1,
+            (1, "", "pitschedule: problem: 67108928 pairs of nodes (periods times the sum of arcs and blocks), allowed are 0 to 67108864\n"),
+        ),
+    ]:
+        lines, left = [], arcs
+        for block in range(1, blocks):
+            needed = range(max(0, block - 16), block)[: min(16, left)]
+            left -= len(needed)
+            lines.append(f"{block} {len(needed)} {' '.join(map(str, needed))}\n")
+        assert left == 0
+        folder.write("prec", "".join(lines))
+        assert folder.run("check", "problem", "prec", "schedule") == answer
+
+
+@pytest.mark.parametrize(
+    "amount, answer",
+    [
+        ("100000000", (0, "BOUND: 100000000000000000.000000\n", "")),
+        ("100000000.000001", (1, "", "pitschedule: prices: the value of node 1 is not from -10^17 to 10^17\n")),
+    ],
+)
+def test_the_last_lawful_value_of_a_node(folder: Folder, amount: str, answer: tuple[int, str, str]) -> None:
+    """At the price 10^9 the use of -10^8 by block 1 is worth 10^17."""
+    text = sized(blocks=3, columns=1, limits=1, uses=1)
+    folder.write("problem", text.replace("AMOUNTS 0\nAMOUNTS 0\n", f"AMOUNTS 0\nAMOUNTS -{amount}\n", 1))
+    folder.write("prec", "")
+    folder.write("prices", "PRICES 1\nPRICE 1000000000\n")
+    assert folder.run("bound", "problem", "prec", "prices") == answer
+
+
+# ---- faults in several texts: the first one in the order of the texts is told
+
+FAULTS = [
+    ("problem", "AMOUNTS 1 10 -2", "AMOUNTS 1 10", "problem: wrong number of fields line 21\n"),
+    ("problem", "DESTINATIONS 3", "DESTINATIONS 0", "problem: 0 destinations, allowed are 1 to 64\n"),
+    ("problem", "DISCOUNTS 1 0.5", "DISCOUNTS 1 2", "problem: the discount factor of period 1 is not from -1 to 1\n"),
+    ("problem", "VALUE 0 1 0", "VALUE 0 7 0", "problem: VALUE 0: there is no such column\n"),
+    ("problem", "USE 0 1 0 0", "USE 0 7 0 0", "problem: USE 3: there is no such limit\n"),
+    ("problem", "AMOUNTS 1 -5 -2", "AMOUNTS 1 -50000000000 -2", "problem: amount 1 (from 0, line by line) is not from -10000000000 to 10000000000\n"),
+    ("prec", "1 1 0", "1 1 1", "precedence: block needs itself in precedence line 1\n"),
+    ("schedule", "SHARES 4", "SHARES 5", "schedule: ends early line 7\n"),
+    ("schedule", "SHARE 1 1 0 0.5", "SHARE 2 1 0 0.5", "schedule: share 3 names no block, period or destination of the problem, or is not from 0 to 1\n"),
+    (
+        "schedule",
+        "SHARE 1 0 0 0.5",
+        "SHARE 0 0 1 0.6",
+        "schedule: with share 1 more than a whole block goes to one destination in one period\n",
+    ),
+    ("prices", "PRICE 0 0", "PRICE 0", "prices: wrong number of fields line 3\n"),
+    ("prices", "PRICE 1.5 0", "PRICE -1.5 0", "prices: price 0 (from 0, line by line) is not from 0 to 1000000000\n"),
+]
+
+
+@pytest.mark.parametrize("first, second", itertools.combinations(range(len(FAULTS)), 2))
+def test_the_first_of_two_faults_is_told(folder: Folder, first: int, second: int) -> None:
+    """The list has the faults in their order. Each pair of them is in the texts; the earlier one is told, with prices and without."""
+    texts = {name: (EXAMPLE / f"two_blocks.{name}").read_text() for name in FILES}
+    for name, old, new, _ in (FAULTS[first], FAULTS[second]):
+        assert old in texts[name]
+        texts[name] = texts[name].replace(old, new, 1)
+    for name, text in texts.items():
+        folder.write(name, text)
+    assert folder.check() == (1, "", f"pitschedule: {FAULTS[first][3]}")
+    if FAULTS[first][0] != "prices":
+        assert folder.run("check", "problem", "prec", "schedule") == (1, "", f"pitschedule: {FAULTS[first][3]}")
+    told = [it for it in (FAULTS[first], FAULTS[second]) if it[0] != "schedule"]
+    if told:
+        assert folder.run("bound", "problem", "prec", "prices") == (1, "", f"pitschedule: {told[0][3]}")
+
+
 @pytest.mark.parametrize("missing, told", [("problem", "problem"), ("prec", "precedence"), ("schedule", "schedule"), ("prices", "prices")])
 def test_a_file_that_cannot_be_read(folder: Folder, missing: str, told: str) -> None:
     (folder.folder / missing).unlink()
     assert folder.check() == (1, "", f"pitschedule: {told}: read failed\n")
+
+
+@pytest.mark.parametrize("words", [["check", *FILES], ["check", *FILES[:3]], ["bound", "problem", "prec", "prices"]])
+def test_a_write_that_fails(folder: Folder, words: list[str]) -> None:
+    options = [word for name in words[1:] for word in (f"--{name}", name)]
+    with open("/dev/full", "wb") as full:
+        ran = subprocess.run([PROGRAM, words[0], *options], cwd=folder.folder, stdout=full, stderr=subprocess.PIPE, timeout=60)
+    assert (ran.returncode, ran.stderr) == (1, b"pitschedule: a write failed\n")
 
 
 @pytest.mark.parametrize("words", [[], ["check"], ["bound", "--problem", "problem"], ["solve"], ["check", "--problem"]])

@@ -4,7 +4,7 @@
 ghost use Rattle.std.specs.Prelude.{◌≡◌, IfOk, IfErr};
 ghost use Rattle.faults.specs.Refused.{no_memory};
 ghost use Rattle.schedule_model.specs.Bound.{IsLagrangianBound};
-ghost use Rattle.schedule_bound.specs.Worth.{AreNodesAt, IsWorthOfPit, RefusesBound};
+ghost use Rattle.schedule_bound.specs.Worth.{AreNodesAt, HasNodes, IsWorthOfPit, RefusesBound};
 ghost use Rattle.scheduling.specs.Limits.{ArePriceNumbers};
 
 #[cfg(test)]
@@ -56,6 +56,8 @@ pub fn lagrangian_bound(
     prices: &[i64],
 ) -> Result<i128, BoundError>
     ensures bound { IfOk result (IsLagrangianBound problem.now prices.now) }
+    ensures prices { IfOk result (λ _. ArePriceNumbers problem.now prices.now) }
+    ensures nodes { IfOk result (λ _. HasNodes problem.now prices.now) }
     ensures refused { IfErr result (RefusesBound problem.now prices.now) }
 {
     problem.law();

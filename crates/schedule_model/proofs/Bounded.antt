@@ -10,7 +10,7 @@ use Rattle.pit_model.specs.Graph.{AreInRange, first_of, second_of}
 use Rattle.pit_model.specs.Mine.{Instance, IsPit, PairsInRange, arcs, source, target, value, worth}
 use Rattle.pit_model.proofs.Sums.{total-same, total-le, total-swap, total-not_negative}
 use Rattle.schedule_model.specs.Problem.{Problem, capacity, gain, used}
-use Rattle.schedule_model.specs.Schedule.{IsSchedule, mined, mined_in_first, overall, schedule_value, share, usage, whole_block}
+use Rattle.schedule_model.specs.Schedule.{IsScheduleOf, mined, mined_in_first, overall, schedule_value, share, usage}
 use Rattle.schedule_model.specs.Bound.{AreLimitPrices, IsBest, IsNeededBlock, IsNextPeriod, IsTimeExpanded, ScheduleIsBounded, node, over_limits, price, priced_gain, unit}
 use Rattle.schedule_model.proofs.Sums.{telescope, times_add, times_comm, times_le, times_swap, total-rows, total-times}
 use Rattle.schedule_model.proofs.Grid.{exchange, grid-le, over-le, over-times}
@@ -37,13 +37,13 @@ total-rises a (suc k) f least =
     let s : total (a + suc k) f ≡ total (suc (a + k)) f = ap (λ m. total m f) e in
     omega (arith, ints, total-rises a k f least, least (a + k))
 
-total-upto : (a n : ℕ) (f : ℕ → ℤ) → ((i : ℕ) → pos 0 ≤ℤ f i) → a ≤ n → total a f ≤ℤ total n f
+pub total-upto : (a n : ℕ) (f : ℕ → ℤ) → ((i : ℕ) → pos 0 ≤ℤ f i) → a ≤ n → total a f ≤ℤ total n f
 total-upto a n f least upto =
     let e : a + (n - a) ≡ n = omega arith in
     let s : total (a + (n - a)) f ≡ total n f = ap (λ m. total m f) e in
     omega (arith, ints, total-rises a (n - a) f least)
 
-module _ (problem : Problem) (shares : List ℕ) (schedule : IsSchedule problem shares) where
+module _ (problem : Problem) (whole : ℕ) (shares : List ℕ) (schedule : IsScheduleOf whole problem shares) where
   n : ℕ
   n = problem.blocks
 
@@ -72,7 +72,7 @@ module _ (problem : Problem) (shares : List ℕ) (schedule : IsSchedule problem 
   unfolding z by_end y
   z_least i = total-not_negative (suc (i / problem.blocks)) (λ t. mined problem shares (i % problem.blocks) t) (λ t h. y_least (i % problem.blocks) t)
 
-  pub z_most : (i : ℕ) → i < problem.periods * problem.blocks → z i ≤ℤ pos whole_block
+  pub z_most : (i : ℕ) → i < problem.periods * problem.blocks → z i ≤ℤ pos whole
   unfolding z by_end y
   z_most i h =
       let some = some_blocks problem.blocks problem.periods i h in
@@ -134,11 +134,11 @@ module _ (problem : Problem) (shares : List ℕ) (schedule : IsSchedule problem 
         total-same problem.blocks (λ b. z (t * problem.blocks + b) *ℤ value nodes (t * problem.blocks + b)) (λ b. mined_in_first problem shares b (suc t) *ℤ value nodes (node problem b t)) (λ b hb.
         ap (λ u. u *ℤ value nodes (t * problem.blocks + b)) (z_at b t hb))))
 
-    weighted_most : (pit : ℕ → Bool) → IsPit nodes pit → weighted ≤ℤ (pos whole_block *ℤ worth nodes pit)
+    weighted_most : (pit : ℕ → Bool) → IsPit nodes pit → weighted ≤ℤ (pos whole *ℤ worth nodes pit)
     weighted_most pit is_pit =
         let e = by_node in
         let c = expanded.count in
-        let l = levels_bounded nodes z whole_block range (λ i h. z_least i) (λ i h. z_most i (omega arith)) rises pit is_pit in
+        let l = levels_bounded nodes z whole range (λ i h. z_least i) (λ i h. z_most i (omega arith)) rises pit is_pit in
         omega (arith, ints)
 
     -- what is mined, at the best priced gains
@@ -211,34 +211,34 @@ module _ (problem : Problem) (shares : List ℕ) (schedule : IsSchedule problem 
     of_capacity : ℤ
     of_capacity = over_limits problem (λ r s. price problem prices r s *ℤ capacity problem r s)
 
-    usage_most : of_usage ≤ℤ (pos whole_block *ℤ of_capacity)
+    usage_most : of_usage ≤ℤ (pos whole *ℤ of_capacity)
     unfolding of_usage of_capacity
     usage_most =
         let l = over-le problem.periods problem.blocks problem.destinations problem.limits (share problem shares) (gain problem) (used problem) (price problem prices)
         (λ r s. price problem prices r s *ℤ usage problem shares r s)
-        (λ r s. pos whole_block *ℤ (price problem prices r s *ℤ capacity problem r s))
+        (λ r s. pos whole *ℤ (price problem prices r s *ℤ capacity problem r s))
         (λ r s hr hs.
-        let m = times_le (price problem prices r s) (usage problem shares r s) (pos whole_block *ℤ capacity problem r s) (not_negative r s hr hs) (schedule.within r s hr hs) in
-        let e = times_swap (price problem prices r s) (pos whole_block) (capacity problem r s) in
+        let m = times_le (price problem prices r s) (usage problem shares r s) (pos whole *ℤ capacity problem r s) (not_negative r s hr hs) (schedule.within r s hr hs) in
+        let e = times_swap (price problem prices r s) (pos whole) (capacity problem r s) in
         omega (arith, ints)) in
-        let t = over-times problem.periods problem.blocks problem.destinations problem.limits (share problem shares) (gain problem) (used problem) (price problem prices) (pos whole_block) (λ r s. price problem prices r s *ℤ capacity problem r s) in
+        let t = over-times problem.periods problem.blocks problem.destinations problem.limits (share problem shares) (gain problem) (used problem) (price problem prices) (pos whole) (λ r s. price problem prices r s *ℤ capacity problem r s) in
         omega (arith, ints)
 
-    pub bounded : (pit : ℕ → Bool) → IsPit nodes pit → schedule_value problem shares ≤ℤ (pos whole_block *ℤ (pos unit *ℤ worth nodes pit +ℤ over_limits problem (λ r s. price problem prices r s *ℤ capacity problem r s)))
+    pub bounded : (pit : ℕ → Bool) → IsPit nodes pit → schedule_value problem shares ≤ℤ (pos whole *ℤ (pos unit *ℤ worth nodes pit +ℤ over_limits problem (λ r s. price problem prices r s *ℤ capacity problem r s)))
     unfolding of_capacity
     bounded pit is_pit =
         let a = value_is in
         let b = at_prices_most in
         let c = at_best_most in
         let d = weighted_most pit is_pit in
-        let e = times_le (pos unit) weighted (pos whole_block *ℤ worth nodes pit) (omega (arith, ints)) d in
-        let f = times_swap (pos unit) (pos whole_block) (worth nodes pit) in
+        let e = times_le (pos unit) weighted (pos whole *ℤ worth nodes pit) (omega (arith, ints)) d in
+        let f = times_swap (pos unit) (pos whole) (worth nodes pit) in
         let g = usage_most in
-        let h = times_add (pos whole_block) (pos unit *ℤ worth nodes pit) of_capacity in
+        let h = times_add (pos whole) (pos unit *ℤ worth nodes pit) of_capacity in
         omega (arith, ints)
 
 pub schedule_is_bounded : ScheduleIsBounded
-schedule_is_bounded problem prices bound shares in_range not_negative b schedule =
-    let most = bounded problem shares schedule prices b.best b.nodes in_range not_negative b.best_is b.none_after b.expanded b.pit b.is_pit in
-    let e : pos whole_block *ℤ bound ≡ pos whole_block *ℤ (pos unit *ℤ worth b.nodes b.pit +ℤ over_limits problem (λ r s. price problem prices r s *ℤ capacity problem r s)) = ap (λ u. pos whole_block *ℤ u) b.is in
+schedule_is_bounded problem prices bound whole shares in_range not_negative b schedule =
+    let most = bounded problem whole shares schedule prices b.best b.nodes in_range not_negative b.best_is b.none_after b.expanded b.pit b.is_pit in
+    let e : pos whole *ℤ bound ≡ pos whole *ℤ (pos unit *ℤ worth b.nodes b.pit +ℤ over_limits problem (λ r s. price problem prices r s *ℤ capacity problem r s)) = ap (λ u. pos whole *ℤ u) b.is in
     omega (arith, ints)

@@ -12,7 +12,7 @@ use Rattle.schedule_model.specs.Problem.{Problem, capacity}
 use Rattle.schedule_model.specs.Bound.{AreNodePairs, BoundIsOne, IsBest, IsRoundedUp, IsTimeExpanded, node, over_limits, price, unit}
 use Rattle.schedule_model.proofs.Bounded.{some_blocks}
 
-best_once : (problem : Problem) (prices : List ℤ) (b t : ℕ) (x y : ℤ) → IsBest problem prices b t x → IsBest problem prices b t y → x ≡ y
+pub best_once : (problem : Problem) (prices : List ℤ) (b t : ℕ) (x y : ℤ) → IsBest problem prices b t x → IsBest problem prices b t y → x ≡ y
 best_once problem prices b t x y p q =
     let up = q.greatest p.reached.0 p.reached.1 in
     let down = p.greatest q.reached.0 q.reached.1 in
@@ -20,7 +20,7 @@ best_once problem prices b t x y p q =
     let f = q.reached.2 in
     omega (arith, ints)
 
-rounded_once : (x v w : ℤ) → IsRoundedUp x v → IsRoundedUp x w → v ≡ w
+pub rounded_once : (x v w : ℤ) → IsRoundedUp x v → IsRoundedUp x w → v ≡ w
 rounded_once x v w p q =
     let a = p.least in
     let b = p.most in

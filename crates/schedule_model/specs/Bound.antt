@@ -4,7 +4,7 @@ use Rattle.pit_model.specs.Sum.{total}
 use Rattle.pit_model.specs.Graph.{AreInRange, first_of, second_of}
 use Rattle.pit_model.specs.Mine.{Instance, IsPit, value, worth}
 use Rattle.schedule_model.specs.Problem.{Problem, capacity, gain, of_limit, used}
-use Rattle.schedule_model.specs.Schedule.{IsSchedule, schedule_value, whole_block}
+use Rattle.schedule_model.specs.Schedule.{IsScheduleOf, schedule_value}
 
 -- a sum over all limits and periods
 abbrev pub over_limits : Problem → (ℕ → ℕ → ℤ) → ℤ
@@ -73,11 +73,11 @@ pub record IsLagrangianBound (problem : Problem) (prices : List ℤ) (bound : �
   pub is_pit : IsPit nodes pit
   pub is : bound ≡ pos unit *ℤ worth nodes pit +ℤ over_limits problem (λ r s. price problem prices r s *ℤ capacity problem r s)
 
--- the law: no schedule is worth more than the bound
+-- the law: no schedule is worth more than the bound, for any common denominator of its shares
 abbrev pub ScheduleIsBounded : Type 0
 ScheduleIsBounded =
-    (problem : Problem) (prices : List ℤ) (bound : ℤ) (shares : List ℕ) → AreInRange problem.pairs problem.blocks → AreLimitPrices problem prices
-    → IsLagrangianBound problem prices bound → IsSchedule problem shares → schedule_value problem shares ≤ℤ (pos whole_block *ℤ bound)
+    (problem : Problem) (prices : List ℤ) (bound : ℤ) (whole : ℕ) (shares : List ℕ) → AreInRange problem.pairs problem.blocks → AreLimitPrices problem prices
+    → IsLagrangianBound problem prices bound → IsScheduleOf whole problem shares → schedule_value problem shares ≤ℤ (pos whole *ℤ bound)
 
 -- the law: a problem has one bound at given prices
 abbrev pub BoundIsOne : Type 0

@@ -1,4 +1,5 @@
--- A schedule: the share of each block, in millionths, that is mined in each period and sent to each destination.
+-- A schedule: the share of each block that is mined in each period and sent to each destination. Shares are whole numbers over a common
+-- denominator.
 use Rattle.std.specs.Prelude.{ℕ, suc, ◌+◌, ◌*◌, ◌^◌, ◌<◌, ℤ, pos, ◌*ℤ◌, ◌≤ℤ◌, List, length, get_or}
 use Rattle.pit_model.specs.Sum.{total}
 use Rattle.pit_model.specs.Graph.{first_of, second_of}
@@ -23,19 +24,23 @@ mined problem shares b t = total problem.destinations (λ d. share problem share
 abbrev pub mined_in_first : Problem → List ℕ → ℕ → ℕ → ℤ
 mined_in_first problem shares b count = total count (λ t. mined problem shares b t)
 
--- the use of limit r in period s, in millionths of millionths
+-- the use of limit r in period s, in millionths of shares
 abbrev pub usage : Problem → List ℕ → ℕ → ℕ → ℤ
 usage problem shares r s = overall problem (λ b t d. share problem shares b t d *ℤ used problem b t d r s)
 
--- no block is mined more than once; by the end of each period no more of a block is mined than of each block that it needs; and no
--- limit is exceeded in any period
-pub record IsSchedule (problem : Problem) (shares : List ℕ) : Type 0 where
-  pub once : (b : ℕ) → b < problem.blocks → mined_in_first problem shares b problem.periods ≤ℤ pos whole_block
+-- for shares of which `whole` are a block: no block is mined more than once; by the end of each period no more of a block is mined than of
+-- each block that it needs; and no limit is exceeded in any period
+pub record IsScheduleOf (whole : ℕ) (problem : Problem) (shares : List ℕ) : Type 0 where
+  pub once : (b : ℕ) → b < problem.blocks → mined_in_first problem shares b problem.periods ≤ℤ pos whole
   pub in_order :
       (k t : ℕ) → k < length problem.pairs → t < problem.periods
       → mined_in_first problem shares (first_of problem.pairs k) (suc t) ≤ℤ mined_in_first problem shares (second_of problem.pairs k) (suc t)
-  pub within : (r s : ℕ) → r < problem.limits → s < problem.periods → usage problem shares r s ≤ℤ (pos whole_block *ℤ capacity problem r s)
+  pub within : (r s : ℕ) → r < problem.limits → s < problem.periods → usage problem shares r s ≤ℤ (pos whole *ℤ capacity problem r s)
 
--- the discounted value of a schedule, in units of 10^-18
+-- for shares in millionths
+abbrev pub IsSchedule : Problem → List ℕ → Type 0
+IsSchedule problem shares = IsScheduleOf whole_block problem shares
+
+-- the discounted value of a schedule, in units of 10^-12 for each share of a block
 abbrev pub schedule_value : Problem → List ℕ → ℤ
 schedule_value problem shares = overall problem (λ b t d. share problem shares b t d *ℤ gain problem b t d)

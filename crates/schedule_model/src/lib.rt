@@ -9,7 +9,8 @@ mod term;
 
 pub use term::{Effect, Term};
 
-/// For prices that are not negative, no schedule is worth more than the Lagrangian bound at these prices.
+/// For prices that are not negative, no schedule is worth more than the Lagrangian bound at these prices. Its shares may have any common
+/// denominator.
 pub fn schedule_is_bounded()
     ensures { ScheduleIsBounded }
 {}

@@ -20,3 +20,13 @@ each_pushed {A = A} none P from xs ys x n are count each last =
     (λ j h. subst (P j) (sym (get_or-append xs (x ∷ []) none (from + j) (omega arith))) (each j h))
     (subst (P n) (sym (ap (λ m. get_or (xs ++ x ∷ []) m none) (sym count) ∙ get_or-append_seam xs x [] none)) last) in
     subst (λ (zs : List A). (j : ℕ) → j < n + 1 → P j (get_or zs (from + j) none)) (sym are) long
+
+-- from the start on
+pub each_from_start : {A : Type 0} (none : A) (P : ℕ → A → Type 0) (xs ys : List A) (x : A) (n : ℕ) → ys ≡ xs ++ x ∷ [] → length xs ≡ n
+    → ((j : ℕ) → j < n → P j (get_or xs j none)) → P n x → (j : ℕ) → j < n + 1 → P j (get_or ys j none)
+each_from_start {A = A} none P xs ys x n are count each last =
+    let long : (j : ℕ) → j < n + 1 → P j (get_or (xs ++ x ∷ []) j none) =
+    below_more (λ j. P j (get_or (xs ++ x ∷ []) j none)) n
+    (λ j h. subst (P j) (sym (get_or-append xs (x ∷ []) none j (omega arith))) (each j h))
+    (subst (P n) (sym (ap (λ m. get_or (xs ++ x ∷ []) m none) (sym count) ∙ get_or-append_seam xs x [] none)) last) in
+    subst (λ (zs : List A). (j : ℕ) → j < n + 1 → P j (get_or zs j none)) (sym are) long

@@ -1,5 +1,7 @@
+pub mod Limited
 pub mod ProblemRead
 pub mod SharesRead
 pub mod Verdicts
 pub mod Refusals
 pub mod Runs
+pub mod OneAnswer

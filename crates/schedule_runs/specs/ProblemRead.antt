@@ -1,14 +1,13 @@
 -- The scheduling problem that two texts spell: its own text, and that of its precedence.
-use Rattle.std.specs.Prelude.{◌≡◌, ℕ, ◌+◌, ◌*◌, ◌<◌, ℤ, pos, List, length, get_or, Ok}
-use Rattle.pit_model.specs.Graph.{AreSamePairs}
+use Rattle.std.specs.Prelude.{◌≡◌, ℕ, ◌+◌, ◌*◌, ◌<◌, ◌≤◌, ℤ, pos, List, length, get_or, Ok}
+use Rattle.pit_model.specs.Graph.{AreSamePairs, IsGraph}
+use Rattle.pit_model.specs.Size.{most_pairs}
 use Rattle.minelib_reader.specs.PrecGrammar.{SpellsPrec}
 use Rattle.schedule_model.specs.declared.term.Term.{Term}
 use Rattle.schedule_model.specs.declared.term.Effect.TheVariants.{Value, Use}
 use Rattle.schedule_model.specs.Problem.{Problem, no_term}
 use Rattle.schedule_texts.specs.ProblemText.{Lists, lists_in}
-
-abbrev pub number_at : List ℤ → ℕ → ℤ
-number_at numbers i = get_or numbers i (pos 0)
+use Rattle.schedule_runs.specs.Limited.{AreLawful, number_at, pairs_of_nodes}
 
 -- term k of value, as it is listed
 pub record IsValueTerm (values : List ℤ) (k : ℕ) (term : Term) : Type 0 where
@@ -32,10 +31,16 @@ pub record AreTerms (lists : Lists) (terms : List Term) : Type 0 where
   pub values : (k : ℕ) → k < lists.sizes.values → IsValueTerm lists.values k (get_or terms k no_term)
   pub uses : (k : ℕ) → k < lists.sizes.uses → IsUseTerm lists.uses k (get_or terms (lists.sizes.values + k) no_term)
 
--- the problem of lists, whose pairs are these in whatever order
-pub record IsProblemOf (lists : Lists) (arcs : List (ℕ × ℕ)) (problem : Problem) : Type 0 where
+-- a text spells arcs without a cycle, which in their order are these pairs
+pub record SpellsGraph (n : ℕ) (text : List ℕ) (pairs : List (ℕ × ℕ)) : Type 0 where
+  pub arcs : List (ℕ × ℕ)
+  pub spelled : SpellsPrec n text arcs
+  pub same : AreSamePairs arcs pairs
+  pub graph : IsGraph n pairs
+
+-- the problem of lists
+pub record IsProblemOf (lists : Lists) (problem : Problem) : Type 0 where
   pub blocks : problem.blocks ≡ lists.sizes.blocks
-  pub pairs : AreSamePairs arcs problem.pairs
   pub periods : problem.periods ≡ lists.sizes.periods
   pub destinations : problem.destinations ≡ lists.sizes.destinations
   pub columns : problem.columns ≡ lists.sizes.columns
@@ -45,10 +50,11 @@ pub record IsProblemOf (lists : Lists) (arcs : List (ℕ × ℕ)) (problem : Pro
   pub capacities : problem.capacities ≡ lists.capacities
   pub terms : AreTerms lists problem.terms
 
--- the two texts spell this problem
+-- the two texts spell this problem, within the limits
 pub record SpellsProblem (text precedence : List ℕ) (problem : Problem) : Type 0 where
   pub lists : Lists
   pub read : lists_in text ≡ Ok lists
-  pub arcs : List (ℕ × ℕ)
-  pub spelled : SpellsPrec lists.sizes.blocks precedence arcs
-  pub is : IsProblemOf lists arcs problem
+  pub lawful : AreLawful lists
+  pub graph : SpellsGraph lists.sizes.blocks precedence problem.pairs
+  pub few_pairs : pairs_of_nodes lists problem.pairs ≤ most_pairs
+  pub is : IsProblemOf lists problem

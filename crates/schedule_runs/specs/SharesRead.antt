@@ -5,7 +5,7 @@ use Rattle.schedule_model.specs.Problem.{Problem}
 use Rattle.schedule_model.specs.Schedule.{whole_block}
 use Rattle.schedule_texts.specs.ScheduleText.{shares_in}
 use Rattle.schedule_runs.specs.declared.shares.Share.{Share}
-use Rattle.schedule_runs.specs.ProblemRead.{number_at}
+use Rattle.schedule_runs.specs.Limited.{number_at}
 
 abbrev pub no_share : Share
 no_share = record { block = 0; period = 0; destination = 0; amount = 0 }
@@ -26,6 +26,12 @@ pub record IsListedShare (numbers : List ℤ) (j : ℕ) (share : Share) : Type 0
   pub period : number_at numbers (4 * j + 1) ≡ pos share.period
   pub destination : number_at numbers (4 * j + 2) ≡ pos share.destination
   pub amount : number_at numbers (4 * j + 3) ≡ pos share.amount
+
+-- share j, as it is listed, is one of a block of the problem
+pub record IsLawfulShare (problem : Problem) (numbers : List ℤ) (j : ℕ) : Type 0 where
+  pub share : Share
+  pub listed : IsListedShare numbers j share
+  pub lawful : IsShareOf problem share
 
 pub record AreListed (problem : Problem) (numbers : List ℤ) (listed : List Share) : Type 0 where
   pub count : length numbers ≡ length listed * 4

@@ -1,12 +1,14 @@
 -- What a run says of a schedule, and the text of it.
 use Rattle.std.specs.Prelude.{◌≡◌, ℕ, ◌*◌, ◌^◌, ℤ, pos, ◌+ℤ◌, ◌*ℤ◌, ◌≤ℤ◌, ◌<ℤ◌, List, ◌++◌, length, Ok, codes, decimal}
 use Rattle.pit_model.specs.PitText.{with_six_decimals}
-use Rattle.schedule_model.specs.Bound.{IsLagrangianBound, IsRoundedUp}
+use Rattle.schedule_model.specs.Bound.{IsLagrangianBound, IsRoundedUp, unit}
 use Rattle.schedule_model.specs.Problem.{Problem, capacity}
-use Rattle.schedule_model.specs.Schedule.{IsSchedule, schedule_value, usage}
+use Rattle.schedule_model.specs.Schedule.{IsSchedule, IsScheduleOf, schedule_value, usage}
 use Rattle.scheduling.specs.Checked.{RefusesShares}
 use Rattle.scheduling.specs.declared.schedule_error.ScheduleError.TheVariants as errors
 use Rattle.schedule_texts.specs.ScheduleText.{prices_in}
+use Rattle.schedule_bound.specs.Worth.{HasNodes}
+use Rattle.scheduling.specs.Limits.{ArePriceNumbers}
 use Rattle.schedule_runs.specs.declared.verdict.Verdict.{Verdict}
 use Rattle.schedule_runs.specs.declared.verdict.Verdict.TheVariants.{Schedule, MinedTwice, BeforeNeeded, OverLimit}
 
@@ -27,12 +29,14 @@ Says problem shares (OverLimit limit period used most) =
     RefusesShares problem shares (errors.OverLimit limit period (usage problem shares limit period)) × IsRoundedUp (usage problem shares limit period) used
     × (most ≡ capacity problem limit period)
 
--- no schedule of a problem is worth more than a number of millionths
+-- no schedule of a problem is worth more than a number of millionths, for any common denominator of its shares
 abbrev pub NoneIsWorthMore : Problem → ℤ → Type 0
-NoneIsWorthMore problem bound = (shares : List ℕ) → IsSchedule problem shares → schedule_value problem shares ≤ℤ (pos value_unit *ℤ bound)
+NoneIsWorthMore problem bound = (whole : ℕ) (shares : List ℕ) → IsScheduleOf whole problem shares → schedule_value problem shares ≤ℤ (pos whole *ℤ (pos unit *ℤ bound))
 
--- the bound at prices, in millionths, rounded up
+-- the bound at prices, in millionths, rounded up; the prices and the values of the nodes are within their ranges
 pub record IsBoundAt (problem : Problem) (prices : List ℤ) (bound : ℤ) : Type 0 where
+  pub prices_are : ArePriceNumbers problem prices
+  pub nodes : HasNodes problem prices
   pub exact : ℤ
   pub is : IsLagrangianBound problem prices exact
   pub rounded : IsRoundedUp exact bound

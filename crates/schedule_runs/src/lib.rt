@@ -1,6 +1,9 @@
 //! The commands of `pitschedule`, from the bytes of texts to what is true of the schedule that they spell.
 #![tactic(auto)]
 
+mod broken_limit;
+mod laws;
+mod limits;
 mod problem;
 mod refused;
 mod run;
@@ -9,6 +12,8 @@ mod terms;
 mod text;
 mod verdict;
 
+pub use broken_limit::{BrokenLimit, Quantity, Section};
+pub use laws::{answered_texts_are_not_refused, runs_write_one_text, texts_have_one_refusal};
 pub use refused::Refused;
 pub use run::{ProblemTexts, run_bound, run_check, run_check_and_bound};
 pub use shares::Share;

@@ -1,4 +1,6 @@
 //! Why a command gives no verdict.
+
+use crate::broken_limit::BrokenLimit;
 use faults::Fault;
 use std::alloc::{AllocError, AllocFailed};
 
@@ -11,19 +13,19 @@ pub enum Refused {
     Problem(Fault),
     /// The text of the precedence has this fault, or its arcs have a cycle.
     Precedence(Fault),
-    /// The problem is larger than the limits allow, a number is out of range, or a term names what there is not.
-    Beyond,
+    /// The problem breaks this limit.
+    Beyond(BrokenLimit),
     /// The text of the schedule has this fault.
     Schedule(Fault),
-    /// The share with this number names no block, period or destination of the problem, or is no share of a block.
+    /// The first share that names no block, period or destination of the problem, or is more than a block; shares count from 0.
     NoShare(u64),
-    /// With the share of this number more than a whole block is sent to one destination in one period.
+    /// The first share with which more than a whole block is sent to one destination in one period.
     ShareAbove(u64),
     /// The text of the prices has this fault.
     Prices(Fault),
-    /// The price with this number is negative or above 10^9.
+    /// The first price that is negative or above 10^9; prices count from 0, limit by limit.
     PriceOutOfRange(u32),
-    /// The value of this node of the time-expanded instance is beyond 10^23 millionths.
+    /// The first node of the time-expanded instance whose value is beyond 10^23 millionths.
     ValueBeyond(u32),
     /// A write failed.
     WriteFailed,

@@ -1,6 +1,6 @@
 //! The commands `check` and `bound`, from the bytes of texts to the bytes that are written.
 ghost use Rattle.std.specs.Prelude.{◌≡◌, ◌<◌, ◌⊎◌, ◌^◌, IfOk, IfErr};
-ghost use Rattle.schedule_runs.specs.Refusals.{IsFailedWrite, RefusesBoundOf, RefusesTexts};
+ghost use Rattle.schedule_runs.specs.Refusals.{IsFailedWrite, RefusesBoth, RefusesBoundOf, RefusesTexts};
 ghost use Rattle.schedule_runs.specs.Runs.{IsBoundWritten, IsCheckedSchedule, IsCheckedAndBounded};
 
 use crate::problem::read_problem;
@@ -22,7 +22,7 @@ pub struct ProblemTexts<'a> {
 ///
 /// # Errors
 ///
-/// The first fault of the texts, lack of memory, or a problem beyond the limits, with nothing written; and a failed write, with a
+/// The first fault of the texts, the first limit that they break, or lack of memory, with nothing written; and a failed write, with a
 /// beginning of the text written.
 pub fn run_check<W: OutBytes>(
     alloc: Global,
@@ -47,7 +47,7 @@ pub fn run_check<W: OutBytes>(
 ///
 /// # Errors
 ///
-/// As `run_check`, the first fault of the prices, and a price or a value that is out of range.
+/// As `run_check`; after these the first fault of the prices, and the first price or value that is out of range.
 pub fn run_check_and_bound<W: OutBytes>(
     alloc: Global,
     texts: ProblemTexts<'_>,
@@ -57,7 +57,7 @@ pub fn run_check_and_bound<W: OutBytes>(
 ) -> Result<Verdict, Refused>
     requires { (W.progress out.old).failures < 2 ^ 63 }
     ensures checked { IfOk result (λ v. IsCheckedAndBounded texts.entry.problem.now texts.entry.precedence.now schedule.now prices.now v (W.progress out.old) (W.progress out.new)) }
-    ensures refused { IfErr result (λ e. ((W.progress out.new ≡ W.progress out.old) × (RefusesTexts texts.entry.problem.now texts.entry.precedence.now schedule.now e ⊎ RefusesBoundOf texts.entry.problem.now texts.entry.precedence.now prices.now e)) ⊎ IsFailedWrite (W.progress out.old) (W.progress out.new) e) }
+    ensures refused { IfErr result (λ e. ((W.progress out.new ≡ W.progress out.old) × RefusesBoth texts.entry.problem.now texts.entry.precedence.now schedule.now prices.now e) ⊎ IsFailedWrite (W.progress out.old) (W.progress out.new) e) }
 {
     let problem = read_problem(alloc, texts.problem, texts.precedence)?;
     let shares = read_shares(alloc, &problem, schedule)?;

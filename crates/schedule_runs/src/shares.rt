@@ -1,11 +1,10 @@
 //! The shares of a schedule that a text lists.
-ghost use Rattle.std.specs.Prelude.{◌≡◌, ◌<◌, ◌≤◌, ◌*◌, ◌+◌, ◌^◌, ℕ, pos, IfOk, IfErr, IfSome, length, get_or};
+ghost use Rattle.std.specs.Prelude.{◌≡◌, ◌<◌, ◌≤◌, ◌*◌, ◌+◌, ◌^◌, ℕ, pos, IfOk, IfErr, IfSome, IfNone, length, get_or};
 ghost use Rattle.schedule_model.specs.Schedule.{whole_block};
-ghost use Rattle.schedule_runs.specs.Refusals.{IsMemoryOrShare, RefusesSchedule};
-ghost use Rattle.schedule_runs.specs.SharesRead.{AreListed, AreSums, IsListedShare, IsShareOf, SpellsShares, place_of, share_in};
+ghost use Rattle.schedule_runs.specs.Refusals.{RefusesListed, RefusesSchedule, RefusesSums, StaysWhole};
+ghost use Rattle.schedule_runs.specs.SharesRead.{AreListed, AreSums, IsLawfulShare, IsListedShare, IsShareOf, SpellsShares, place_of, share_in};
 
 use crate::refused::Refused;
-use crate::terms::small;
 use schedule_texts::parse_shares;
 use scheduling::Problem;
 use std::alloc::Global;
@@ -22,15 +21,29 @@ pub struct Share {
 /// A whole block, in millionths.
 const WHOLE: u32 = 1_000_000;
 
-/// Returns a share as it is listed.
-fn listed_share(numbers: &[i64], j: usize) -> Option<Share>
-    requires { 4 * j + 3 < length numbers.now }
-    ensures { IfSome result (IsListedShare numbers.now j) }
+/// Returns a number, if it is one from 0 on below an end.
+fn below(number: i64, end: u32) -> Option<u32>
+    ensures some { IfSome result (λ n. (number ≡ pos n) × (n < end)) }
+    ensures none { IfNone result ((n : ℕ) → n < end → number ≡ pos n → ⊥) }
 {
-    let block = small(numbers[4 * j])?;
-    let period = small(numbers[4 * j + 1])?;
-    let destination = small(numbers[4 * j + 2])?;
-    let amount = small(numbers[4 * j + 3])?;
+    if number >= 0 && number < i64::from(end) {
+        Some(number as u32)
+    } else {
+        None
+    }
+}
+
+/// Returns a share as it is listed, if it is one of a block of the problem.
+fn lawful_share(problem: &Problem, numbers: &[i64], j: usize) -> Option<Share>
+    requires { 4 * j + 3 < length numbers.now }
+    ensures listed { IfSome result (IsListedShare numbers.now j) }
+    ensures lawful { IfSome result (IsShareOf problem.now) }
+    ensures none { IfNone result (IsLawfulShare problem.now numbers.now j → ⊥) }
+{
+    let block = below(numbers[4 * j], problem.blocks())?;
+    let period = below(numbers[4 * j + 1], problem.periods())?;
+    let destination = below(numbers[4 * j + 2], problem.destinations())?;
+    let amount = below(numbers[4 * j + 3], WHOLE + 1)?;
     Some(Share {
         block,
         period,
@@ -39,29 +52,11 @@ fn listed_share(numbers: &[i64], j: usize) -> Option<Share>
     })
 }
 
-/// Returns a share as it is listed, if it is one of a block of the problem.
-fn lawful_share(problem: &Problem, numbers: &[i64], j: usize) -> Option<Share>
-    requires { 4 * j + 3 < length numbers.now }
-    ensures listed { IfSome result (IsListedShare numbers.now j) }
-    ensures lawful { IfSome result (IsShareOf problem.now) }
-{
-    let share = listed_share(numbers, j)?;
-    if share.block < problem.blocks()
-        && share.period < problem.periods()
-        && share.destination < problem.destinations()
-        && share.amount <= WHOLE
-    {
-        Some(share)
-    } else {
-        None
-    }
-}
-
 /// Returns the shares that are listed.
 fn listed_shares(alloc: Global, problem: &Problem, numbers: &[i64]) -> Result<Vec<Share>, Refused>
     requires { (count : ℕ) × (length numbers.now ≡ count * 4) }
     ensures listed { IfOk result (λ v. AreListed problem.now numbers.now v.items) }
-    ensures refused { IfErr result IsMemoryOrShare }
+    ensures refused { IfErr result (RefusesListed problem.now numbers.now) }
 {
     let mut listed = Vec::new(alloc);
     for j in 0..numbers.len() / 4 {
@@ -95,7 +90,8 @@ fn add_share(
     requires lawful { IsShareOf problem.now (share_in listed.now j) }
     requires before { AreSums problem.now listed.now j shares.old }
     ensures sums { IfOk result (λ _. AreSums problem.now listed.now (j + 1) shares.new) }
-    ensures refused { IfErr result IsMemoryOrShare }
+    ensures whole { IfOk result (λ _. StaysWhole problem.now listed.now j) }
+    ensures refused { IfErr result (λ e. (e ≡ Refused.ShareAbove j) × (StaysWhole problem.now listed.now j → ⊥)) }
 {
     let share = listed[j];
     let place = place_of(problem, share);
@@ -111,7 +107,7 @@ fn add_share(
 fn sums_of(alloc: Global, problem: &Problem, listed: &[Share]) -> Result<Vec<u32>, Refused>
     requires { (j : ℕ) → j < length listed.now → IsShareOf problem.now (share_in listed.now j) }
     ensures sums { IfOk result (λ v. AreSums problem.now listed.now (length listed.now) v.items) }
-    ensures refused { IfErr result IsMemoryOrShare }
+    ensures refused { IfErr result (RefusesSums problem.now listed.now) }
 {
     problem.law();
     let nodes = problem.periods() as usize * problem.blocks() as usize;
@@ -126,14 +122,15 @@ fn sums_of(alloc: Global, problem: &Problem, listed: &[Share]) -> Result<Vec<u32
 ///
 /// # Errors
 ///
-/// The first fault of the text, lack of memory, a share of no block of the problem, or more than a whole block at one place.
+/// The first fault of the text, the first share that is not of a block of the problem, the first with which more than a whole block is at one
+/// place, or lack of memory.
 pub(crate) fn read_shares(
     alloc: Global,
     problem: &Problem,
     text: &[u8],
 ) -> Result<Vec<u32>, Refused>
     ensures spelled { IfOk result (λ v. SpellsShares text.now problem.now v.items) }
-    ensures refused { IfErr result (RefusesSchedule text.now) }
+    ensures refused { IfErr result (RefusesSchedule problem.now text.now) }
 {
     let numbers = match parse_shares(alloc, text) {
         Ok(numbers) => numbers,

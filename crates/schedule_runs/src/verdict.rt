@@ -1,17 +1,18 @@
 //! What is true of a schedule, and the bound of all schedules.
-ghost use Rattle.std.specs.Prelude.{◌≡◌, ◌<◌, IfOk, IfErr, OnOk};
+ghost use Rattle.std.specs.Prelude.{◌≡◌, ◌<◌, ◌*◌, IfOk, IfErr, length};
+ghost use Rattle.schedule_bound.specs.Worth.{HasNodes, RefusesBound};
 ghost use Rattle.schedule_model.specs.Bound.{IsLagrangianBound, IsRoundedUp};
 ghost use Rattle.schedule_model.specs.Problem.{capacity};
 ghost use Rattle.scheduling.specs.Checked.{RefusesShares};
 ghost use Rattle.scheduling.specs.Limits.{ArePriceNumbers};
-ghost use Rattle.schedule_runs.specs.Refusals.{IsMemoryOrPrice, RefusesPriceText};
+ghost use Rattle.schedule_runs.specs.Refusals.{RefusesPriceNumbers, RefusesPriceText};
 ghost use Rattle.schedule_runs.specs.Verdicts.{IsBoundAt, IsBoundOf, IsRoundedDown, Says};
 
 use crate::refused::Refused;
 use schedule_bound::lagrangian_bound;
 use schedule_model::schedule_is_bounded;
 use schedule_texts::parse_prices;
-use scheduling::{BoundError, Problem, ScheduleError, check_prices, check_schedule};
+use scheduling::{BoundError, Problem, ScheduleError, check_schedule};
 use std::alloc::Global;
 
 /// Whether shares are a schedule, or what refutes them.
@@ -97,13 +98,14 @@ pub(crate) fn verdict_of(
     }
 }
 
-/// Returns a refusal of prices as one of a run.
-fn refused_by(error: BoundError) -> Refused
-    ensures { IsMemoryOrPrice result }
+/// Returns a refusal of prices as one of a run. There are as many prices as are due.
+fn refused_by(problem: &Problem, prices: &[i64], error: BoundError) -> Refused
+    requires size { length prices.now ≡ problem.now.limits * problem.now.periods }
+    requires refused { RefusesBound problem.now prices.now error }
+    ensures { RefusesPriceNumbers problem.now prices.now result }
 {
     match error {
-        BoundError::NoMemory => Refused::NoMemory,
-        BoundError::PriceCount => Refused::Beyond,
+        BoundError::NoMemory | BoundError::PriceCount => Refused::NoMemory,
         BoundError::PriceOutOfRange(place) => Refused::PriceOutOfRange(place),
         BoundError::ValueBeyond(node) => Refused::ValueBeyond(node),
     }
@@ -111,34 +113,26 @@ fn refused_by(error: BoundError) -> Refused
 
 /// Returns the bound at prices, in units of 10^-12.
 fn exact_bound(alloc: Global, problem: &Problem, prices: &[i64]) -> Result<i128, Refused>
+    requires { length prices.now ≡ problem.now.limits * problem.now.periods }
     ensures bound { IfOk result (IsLagrangianBound problem.now prices.now) }
-    ensures refused { IfErr result IsMemoryOrPrice }
+    ensures prices { IfOk result (λ _. ArePriceNumbers problem.now prices.now) }
+    ensures nodes { IfOk result (λ _. HasNodes problem.now prices.now) }
+    ensures refused { IfErr result (RefusesPriceNumbers problem.now prices.now) }
 {
     match lagrangian_bound(alloc, problem, prices) {
         Ok(bound) => Ok(bound),
-        Err(error) => Err(refused_by(error)),
-    }
-}
-
-/// Checks that numbers are prices of the limits in each period.
-fn checked_prices(problem: &Problem, prices: &[i64]) -> Result<(), Refused>
-    ensures prices { OnOk result (ArePriceNumbers problem.now prices.now) }
-    ensures refused { IfErr result IsMemoryOrPrice }
-{
-    match check_prices(problem, prices) {
-        Ok(()) => Ok(()),
-        Err(error) => Err(refused_by(error)),
+        Err(error) => Err(refused_by(problem, prices, error)),
     }
 }
 
 /// Returns the bound at prices, in millionths, rounded up: no schedule is worth more.
 fn bound_at(alloc: Global, problem: &Problem, prices: &[i64]) -> Result<i128, Refused>
+    requires { length prices.now ≡ problem.now.limits * problem.now.periods }
     ensures bound { IfOk result (IsBoundAt problem.now prices.now) }
-    ensures refused { IfErr result IsMemoryOrPrice }
+    ensures refused { IfErr result (RefusesPriceNumbers problem.now prices.now) }
 {
     problem.law();
     schedule_is_bounded();
-    checked_prices(problem, prices)?;
     let exact = exact_bound(alloc, problem, prices)?;
     Ok(rounded_up(exact))
 }
@@ -147,10 +141,10 @@ fn bound_at(alloc: Global, problem: &Problem, prices: &[i64]) -> Result<i128, Re
 ///
 /// # Errors
 ///
-/// The first fault of the text, lack of memory, or a price or a value that is out of range.
+/// The first fault of the text, the first price or the first value that is out of range, or lack of memory.
 pub(crate) fn bound_of(alloc: Global, problem: &Problem, text: &[u8]) -> Result<i128, Refused>
     ensures bound { IfOk result (IsBoundOf problem.now text.now) }
-    ensures refused { IfErr result (RefusesPriceText problem.now.limits problem.now.periods text.now) }
+    ensures refused { IfErr result (RefusesPriceText problem.now text.now) }
 {
     let prices = match parse_prices(alloc, problem.limits(), problem.periods(), text) {
         Ok(prices) => prices,

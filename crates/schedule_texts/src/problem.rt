@@ -82,8 +82,11 @@ fn read_lists(alloc: Global, counts: Counts, rows: &mut TextRows) -> Result<List
     ensures gives { Gives (λ l. (lists l.counts l.discounts.items l.capacities.items l.values.items l.uses.items l.amounts.items, rows_at rows.new.number rows.new.rest.now)) result
         (sections_of (lines_at rows.old.number rows.old.rest.now) counts (rows_at rows.old.number rows.old.rest.now)) }
     ensures counts { IfOk result (λ l. l.counts ≡ counts) }
+    ensures discounts { IfOk result (λ l. length l.discounts.items ≡ counts.periods) }
+    ensures capacities { IfOk result (λ l. length l.capacities.items ≡ counts.limits * counts.periods) }
     ensures values { IfOk result (λ l. length l.values.items ≡ counts.values * 3) }
     ensures uses { IfOk result (λ l. length l.uses.items ≡ counts.uses * 4) }
+    ensures amounts { IfOk result (λ l. length l.amounts.items ≡ counts.blocks * counts.columns) }
 {
     let discounts = read_section(alloc, Word::Discounts, decimals(counts.periods), 1, rows)?;
     let capacities = read_section(
@@ -120,8 +123,11 @@ fn read_lists(alloc: Global, counts: Counts, rows: &mut TextRows) -> Result<List
 #[tactic(auto, unfolding(crate::specs::ProblemText::lists_of_rows))]
 pub fn parse_problem(alloc: Global, text: &[u8]) -> Result<Lists, Fault>
     ensures gives { Gives (λ l. lists l.counts l.discounts.items l.capacities.items l.values.items l.uses.items l.amounts.items) result (lists_in text.now) }
+    ensures discounts { IfOk result (λ l. length l.discounts.items ≡ l.counts.periods) }
+    ensures capacities { IfOk result (λ l. length l.capacities.items ≡ l.counts.limits * l.counts.periods) }
     ensures values { IfOk result (λ l. length l.values.items ≡ l.counts.values * 3) }
     ensures uses { IfOk result (λ l. length l.uses.items ≡ l.counts.uses * 4) }
+    ensures amounts { IfOk result (λ l. length l.amounts.items ≡ l.counts.blocks * l.counts.columns) }
 {
     let mut rows = TextRows::new(text);
     check_titled(Word::Problem, &mut rows)?;

@@ -43,7 +43,8 @@ pub fn parse_prices(
     periods: u32,
     text: &[u8],
 ) -> Result<Vec<i64>, Fault>
-    ensures { Gives (λ v. v.items) result (prices_in limits periods text.now) }
+    ensures gives { Gives (λ v. v.items) result (prices_in limits periods text.now) }
+    ensures size { IfOk result (λ v. length v.items ≡ limits * periods) }
 {
     let mut rows = TextRows::new(text);
     check_titled(Word::Prices, &mut rows)?;

@@ -1,11 +1,13 @@
 -- What is summed to check a schedule, and why a list of shares is no schedule.
-use Rattle.std.specs.Prelude.{◌≡◌, ℕ, suc, ◌+◌, ◌-◌, ◌*◌, ◌<◌, ◌≤◌, ◌==◌, ℤ, pos, ◌*ℤ◌, ◌<ℤ◌, List, length, get_or, leb}
+use Rattle.std.specs.Prelude.{◌≡◌, ℕ, suc, ◌+◌, ◌-◌, ◌*◌, ◌<◌, ◌≤◌, ◌==◌, ℤ, pos, ◌*ℤ◌, ◌≤ℤ◌, List, length, get_or, leb}
 use Rattle.pit_model.specs.Sum.{total, when}
 use Rattle.pit_model.specs.Graph.{first_of, second_of}
 use Rattle.schedule_model.specs.declared.term.Effect.{Effect}
 use Rattle.schedule_model.specs.declared.term.Effect.TheVariants.{Value, Use}
 use Rattle.schedule_model.specs.Problem.{Problem, amount_in, capacity, discount, term_at}
-use Rattle.schedule_model.specs.Schedule.{mined_in_first, share, usage, whole_block}
+use Rattle.schedule_model.specs.Schedule.{share, usage, whole_block}
+use Rattle.scheduling.specs.First.{IsFirstWithout}
+use Rattle.scheduling.specs.Order.{AreMinedOnceBy, IsInOrder, IsInOrderBefore, IsInOrderBy, IsMinedOnceBy, IsPairInOrderBy}
 use Rattle.scheduling.specs.declared.schedule_error.ScheduleError.{ScheduleError}
 use Rattle.scheduling.specs.declared.schedule_error.ScheduleError.TheVariants.{NoMemory, WrongCount, ShareAbove, MinedTwice, BeforeNeeded, OverLimit}
 
@@ -41,15 +43,22 @@ term_value problem shares d (Use q) column lag = pos 0
 abbrev pub part_of_value : Problem → List ℕ → ℕ → ℤ
 part_of_value problem shares k = term_value problem shares (term_at problem k).destination (term_at problem k).effect (term_at problem k).column (term_at problem k).lag
 
--- why shares are no schedule: no memory; not a share of each kind; a share above a whole block; a block that is mined more than once by the end of a period; one of which more is mined by then than of
--- a block that it needs; or a limit that is exceeded in a period
+-- a limit is kept in a period
+abbrev pub IsWithinLimit : Problem → List ℕ → ℕ → ℕ → Type 0
+IsWithinLimit problem shares r s = usage problem shares r s ≤ℤ (pos whole_block *ℤ capacity problem r s)
+
+-- why shares are no schedule: no memory; not a share of each kind; the first share above a whole block; or the first of these. Period by period:
+-- a block that is mined more than once by its end, then a pair of blocks of which more is mined of the one than of the other, which it needs; and
+-- after all periods, limit by limit, a period in which it is exceeded
 abbrev pub RefusesShares : Problem → List ℕ → ScheduleError → Type 0
 RefusesShares problem shares NoMemory = Unit {0}
 RefusesShares problem shares WrongCount = length shares ≡ problem.periods * problem.blocks * problem.destinations → ⊥
-RefusesShares problem shares (ShareAbove i) = (i < length shares) × (whole_block < get_or shares i 0)
-RefusesShares problem shares (MinedTwice block period) = (block < problem.blocks) × (period < problem.periods) × (pos whole_block <ℤ mined_in_first problem shares block (suc period))
+RefusesShares problem shares (ShareAbove i) = (i < length shares) × IsFirstWithout (λ j. get_or shares j 0 ≤ whole_block) i
+RefusesShares problem shares (MinedTwice block period) =
+    (block < problem.blocks) × (period < problem.periods) × IsInOrderBefore problem shares period × IsFirstWithout (IsMinedOnceBy problem shares period) block
 RefusesShares problem shares (BeforeNeeded block needed period) =
     (k : ℕ) × (k < length problem.pairs) × (first_of problem.pairs k ≡ block) × (second_of problem.pairs k ≡ needed) × (period < problem.periods)
-    × (mined_in_first problem shares needed (suc period) <ℤ mined_in_first problem shares block (suc period))
+    × IsInOrderBefore problem shares period × AreMinedOnceBy problem shares period × IsFirstWithout (IsPairInOrderBy problem shares period) k
 RefusesShares problem shares (OverLimit limit period used) =
-    (limit < problem.limits) × (period < problem.periods) × (used ≡ usage problem shares limit period) × ((pos whole_block *ℤ capacity problem limit period) <ℤ used)
+    (limit < problem.limits) × (period < problem.periods) × (used ≡ usage problem shares limit period) × IsInOrder problem shares
+    × ((r s : ℕ) → r < limit → s < problem.periods → IsWithinLimit problem shares r s) × IsFirstWithout (IsWithinLimit problem shares limit) period

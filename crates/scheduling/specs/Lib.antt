@@ -1,3 +1,4 @@
+pub mod First
 pub mod Limits
 pub mod Parts
 pub mod Weights

@@ -8,6 +8,7 @@ use Rattle.schedule_model.specs.declared.term.Term.{Term}
 use Rattle.schedule_model.specs.declared.term.Effect.{Effect}
 use Rattle.schedule_model.specs.declared.term.Effect.TheVariants.{Value, Use}
 use Rattle.schedule_model.specs.Problem.{Problem, term_at}
+use Rattle.scheduling.specs.First.{IsFirstWithout}
 
 -- a number at most so far from 0
 pub record IsWithinDistance (most : ℕ) (x : ℤ) : Type 0 where
@@ -101,9 +102,9 @@ pub record ArePriceNumbers (problem : Problem) (prices : List ℤ) : Type 0 wher
   pub least : (i : ℕ) → i < length prices → pos 0 ≤ℤ get_or prices i (pos 0)
   pub most : (i : ℕ) → i < length prices → get_or prices i (pos 0) ≤ℤ pos most_price
 
--- why numbers are no prices: not a price for each limit in each period, or one that is out of range
+-- why numbers are no prices: not a price for each limit in each period, or one that is out of range, the first of them
 abbrev pub RefusesPrices : ℕ → List ℤ → BoundError → Type 0
 RefusesPrices count prices NoMemory = ⊥
 RefusesPrices count prices PriceCount = length prices ≡ count → ⊥
-RefusesPrices count prices (PriceOutOfRange i) = (i < length prices) × (IsPrice (get_or prices i (pos 0)) → ⊥)
+RefusesPrices count prices (PriceOutOfRange i) = (i < length prices) × IsFirstWithout (λ j. IsPrice (get_or prices j (pos 0))) i
 RefusesPrices count prices (ValueBeyond node) = ⊥

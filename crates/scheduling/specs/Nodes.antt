@@ -23,14 +23,21 @@ pub record AreNodeValues (gains : List ℤ) (blocks count : ℕ) (values : List 
   pub rounded : (i : ℕ) → i < count → IsRoundedUp (step_of gains blocks i) (get_or values i (pos 0))
   pub within : (i : ℕ) → i < count → IsWithinDistance most_value (get_or values i (pos 0))
 
--- a node whose value is out of range
+-- the value of a node is within its range
+pub record IsInValueRange (gains : List ℤ) (blocks node : ℕ) : Type 0 where
+  pub rounded : ℤ
+  pub rounded_is : IsRoundedUp (step_of gains blocks node) rounded
+  pub within : IsWithinDistance most_value rounded
+
+-- the first node whose value is out of range
 pub record IsBeyond (gains : List ℤ) (blocks node : ℕ) : Type 0 where
   pub node_in : node < length gains
   pub rounded : ℤ
   pub rounded_is : IsRoundedUp (step_of gains blocks node) rounded
   pub beyond : IsWithinDistance most_value rounded → ⊥
+  pub before : (i : ℕ) → i < node → IsInValueRange gains blocks i
 
--- why there are no values: no memory, or a node whose value is out of range
+-- why there are no values: no memory, or the first node whose value is out of range
 abbrev pub RefusesValues : List ℤ → ℕ → BoundError → Type 0
 RefusesValues gains blocks NoMemory = Unit {0}
 RefusesValues gains blocks PriceCount = ⊥

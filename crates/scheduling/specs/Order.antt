@@ -10,10 +10,25 @@ pub record AreMinedBy (problem : Problem) (shares : List ℕ) (periods : ℕ) (b
   pub each : (b : ℕ) → b < problem.blocks → pos (get_or by_now b 0) ≡ mined_in_first problem shares b periods
   pub most : (b : ℕ) → b < problem.blocks → get_or by_now b 0 ≤ whole_block
 
--- by the end of a period no more of a block is mined than of each block that it needs
+-- by the end of a period no more than the whole of a block is mined; and of all blocks
+abbrev pub IsMinedOnceBy : Problem → List ℕ → ℕ → ℕ → Type 0
+IsMinedOnceBy problem shares t b = mined_in_first problem shares b (suc t) ≤ℤ pos whole_block
+
+abbrev pub AreMinedOnceBy : Problem → List ℕ → ℕ → Type 0
+AreMinedOnceBy problem shares t = (b : ℕ) → b < problem.blocks → IsMinedOnceBy problem shares t b
+
+-- by the end of a period no more of a block is mined than of a block that it needs; and so for all pairs
+abbrev pub IsPairInOrderBy : Problem → List ℕ → ℕ → ℕ → Type 0
+IsPairInOrderBy problem shares t k =
+    mined_in_first problem shares (first_of problem.pairs k) (suc t) ≤ℤ mined_in_first problem shares (second_of problem.pairs k) (suc t)
+
 abbrev pub IsInOrderBy : Problem → List ℕ → ℕ → Type 0
-IsInOrderBy problem shares t =
-    (k : ℕ) → k < length problem.pairs → mined_in_first problem shares (first_of problem.pairs k) (suc t) ≤ℤ mined_in_first problem shares (second_of problem.pairs k) (suc t)
+IsInOrderBy problem shares t = (k : ℕ) → k < length problem.pairs → IsPairInOrderBy problem shares t k
+
+-- both hold by the end of each earlier period
+pub record IsInOrderBefore (problem : Problem) (shares : List ℕ) (t : ℕ) : Type 0 where
+  pub once : (s : ℕ) → s < t → AreMinedOnceBy problem shares s
+  pub in_order : (s : ℕ) → s < t → IsInOrderBy problem shares s
 
 pub record IsInOrder (problem : Problem) (shares : List ℕ) : Type 0 where
   pub once : (b : ℕ) → b < problem.blocks → mined_in_first problem shares b problem.periods ≤ℤ pos whole_block

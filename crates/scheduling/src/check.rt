@@ -2,7 +2,8 @@
 ghost use Rattle.std.specs.Prelude.{◌≡◌, ◌<◌, ℕ, pos, ◌*ℤ◌, ◌≤ℤ◌, IfOk, IfErr, OnOk};
 ghost use Rattle.schedule_model.specs.Problem.{capacity};
 ghost use Rattle.schedule_model.specs.Schedule.{schedule_value, usage, whole_block, IsSchedule};
-ghost use Rattle.scheduling.specs.Checked.{AreShares, RefusesShares};
+ghost use Rattle.scheduling.specs.Checked.{AreShares, IsWithinLimit, RefusesShares};
+ghost use Rattle.scheduling.specs.Order.{IsInOrder};
 
 use crate::limits::first_share_above;
 use crate::moved::{schedule_value, usage};
@@ -26,7 +27,9 @@ fn capacity_of_shares(problem: &Problem, limit: u32, period: u32) -> i128
 fn check_limit(problem: &Problem, shares: &[u32], limit: u32) -> Result<(), ScheduleError>
     requires shares { AreShares problem.now shares.now }
     requires limit { limit < problem.now.limits }
-    ensures within { OnOk result ((s : ℕ) → s < problem.now.periods → usage problem.now shares.now limit s ≤ℤ (pos whole_block *ℤ capacity problem.now limit s)) }
+    requires order { IsInOrder problem.now shares.now }
+    requires before { (r s : ℕ) → r < limit → s < problem.now.periods → IsWithinLimit problem.now shares.now r s }
+    ensures within { OnOk result ((s : ℕ) → s < problem.now.periods → IsWithinLimit problem.now shares.now limit s) }
     ensures refused { IfErr result (RefusesShares problem.now shares.now) }
 {
     for period in 0..problem.periods() {
@@ -40,8 +43,9 @@ fn check_limit(problem: &Problem, shares: &[u32], limit: u32) -> Result<(), Sche
 
 /// Checks all limits in all periods.
 fn check_limits(problem: &Problem, shares: &[u32]) -> Result<(), ScheduleError>
-    requires { AreShares problem.now shares.now }
-    ensures within { OnOk result ((r s : ℕ) → r < problem.now.limits → s < problem.now.periods → usage problem.now shares.now r s ≤ℤ (pos whole_block *ℤ capacity problem.now r s)) }
+    requires shares { AreShares problem.now shares.now }
+    requires order { IsInOrder problem.now shares.now }
+    ensures within { OnOk result ((r s : ℕ) → r < problem.now.limits → s < problem.now.periods → IsWithinLimit problem.now shares.now r s) }
     ensures refused { IfErr result (RefusesShares problem.now shares.now) }
 {
     for limit in 0..problem.limits() {
@@ -54,8 +58,8 @@ fn check_limits(problem: &Problem, shares: &[u32]) -> Result<(), ScheduleError>
 ///
 /// # Errors
 ///
-/// If memory runs out; if there are more or fewer shares, or one is more than a block; if a block is mined more than once, or before one that it
-/// needs; or if a limit is exceeded.
+/// If memory runs out, or if there are more or fewer shares. Otherwise the first share above a block, the first block that is mined twice or before
+/// one that it needs, or the first limit that is exceeded.
 pub fn check_schedule(
     alloc: Global,
     problem: &Problem,

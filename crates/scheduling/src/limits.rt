@@ -3,6 +3,7 @@ ghost use Rattle.std.specs.Prelude.{◌≡◌, ◌<◌, ◌≤◌, ◌+◌, ◌*
 ghost use Rattle.pit_model.specs.Size.{most_blocks, most_pairs};
 ghost use Rattle.schedule_model.specs.Problem.{no_term};
 ghost use Rattle.schedule_model.specs.Schedule.{whole_block};
+ghost use Rattle.scheduling.specs.First.{IsFirstWithout};
 ghost use Rattle.scheduling.specs.Limits.{ArePriceNumbers, AreSizes, AreWithinDistance, IsPrice, IsTermOf, RefusesPrices, UsesALimit};
 
 use crate::bound_error::BoundError;
@@ -101,7 +102,7 @@ pub(crate) fn are_sizes(graph: &Graph, sizes: Sizes) -> bool
 pub(crate) fn first_share_above(shares: &[u32]) -> Option<u32>
     requires { length shares.now < 2 ^ 32 }
     ensures none { IfNone result ((i : ℕ) → i < length shares.now → get_or shares.now i 0 ≤ whole_block) }
-    ensures some { IfSome result (λ i. (i < length shares.now) × (whole_block < get_or shares.now i 0)) }
+    ensures some { IfSome result (λ i. (i < length shares.now) × IsFirstWithout (λ j. get_or shares.now j 0 ≤ whole_block) i) }
 {
     for i in 0..shares.len() {
         if shares[i] > 1_000_000 {
@@ -115,7 +116,7 @@ pub(crate) fn first_share_above(shares: &[u32]) -> Option<u32>
 fn first_no_price(prices: &[i64]) -> Option<u32>
     requires { length prices.now < 2 ^ 32 }
     ensures none { IfNone result ((i : ℕ) → i < length prices.now → IsPrice (get_or prices.now i (pos 0))) }
-    ensures some { IfSome result (λ i. (i < length prices.now) × (IsPrice (get_or prices.now i (pos 0)) → ⊥)) }
+    ensures some { IfSome result (λ i. (i < length prices.now) × IsFirstWithout (λ j. IsPrice (get_or prices.now j (pos 0))) i) }
 {
     for i in 0..prices.len() {
         if prices[i] < 0 || prices[i] > 1_000_000_000_000_000 {

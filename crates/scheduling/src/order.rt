@@ -3,7 +3,8 @@ ghost use Rattle.std.specs.Prelude.{◌≡◌, ◌<◌, ◌≤◌, ◌+◌, ◌*
 ghost use Rattle.pit_model.specs.Graph.{first_of, second_of};
 ghost use Rattle.schedule_model.specs.Schedule.{mined, mined_in_first, whole_block};
 ghost use Rattle.scheduling.specs.Checked.{AreShares, RefusesShares};
-ghost use Rattle.scheduling.specs.Order.{AreMinedBy, IsInOrder, IsInOrderBy};
+ghost use Rattle.scheduling.specs.First.{IsFirstWithout};
+ghost use Rattle.scheduling.specs.Order.{AreMinedBy, AreMinedOnceBy, IsInOrder, IsInOrderBefore, IsInOrderBy, IsMinedOnceBy};
 
 use crate::moved::share;
 use crate::problem::Problem;
@@ -35,7 +36,7 @@ fn add_mined(problem: &Problem, shares: &[u32], period: u32, by_now: &mut [u32])
     requires period { period < problem.now.periods }
     requires before { AreMinedBy problem.now shares.now period by_now.old }
     ensures added { IfNone result (AreMinedBy problem.now shares.now (period + 1) by_now.new) }
-    ensures twice { IfSome result (λ b. RefusesShares problem.now shares.now (ScheduleError.MinedTwice b period)) }
+    ensures twice { IfSome result (λ b. (b < problem.now.blocks) × IsFirstWithout (IsMinedOnceBy problem.now shares.now period) b) }
 {
     for block in 0..problem.blocks() {
         let sum = by_now[block as usize] + mined(problem, shares, period, block);
@@ -51,7 +52,8 @@ fn add_mined(problem: &Problem, shares: &[u32], period: u32, by_now: &mut [u32])
 fn out_of_order(problem: &Problem, by_now: &[u32]) -> Option<(u32, u32)>
     requires { length by_now.now ≡ problem.now.blocks }
     ensures none { IfNone result ((k : ℕ) → k < length problem.now.pairs → get_or by_now.now (first_of problem.now.pairs k) 0 ≤ get_or by_now.now (second_of problem.now.pairs k) 0) }
-    ensures some { IfSome result (λ pair. (k : ℕ) × (k < length problem.now.pairs) × (get_or problem.now.pairs k (0, 0) ≡ pair) × (get_or by_now.now pair.1 0 < get_or by_now.now pair.0 0)) }
+    ensures some { IfSome result (λ pair. (k : ℕ) × (k < length problem.now.pairs) × (get_or problem.now.pairs k (0, 0) ≡ pair)
+        × IsFirstWithout (λ j. get_or by_now.now (first_of problem.now.pairs j) 0 ≤ get_or by_now.now (second_of problem.now.pairs j) 0) k) }
 {
     problem.law();
     let graph = problem.graph();
@@ -75,7 +77,9 @@ fn check_period(
     requires shares { AreShares problem.now shares.now }
     requires period { period < problem.now.periods }
     requires before { AreMinedBy problem.now shares.now period by_now.old }
+    requires kept { IsInOrderBefore problem.now shares.now period }
     ensures added { OnOk result (AreMinedBy problem.now shares.now (period + 1) by_now.new) }
+    ensures once { OnOk result (AreMinedOnceBy problem.now shares.now period) }
     ensures order { OnOk result (IsInOrderBy problem.now shares.now period) }
     ensures refused { IfErr result (RefusesShares problem.now shares.now) }
 {

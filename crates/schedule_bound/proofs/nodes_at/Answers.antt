@@ -1,6 +1,6 @@
 -- The nodes have the values of the best gains.
-use Rattle.std.proofs.Common.{◌∙◌, List, ap, length, subst, sym}
-use Rattle.std.specs.Prelude.{ℕ, ℤ}
+use Rattle.std.proofs.Common.{◌∙◌, List, ap, get_or, length, subst, sym}
+use Rattle.std.specs.Prelude.{ℕ, ℤ, pos}
 use Rattle.pit_model.specs.Graph.{Graph}
 use Rattle.schedule_model.specs.Bound.{AreNodePairs}
 use Rattle.scheduling.specs.Nodes.{AreNodeValues}
@@ -22,5 +22,6 @@ returns-in-Ok-clause-nodes c =
     record {
       gains = gains;
       best = c.in_ok-gains.ensures;
+      within = λ i h. record { rounded = get_or values i (pos 0); rounded_is = are.rounded i h; within = are.within i h };
       expanded = nodes_expanded problem gains values nodes c.in_ok-gains.ensures.count are (c.new-in-Ok.ensures.blocks ∙ ap (λ (g : Graph). g.blocks) graph_is ∙ c.in-Ok.ensures.blocks) c.new-in-Ok.ensures.values pairs;
     }

@@ -19,6 +19,6 @@ returns-clause-bound c =
     let e : to_z w128 (of_z w128 shown) ≡ shown = to_z-of_z w128 shown (record { sfits = c.rounded_up.type_inv }) in
     let bound : IsLagrangianBound problem prices exact = c.in_ok-exact.ensures.bound in
     let up : IsRoundedUp exact shown = search rules in
-    let are : ArePriceNumbers problem prices = search rules in
+    let are : ArePriceNumbers problem prices = c.in_ok-exact.ensures.prices in
     subst (IsBoundAt problem prices) (sym e)
-    (record { exact = exact; is = bound; rounded = up; none_is_worth_more = none_is_worth_more problem prices exact shown c.schedule_is_bounded.ensures c.law.ensures are bound up })
+    (record { prices_are = are; nodes = c.in_ok-exact.ensures.nodes; exact = exact; is = bound; rounded = up; none_is_worth_more = none_is_worth_more problem prices exact shown c.schedule_is_bounded.ensures c.law.ensures are bound up })
