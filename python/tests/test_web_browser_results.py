@@ -146,6 +146,26 @@ def test_the_time_of_a_slider_with_300_000_blocks(driver, server):
         assert float(driver.execute_script("return document.body.dataset.milliseconds")) < 200
 
 
+def test_null_grades_are_grey_and_the_page_begins_at_the_richest_block(driver, server):
+    """The first block of the table is null. Its place is grey, and the sections begin at the greatest grade that is known."""
+    folder = server.root / "nulls"
+    folder.mkdir()
+    table = rows(12, 10, 2, cu=lambda i, j, k: -99 if i < 3 else 2.0 if (i, j, k) == (7, 4, 1) else 0.0)
+    table.to_csv(folder / "blocks.csv", index=False)
+    nulls = TEXT.replace("[table]\n", '[table]\nempty = "zero"\nnull_values = [-99]\n', 1)
+    (folder / "project.toml").write_text(nulls)
+    enter(driver, server)
+    driver.get(f"{server.address}/blocks?name=nulls/project.toml")
+    wait(driver, lambda it: it.execute_script("return document.body.dataset.milliseconds"))
+    assert (
+        driver.find_element(ID, "bench-at").text == "toe 10 m"
+        and driver.find_element(ID, "column-at").text == "east 75 m"
+    )
+    assert pixel(driver, 1, 1)[:3] == [0x9A, 0x9A, 0x9A] != pixel(driver, 5, 1)[:3]
+    assert "null, read as 0: 60 blocks" in driver.find_element(ID, "legend").text
+    assert driver.execute_script("return app.words(0)") == "cu null, read as 0"
+
+
 def test_the_3d_view_is_made_and_embedded_and_a_table_is_exported(driver, server):
     enter(driver, server)
     complaints(driver)

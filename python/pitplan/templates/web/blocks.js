@@ -300,7 +300,7 @@ class App {
     const { values } = this.column;
     let best = 0;
     for (let row = 1; row < values.length; row++) {
-      best = values[row] > values[best] ? row : best;
+      best = values[row] > values[best] || Number.isNaN(values[best]) ? row : best;
     }
     const cell = this.model.rowOf.indexOf(best), { rows, columns } = this.model;
     if (cell >= 0) {
@@ -391,7 +391,8 @@ class App {
 
   words(row) {
     const { values, labels, unit, name } = this.column, value = values[row];
-    const said = labels.length ? (value ? labels[value - 1] : "none") : shown(value) + (unit ? " " + unit : "");
+    const number = Number.isNaN(value) ? "null, read as 0" : shown(value) + (unit ? " " + unit : "");
+    const said = labels.length ? (value ? labels[value - 1] : "none") : number;
     return name + " " + said;
   }
 
