@@ -182,7 +182,9 @@ def test_levels_left_out_are_the_fewest_that_hold_the_walls_to_half_a_degree(wal
         slope_patterns.pattern_of(wall, size, Slopes(levels, False, (wall,))) for levels in range(1, chosen.levels + 1)
     ]
     assert chosen.offsets == given_[-1].offsets
-    assert chosen.errors.max() <= 0.5 or chosen.levels == 40
+    more = slope_patterns.cone(wall.angles, size, chosen.levels + 1)
+    is_cut = chosen.wanted is not None and len(slope_patterns.offsets_of(more)) > 250 >= len(chosen.offsets)
+    assert chosen.errors.max() <= 0.5 or chosen.levels == 40 or is_cut
     assert all(fewer.errors.max() > 0.5 for fewer in given_[:-1])
 
 
@@ -388,3 +390,50 @@ def test_the_greatest_of_cells_above_is_that_of_loops_in_the_audit(seed):
         places = {(row + it.north, column + east) for it in runs for east in range(it.west, it.east + 1)}
         cells = [above[level, r, c] for r, c in places if 0 <= r < rows and 0 <= c < columns]
         assert found[level, row, column] == max(cells, default=0)
+
+
+WANTED = (
+    "0.5 degrees would take {} precedences, above the 250 that are chosen at most: set [slopes] precedence_benches = {}"
+)
+
+
+@pytest.mark.parametrize(
+    ("angle", "benches", "precedences", "error", "wanted"),
+    [(40, 14, 237, 1.0, (717, 28)), (38, 11, 233, 1.5, (437, 18)), (45, 17, 37, 0.5, None), (30, 12, 125, 0.3, None)],
+)
+def test_a_block_has_at_most_250_precedences_by_default(angle, benches, precedences, error, wanted):
+    """One bench more would have more than 250, by the count of the audit too. The note has the error and what would keep half a degree."""
+    wall = Wall(None, None, ((0.0, float(angle)),))
+    pattern = slope_patterns.pattern_of(wall, FLAT, Slopes(None, False, (wall,)))
+    assert (pattern.levels, len(pattern.offsets)) == (benches, precedences)
+    assert pattern.errors.max() == pytest.approx(error, abs=0.05) and f"slope error +{error}" in pattern.sentence()
+    assert pattern.sentence().endswith("is steeper)" if wanted is None else f"; {WANTED.format(*wanted)}")
+    for levels in (benches, benches + 1):
+        cells = slope_patterns.cone(wall.angles, FLAT, levels)
+        assert audited.precedences(wall, FLAT, levels, 0.0) == len(slope_patterns.offsets_of(cells))
+    assert wanted is None or len(slope_patterns.offsets_of(cells)) > slope_patterns.MOST_CHOSEN
+    if wanted is not None:
+        whole = slope_patterns.pattern_of(wall, FLAT, Slopes(wanted[1], False, (wall,)))
+        assert len(whole.offsets) == wanted[0] and whole.errors.max() <= 0.5 and whole.wanted is None
+
+
+def test_the_audit_finds_fewer_benches_than_the_budget_allows(plan_folder, monkeypatch):
+    """It counts precedences itself: with a budget of 100 the planner stops at 89 over 7 benches, where 237 over 14 are allowed."""
+    table = rows(9, 9, 4, cu=lambda i, j, k: 8 if (i, j, k) == (4, 4, 1) else 0)
+    for name, step in zip("xyz", FLAT):
+        table[name] *= step / 10
+    angle = ('pattern = "1:5"', "angle = 40"), ("precedence_benches = 3\n", ""), ("[10, 10, 10]", "[20, 20, 15]")
+    path = plan_folder(table, PROJECT, *angle)
+    pitplan.write_shells(path, path.parent / "plan")
+    monkeypatch.setattr(slope_patterns, "MOST_CHOSEN", 100)
+    with pytest.raises(
+        PlanError, match="levels: domain entry 1: over 7 benches the slope is 2.08 degrees steeper than its angle"
+    ):
+        pitplan.write_shells(path, path.parent / "plan")
+
+
+def test_the_page_says_what_40_degrees_take():
+    page = (ROOT / "docs" / "planning" / "slopes.md").read_text(encoding="utf-8")
+    said = "40 degrees take 717 precedences over 28 benches. pitplan then chooses 237 over 14 benches, which is 1.0 degrees too steep."
+    assert said in page and f"A block has at most {slope_patterns.MOST_CHOSEN} precedences that way" in page
+    assert audited.MOST_CHOSEN == slope_patterns.MOST_CHOSEN

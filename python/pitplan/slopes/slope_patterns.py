@@ -8,6 +8,7 @@ from __future__ import annotations
 
 import math
 from dataclasses import dataclass, replace
+from typing import Optional
 
 import numpy as np
 from scipy.spatial import ConvexHull, QhullError
@@ -27,8 +28,17 @@ PATTERN_OFFSETS = {"1:5": FIVE, "1:9": NINE}
 # Centroids on the cone count as within in spite of rounding errors.
 SLACK = 1e-9
 AZIMUTHS = np.arange(0.0, 360.0, 1.0)
-# Without precedence_benches their number keeps every slope within this slope error, in degrees.
-STEEPER = 0.5
+# Without precedence_benches their number keeps every slope within this slope error, in degrees, unless a block then has more precedences
+# than MOST_CHOSEN. Solver and files take time and memory by precedence: at 40 degrees on blocks of 20 x 20 x 15 m the error takes 717.
+STEEPER, MOST_CHOSEN = 0.5, 250
+
+
+@dataclass(frozen=True)
+class Reach:
+    """How many benches up precedences reach, and how many precedences a block has."""
+
+    levels: int
+    precedences: int
 
 
 @dataclass(frozen=True)
@@ -50,6 +60,8 @@ class Pattern:
         The factor by which the cone was widened for `never_steeper`; 1 if it was not.
     azimuth : float
         Degrees clockwise from north to the grid's north.
+    wanted : Reach, optional
+        What keeps the slope error within STEEPER, if that takes more than MOST_CHOSEN precedences; None if the error is kept or was not asked for.
     """
 
     name: str
@@ -59,6 +71,7 @@ class Pattern:
     errors: np.ndarray
     widened: float = 1.0
     azimuth: float = 0.0
+    wanted: Optional[Reach] = None
 
     @property
     def levels(self) -> int:
@@ -91,7 +104,13 @@ class Pattern:
         )
         if not len(self.errors):
             return text
-        return text + f", slope error {self.errors.max():+.1f} to {self.errors.min():+.1f} degrees (+ is steeper)"
+        text += f", slope error {self.errors.max():+.1f} to {self.errors.min():+.1f} degrees (+ is steeper)"
+        if self.wanted is None:
+            return text
+        return (
+            f"{text}; {STEEPER} degrees would take {self.wanted.precedences} precedences, above the {MOST_CHOSEN} that are chosen at most: "
+            f"set [slopes] precedence_benches = {self.wanted.levels}"
+        )
 
 
 def cotangents(angles: Angles, azimuths: np.ndarray) -> np.ndarray:
@@ -218,7 +237,8 @@ def pattern_of(asked_wall: Wall, size: tuple[float, float, float], slopes: Slope
         )
     of_dip = " (dip directions)" if asked_wall.azimuth_of == DIP else ""
     asked = np.degrees(np.arctan2(1.0, cotangents(wall.angles, AZIMUTHS)))
-    levels = levels_of(wall, size, asked) if slopes.precedence_benches is None else slopes.precedence_benches
+    wanted = levels_of(wall, size, asked) if slopes.precedence_benches is None else slopes.precedence_benches
+    levels = wanted if slopes.precedence_benches is not None else within_most_chosen(wall, size, wanted)
     widened = widening(wall, size, levels, asked) if slopes.never_steeper else 1.0
     cells = cone(wall.angles, size, levels, widened)
     angles = angles_of_cone(cells, size)
@@ -229,7 +249,10 @@ def pattern_of(asked_wall: Wall, size: tuple[float, float, float], slopes: Slope
     )
     if wall.bench:
         where += f", benches of {wall.bench.height:g} m, face angle {wall.bench.face_angle:g} degrees, berms of {wall.bench.berm_width:g} m"
-    return Pattern(f"{where}, {said} degrees", cells, offsets_of(cells), angles, angles - asked, widened, azimuth)
+    reach = Reach(wanted, len(offsets_of(cone(wall.angles, size, wanted)))) if levels < wanted else None
+    return Pattern(
+        f"{where}, {said} degrees", cells, offsets_of(cells), angles, angles - asked, widened, azimuth, reach
+    )
 
 
 def levels_of(wall: Wall, size: tuple[float, float, float], asked: np.ndarray) -> int:
@@ -240,6 +263,15 @@ def levels_of(wall: Wall, size: tuple[float, float, float], asked: np.ndarray) -
         if (angles_of(points) - asked).max() <= STEEPER:
             return levels
     return MOST_LEVELS
+
+
+def within_most_chosen(wall: Wall, size: tuple[float, float, float], levels: int) -> int:
+    """Returns the greatest number of benches, up to `levels`, over which a block has at most MOST_CHOSEN precedences; at least 1.
+
+    Those to a bench do not depend on the benches above it, so they are counted from the lowest bench up.
+    """
+    ups = [up for _, _, up in offsets_of(cone(wall.angles, size, levels))]
+    return levels if len(ups) <= MOST_CHOSEN else max(1, ups[MOST_CHOSEN] - 1)
 
 
 def widening(wall: Wall, size: tuple[float, float, float], levels: int, asked: np.ndarray) -> float:

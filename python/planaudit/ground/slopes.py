@@ -16,7 +16,7 @@ from planaudit.rules import TOLD, Rule, rule
 NEIGHBOURS = {"1:5": 1, "1:9": 2}
 HAIR = 1e-9
 STEEPER = 0.5
-MOST_LEVELS = 40
+MOST_LEVELS, MOST_CHOSEN = 40, 250
 
 
 @dataclass(frozen=True)
@@ -121,7 +121,8 @@ def verify(answer: Answer) -> Rule:
 
 
 def verify_steepness(answer: Answer) -> Rule:
-    """Verifies that without `precedence_benches` no slope error exceeds half a degree, unless their number is the largest."""
+    """Verifies that without `precedence_benches` no slope error exceeds half a degree, unless their number is the largest, or a block would have too
+    many precedences over a bench more."""
     slopes, differences = answer.project.slopes, []
     if slopes.precedence_benches is not None:
         return rule(
@@ -132,15 +133,44 @@ def verify_steepness(answer: Answer) -> Rule:
         steeper = 0.0
         if not wall.pattern and not wall.offsets:
             steeper = float((high_walls(wall, answer.size, levels, answer.azimuth) - asked(wall, answer.azimuth)).max())
-        if steeper > STEEPER + 1e-6 and levels < MOST_LEVELS:
+        is_steeper = steeper > STEEPER + 1e-6 and levels < MOST_LEVELS
+        if is_steeper and precedences(wall, answer.size, levels + 1, answer.azimuth) <= MOST_CHOSEN:
             differences.append(
                 f"domain entry {number + 1}: over {levels} benches the slope is {steeper:.2f} degrees steeper than its angle"
             )
     return rule(
         "levels",
-        f"no slope is more than {STEEPER} degrees steeper than its angle, or precedences reach over {MOST_LEVELS} benches",
+        f"no slope is more than {STEEPER} degrees steeper than its angle, or precedences reach over {MOST_LEVELS} benches, or over one more a "
+        f"block would have more than {MOST_CHOSEN}",
         differences,
     )
+
+
+def precedences(wall: Wall, size: tuple[float, float, float], levels: int, turn: float) -> int:
+    """Returns how many precedences imply the whole cone: its cells between which and the block no lower cell lies that leads to them."""
+    cones = [cone(wall, size, up, turn) for up in range(1, levels + 1)]
+    found: set[tuple[int, int, int]] = set()
+    for south, west in ((1, 1), (1, -1), (-1, 1), (-1, -1)):
+        kept: list[tuple[int, int, int]] = []
+        for up, inside in enumerate(cones, 1):
+            places = (np.argwhere(inside) - len(inside) // 2) * [south, west]
+            new = [
+                (up, int(north), int(east))
+                for north, east in places[(places >= 0).all(axis=1)]
+                if not any(leads(cones, (up - a, north - b, east - c), south, west) for a, b, c in kept)
+            ]
+            kept += new
+        found |= {(up, north * south, east * west) for up, north, east in kept}
+    return len(found)
+
+
+def leads(cones: list[np.ndarray], step: tuple[int, int, int], south: int, west: int) -> bool:
+    """Whether a step up, north and east within a quarter leads from a cell to one of its cone."""
+    up, north, east = step
+    if up < 1 or north < 0 or east < 0:
+        return False
+    inside, far = cones[up - 1], len(cones[up - 1]) // 2
+    return north <= far and east <= far and bool(inside[far + north * south, far + east * west])
 
 
 def asked(wall: Wall, turn: float) -> np.ndarray:
