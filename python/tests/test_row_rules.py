@@ -125,12 +125,12 @@ def test_an_expression_that_is_none_is_refused_before_reading(plan_folder, expre
     ("expression", "why"),
     [
         ("weath * 2", "there is no column weath"),
-        ("rock + 1", "cannot be evaluated"),
+        ("rock + 1", "arithmetic takes numbers, found texts"),
         ("rock == 1", "the column rock holds texts, compared with the number 1.0"),
         ("tonnes == '100'", "the column tonnes holds numbers, compared with the text '100'"),
         ("1 / (tonnes - 100)", "is infinite"),
         ("if(tonnes > 0, 'a', 'b')", "gives texts, expected numbers"),
-        ("10 ** 10 ** 10 + tonnes", "cannot be evaluated"),
+        ("10 ** 10 ** 10 + tonnes", "is infinite"),
     ],
 )
 def test_an_expression_that_gives_no_grade_is_refused(plan_folder, expression, why):
