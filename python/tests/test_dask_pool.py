@@ -23,6 +23,10 @@ class Joined:
             raise self.answer
         return {worker: function() if answer is None else answer for worker, answer in self.answer.items()}
 
+    def wait_for_workers(self, count, timeout):
+        if self.answer == {}:
+            raise TimeoutError(f"Only 0/{count} workers arrived after {timeout}")
+
     def close(self):
         self.closed = True
 
@@ -36,12 +40,20 @@ def client_of(answer):
             raise answer
         return answer
 
-    return dask_pool.client_of(SimpleNamespace(Client=made), dask_pool.Where(ADDRESS))
+    return dask_pool.client_of(SimpleNamespace(Client=made, TimeoutError=TimeoutError), dask_pool.Where(ADDRESS))
 
 
 def test_workers_of_one_version_are_taken():
     joined = Joined({"tls://mine-4:1": None, "tls://mine-5:1": None})
     assert client_of(joined) is joined and not joined.closed
+
+
+def test_a_scheduler_without_workers_is_named():
+    joined = Joined({})
+    said = f"{ADDRESS}: the scheduler has had no worker for 60 s: start one on each host with dask-worker {ADDRESS}"
+    with pytest.raises(PlanError, match=said):
+        client_of(joined)
+    assert joined.closed
 
 
 def test_a_worker_of_another_version_is_named():

@@ -23,6 +23,8 @@ PACKAGE = "python3-distributed"
 RETRIES = 2
 # How many workers may die during a task before the scheduler counts the task as the cause.
 DEATHS = 5
+# A scheduler without a worker gets so many seconds until one joins.
+PATIENCE = 60.0
 # A server on this address can be reached from this machine only.
 LOOPBACK = "127.0.0.1"
 # The variables by which Dask takes a certificate for an address that begins with tls://.
@@ -98,11 +100,21 @@ def client_of(distributed: Any, where: Where) -> Any:
             f"{where.address}: this host has no certificate: set {', '.join(CERTIFICATE)} to the files of the certificate"
         ) from error
     try:
+        demand_worker(distributed, client, where)
         demand_same_version(client)
     except BaseException:
         client.close()
         raise
     return client
+
+
+def demand_worker(distributed: Any, client: Any, where: Where) -> None:
+    """Raises PlanError if the scheduler has no worker and none joins in PATIENCE seconds."""
+    try:
+        client.wait_for_workers(1, timeout=PATIENCE)
+    except (distributed.TimeoutError, TimeoutError) as error:
+        why = f"the scheduler has had no worker for {PATIENCE:.0f} s"
+        raise PlanError(f"{where.address}: {why}: start one on each host with dask-worker {where.address}") from error
 
 
 def demand_same_version(client: Any) -> None:
