@@ -8,9 +8,15 @@ from typing import Optional
 LINE_ENDS = re.compile("[\n\r\v\f\x1c\x1d\x1e\x85\u2028\u2029]")
 
 
+# A longer sentence quotes a whole file: its middle is left out, so that what was found and the remedy stay.
+MOST_LETTERS = 2_000
+
+
 def on_one_line(text: str) -> str:
-    """A sentence on one line, though a name in it has a line's end, which is shown as Python writes it."""
-    return LINE_ENDS.sub(lambda end: end[0].encode("unicode_escape").decode(), text)
+    """Returns a sentence on one line, of MOST_LETTERS at most. A line's end in a name is shown as Python writes it."""
+    half = MOST_LETTERS // 2 - 3
+    short = text if len(text) <= MOST_LETTERS else f"{text[:half]} [..] {text[-half:]}"
+    return LINE_ENDS.sub(lambda end: end[0].encode("unicode_escape").decode(), short)
 
 
 class PlanError(Exception):

@@ -164,3 +164,9 @@ def test_points_that_are_no_places_are_named(tmp_path, number):
     file = tmp_path / "lease.csv"
     file.write_text("x,y\n0,0\n1e12,0\n10,10\n")
     assert "lease.csv: has a point at 1e+12, 0: expected metres" in refused(readers.areas, SurveyFile(file))
+
+
+def test_a_sentence_that_quotes_a_file_keeps_its_begin_and_its_remedy():
+    said = str(pitplan.PlanError(f"blocks.csv: found {'x' * 140_000}: rename it"))
+    assert len(said) < 2_010 and said.startswith("blocks.csv: found xxx") and said.endswith("xxx: rename it")
+    assert " [..] " in said
