@@ -3,6 +3,7 @@
 from __future__ import annotations
 
 import csv
+import io
 from decimal import Decimal, InvalidOperation
 from pathlib import Path
 from typing import Any
@@ -13,6 +14,8 @@ from .toml_section import Section
 
 # The row of a table below its header.
 FIRST_ROW = 2
+# The most letters of a table: a thousand periods have a tenth of them.
+MOST_LETTERS = 10_000_000
 # The keys whose values are tables of tables.
 NESTED = ("feed", "stockpiles", "dumps")
 
@@ -27,7 +30,14 @@ def sections_of(path: Path) -> list[Section]:
     """
     try:
         with open(path, encoding="utf-8-sig", newline="") as file:
-            rows = list(csv.DictReader(file))
+            text = file.read(MOST_LETTERS + 1)
+        if len(text) > MOST_LETTERS:
+            raise PlanError(
+                f"{path}: has more than {MOST_LETTERS:,} letters, expected a row for each period that differs"
+            )
+        rows = list(csv.DictReader(io.StringIO(text, newline="")))
+    except csv.Error as error:
+        raise PlanError(f"{path}: cannot be read: {error}") from error
     except (OSError, UnicodeDecodeError) as error:
         why = getattr(error, "strerror", None) or "expected text in UTF-8"
         raise PlanError(f"{path}: cannot be read: {why}") from error

@@ -283,7 +283,7 @@ def read_calendar(top: Section, folder: Path) -> Calendar:
         return Calendar()
     if not isinstance(top.get("periods"), str):
         return read_periods(top.sections("periods"))
-    file = folder / top.text("periods")
+    file = top.input("periods", folder)
     return replace(read_periods(period_table.sections_of(file)), file=file)
 
 

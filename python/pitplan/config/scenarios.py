@@ -36,7 +36,7 @@ def read_scenarios(section: Section, folder: Path) -> Scenarios:
             raise section.wrong("columns", "name the columns of at least one metal")
     priced = section.sections("prices") if section.has("prices") else []
     scenarios = Scenarios(
-        folder=folder / section.text("realisations") if given == ["realisations"] else None,
+        folder=section.input("realisations", folder, is_folder=True) if given == ["realisations"] else None,
         columns=columns,
         prices=tuple({name: one.number(name, least=0) for name in one.data} for one in priced) or ({},),
     )

@@ -39,10 +39,10 @@ def read_survey(section: Section, key: str, folder: Path, heights: bool = True) 
     if section.has("layer"):
         raise section.wrong("layer", f'must be in the table of its file: {key} = {{ file = "..", layer = ".." }}')
     if not isinstance(section.get(key), dict):
-        return SurveyFile(folder / section.text(key))
+        return SurveyFile(section.input(key, folder))
     inner = section.section(key)
     file = SurveyFile(
-        folder / inner.text("file"), inner.names("layer") or (), inner.optional_text("height") if heights else None
+        inner.input("file", folder), inner.names("layer") or (), inner.optional_text("height") if heights else None
     )
     inner.finish()
     return file

@@ -102,7 +102,7 @@ class GridRules:
 
 def read_table(section: Section, folder: Path) -> TableColumns:
     columns = TableColumns(
-        file=folder / section.text("file"),
+        file=section.input("file", folder),
         x=section.text("x", "x"),
         y=section.text("y", "y"),
         z=section.text("z", "z"),

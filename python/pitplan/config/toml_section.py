@@ -4,8 +4,10 @@ from __future__ import annotations
 
 import difflib
 from decimal import Decimal
+from pathlib import Path
 from typing import Any, Optional, Union
 
+from pitplan.core import input_places
 from pitplan.core.revenue_factors import GREATEST_FACTOR, PER_MILLE, factor_text, of_decimal, of_per_mille, per_mille
 from pitplan.errors import PlanError
 
@@ -47,6 +49,14 @@ class Section:
     def wrong(self, key: str, why: str) -> PlanError:
         where = f"[{self.name}] " if self.name else ""
         return PlanError(f"{self.file}: {where}{key}: {why}")
+
+    def input(self, key: str, folder: Path, is_folder: bool = False) -> Path:
+        """Returns the path of an input, which the project names from its folder. Raises PlanError if it may not be read."""
+        path = folder / self.text(key)
+        why = input_places.fault(path, is_folder)
+        if why:
+            raise self.wrong(key, f"{self.data[key]}: {why}")
+        return path
 
     def has(self, key: str) -> bool:
         self.asked.add(key)
