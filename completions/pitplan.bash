@@ -27,7 +27,7 @@ _pitplan() {
     "init --role" | "check --set" | "prepare --set" | "shells --set" | "pit --set" | "pit --revenue-factor" | "pit --rf" | "pushbacks --set" | "schedule --set" | "sensitivity --set" | "sensitivity --on" | "sensitivity --workers" | "scenarios --set" | "scenarios --on" | "scenarios --workers" | "scenarios --revenue-factor" | "scenarios --rf" | "gather --revenue-factor" | "gather --rf" | "export --revenue-factor" | "export --rf" | "audit --revenue-factor" | "audit --rf" | "serve --port" | "serve --host")
         return
         ;;
-    "prepare --out" | "shells --out" | "pit --out" | "pushbacks --out" | "schedule --out" | "sensitivity --out" | "compare --out" | "scenarios --out" | "report --sensitivity" | "audit --out" | "convert --out")
+    "prepare --out" | "shells --out" | "pit --out" | "pushbacks --out" | "schedule --out" | "sensitivity --out" | "compare --out" | "scenarios --out" | "report --sensitivity" | "audit --out" | "convert --out" | "serve --inputs")
         _pitplan_paths folder && return
         ;;
     "shells --solver" | "pit --solver" | "pushbacks --solver" | "schedule --solver" | "sensitivity --solver" | "scenarios --solver")
@@ -70,7 +70,7 @@ _pitplan() {
     audit) options="--out --quiet --revenue-factor --rf -h --help" valued="--out --revenue-factor --rf" ;;
     verify) options="-h --help" valued="" ;;
     convert) options="-h --help --out" valued="--out" ;;
-    serve) options="--port --no-browser --host --password-file --certificate --key --new-password -h --help" valued="--port --host --password-file --certificate --key --new-password" ;;
+    serve) options="--port --no-browser --inputs --host --password-file --certificate --key --new-password -h --help" valued="--port --inputs --host --password-file --certificate --key --new-password" ;;
     esac
     # Arguments before this one: words that are neither options nor their values, which bash divides at = and :.
     for ((k = 2; k < COMP_CWORD; k++)); do

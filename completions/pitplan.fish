@@ -154,6 +154,7 @@ complete -c pitplan -n '__fish_seen_subcommand_from convert' -l out -r -fa '(__f
 complete -c pitplan -n '__fish_seen_subcommand_from serve' -fa '(__fish_complete_directories)'
 complete -c pitplan -n '__fish_seen_subcommand_from serve' -l port -r -f -d 'port, 0 to 65535 (default: 0, any free one)'
 complete -c pitplan -n '__fish_seen_subcommand_from serve' -l no-browser -d 'print the address only'
+complete -c pitplan -n '__fish_seen_subcommand_from serve' -l inputs -r -fa '(__fish_complete_directories)' -d 'folder, besides FOLDER, in which the inputs of its projects may lie (repeatable)'
 complete -c pitplan -n '__fish_seen_subcommand_from serve' -l host -r -f -d 'let a team reach this machine by this name or address, over TLS; requires a password file, a certificate and its key'
 complete -c pitplan -n '__fish_seen_subcommand_from serve' -l password-file -r -F -d 'file with the hash of the team\'s password'
 complete -c pitplan -n '__fish_seen_subcommand_from serve' -l certificate -r -F -d 'TLS certificate of the host (PEM)'

@@ -67,8 +67,20 @@ def test_the_token_becomes_a_cookie_that_no_script_and_no_other_site_gets(root, 
     client = client_of(root, access)
     answer = client.get(f"/enter?token={access.token}")
     cookie = answer.headers["set-cookie"].lower()
-    assert answer.headers["location"] == "/" and "httponly" in cookie and "samesite=strict" in cookie
+    assert 'content="0; url=/"' in answer.text and "httponly" in cookie and "samesite=strict" in cookie
     assert client.get("/").status_code == 200
+
+
+def test_the_token_is_for_one_use(root, access, capfd):
+    """A browser that has entered may use its address again; another one needs the address that was printed then."""
+    used = access.token
+    client, other = client_of(root, access), client_of(root, access)
+    client.get(f"/enter?token={used}")
+    assert f"another browser enters by {access.address}" in capfd.readouterr().err and access.token != used
+    assert client.get(f"/enter?token={used}").headers["location"] == "/"
+    answer = other.get(f"/enter?token={used}")
+    assert answer.status_code == 403 and "has been used" in answer.text and "set-cookie" not in answer.headers
+    assert other.get(f"/enter?token={access.token}").status_code == 200 and other.get("/").status_code == 200
 
 
 @pytest.mark.parametrize(
@@ -418,6 +430,12 @@ def served(root):
     process.communicate()
 
 
+def cookie_of(address, token):
+    """The cookie of a browser that enters by the token."""
+    until_true(lambda: socket.create_connection(tuple(address.removeprefix("http://").split(":"))).close() is None)
+    return httpx.get(f"{address}/enter", params={"token": token}).headers["set-cookie"].partition(";")[0]
+
+
 def test_two_hundred_requests_at_a_time_while_a_job_runs(root, served):
     process, address, token = served
 
@@ -446,7 +464,7 @@ def test_a_client_that_first_sends_all_of_a_refused_file_reads_why(root, served)
     connection in the middle of the file."""
     _, address, token = served
     host, size = address.removeprefix("http://"), 40_000_000
-    heads = [f"Host: {host}", f"Origin: {address}", f"Cookie: pitplan-serve-{host.rpartition(':')[2]}={token}"]
+    heads = [f"Host: {host}", f"Origin: {address}", f"Cookie: {cookie_of(address, token)}"]
     heads += [f"Content-Length: {size}", "Connection: close", "", ""]
     unfinished = root / uploads.UNFINISHED
     unfinished.parent.mkdir(exist_ok=True)
@@ -467,7 +485,7 @@ def test_a_block_model_that_is_cut_off_leaves_nothing(root, served):
     """The browser goes away in the middle of a file."""
     _, address, token = served
     host = address.removeprefix("http://")
-    heads = [f"Host: {host}", f"Origin: {address}", f"Cookie: pitplan-serve-{host.rpartition(':')[2]}={token}"]
+    heads = [f"Host: {host}", f"Origin: {address}", f"Cookie: {cookie_of(address, token)}"]
     request = ["PUT /import/file?folder=new&file=b.csv HTTP/1.1", *heads, "Content-Length: 9000000", "", ""]
     waiting = root / uploads.UNFINISHED
     with socket.create_connection(tuple(host.split(":")), timeout=20) as browser:

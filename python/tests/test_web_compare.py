@@ -36,7 +36,7 @@ def client(root):
     access = Access(PORT)
     found = TestClient(make_app(root, access), base_url=f"http://127.0.0.1:{PORT}")
     found.follow_redirects = False
-    assert found.get(f"/enter?token={access.token}").status_code == 303
+    assert found.get(f"/enter?token={access.token}").status_code == 200
     return found
 
 

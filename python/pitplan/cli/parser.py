@@ -127,6 +127,8 @@ def add_serve(subs: Subparsers) -> None:
     sub.add_argument("folder", nargs="?", type=Path, default=Path("."), metavar="FOLDER", help=words)
     sub.add_argument("--port", type=port_of, default=0, metavar="N", help="port, 0 to 65535 (default: 0, any free one)")
     sub.add_argument("--no-browser", action="store_true", help="print the address only")
+    text = "folder, besides FOLDER, in which the inputs of its projects may lie (repeatable)"
+    sub.add_argument("--inputs", type=Path, action="append", default=[], metavar="FOLDER", help=text)
     text = "let a team reach this machine by this name or address, over TLS; requires a password file, a certificate and its key"
     sub.add_argument("--host", metavar="NAME", help=text)
     text = "file with the hash of the team's password"

@@ -304,7 +304,8 @@ def serve(options: Namespace) -> int:
         passwords.write(options.new_password, asked_password())
         print(options.new_password)
         return 0
-    serve(Settings(options.folder, options.port, not options.no_browser, __version__, team_of(options)))
+    team, inputs = team_of(options), tuple(options.inputs)
+    serve(Settings(options.folder, options.port, not options.no_browser, __version__, team, inputs))
     return 0
 
 

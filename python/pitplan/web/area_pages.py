@@ -26,7 +26,7 @@ from .block_pages import BlockPages
 from .grid_columns import at
 from .grids import toml_of
 from .import_roles import in_words
-from .pages import MOST_BYTES, Pages, form_of
+from .pages import MOST_BYTES, Pages, form_of, threaded
 from .project_text import Editor
 from .run_form import WrongForm
 
@@ -54,16 +54,16 @@ class AreaPages:
     def routes(self) -> list[Route]:
         """The addresses."""
         return [
-            Route("/project/area", in_words(self.drawn), methods=["POST"]),
+            Route("/project/area", in_words(threaded(self.drawn, 4 * MOST_BYTES)), methods=["POST"]),
             Route("/project/area-file", in_words(self.uploaded), methods=["PUT"]),
         ]
 
-    async def drawn(self, request: Request) -> Response:
+    def drawn(self, request: Request) -> Response:
         """Adds an area by its corners."""
-        form = await form_of(request, 4 * MOST_BYTES)
+        form = form_of(request)
         corners = corners_of(form.get("corners", ""))
         lines = "".join(f"{x:.3f},{y:.3f}\n" for x, y in corners)
-        return await self.added(form, ".csv", f"x,y\n{lines}".encode())
+        return self.added(form, ".csv", f"x,y\n{lines}".encode())
 
     async def uploaded(self, request: Request) -> Response:
         """Adds an area by its file."""
@@ -76,14 +76,14 @@ class AreaPages:
             content += part
             if len(content) > MOST_FILE:
                 raise WrongForm(f"Polygon: has more than {MOST_FILE >> 20} MiB: export the polygon alone")
-        return await self.added(given, ending, bytes(content))
+        return await run_in_threadpool(self.added, given, ending, bytes(content))
 
-    async def added(self, form: Mapping[str, str], ending: str, content: bytes) -> Response:
+    def added(self, form: Mapping[str, str], ending: str, content: bytes) -> Response:
         """Writes the file and the key, or neither. Raises PlanError if the area cannot be used."""
         name = form.get("project", "")
         path = self.pages.project_path(name)
         area = area_of(path, form, ending)
-        await run_in_threadpool(self.write, path, name, area, content)
+        self.write(path, name, area, content)
         return JSONResponse({"next": f"/blocks?name={quote(name)}"}, status_code=201)
 
     def write(self, path: Path, name: str, area: Area, content: bytes) -> None:

@@ -5,13 +5,12 @@ from __future__ import annotations
 from functools import cached_property
 from typing import TYPE_CHECKING
 
-from starlette.concurrency import run_in_threadpool
 from starlette.requests import Request
 from starlette.responses import JSONResponse, Response
 from starlette.routing import Route
 
 from .import_roles import in_words
-from .pages import Pages
+from .pages import Pages, threaded
 from .workspace import NotThere
 
 # The modules of block models need pandas, which is loaded when a page needs it.
@@ -45,14 +44,14 @@ class BlockPages:
         """The addresses."""
         return [
             Route("/blocks", self.pages.answering(self.page)),
-            Route("/blocks/model", in_words(self.model)),
-            Route("/blocks/cells", in_words(self.cells)),
-            Route("/blocks/column", in_words(self.column)),
-            Route("/blocks/values", in_words(self.values)),
-            Route("/blocks/row", in_words(self.row)),
+            Route("/blocks/model", in_words(threaded(self.model))),
+            Route("/blocks/cells", in_words(threaded(self.cells))),
+            Route("/blocks/column", in_words(threaded(self.column))),
+            Route("/blocks/values", in_words(threaded(self.values))),
+            Route("/blocks/row", in_words(threaded(self.row))),
         ]
 
-    async def page(self, request: Request) -> Response:
+    def page(self, request: Request) -> Response:
         """The page, which asks for its arrays."""
         name = request.query_params.get("name", "")
         path = self.pages.workspace.place(name)
@@ -62,36 +61,34 @@ class BlockPages:
             "blocks.html", title=f"Plans and sections: {name}", name=name, is_project=project is not None
         )
 
-    async def blocks(self, request: Request) -> Blocks:
+    def blocks(self, request: Request) -> Blocks:
         """Returns the blocks that a request names. Raises PlanError if they cannot be read."""
         path = self.pages.workspace.place(request.query_params.get("name", ""))
         if not path.is_dir():
             self.pages.project_path(request.query_params.get("name", ""))
-        return await run_in_threadpool(self.store.of, path)
+        return self.store.of(path)
 
-    async def model(self, request: Request) -> Response:
+    def model(self, request: Request) -> Response:
         """The grid and the columns."""
-        return JSONResponse((await self.blocks(request)).as_json)
+        return JSONResponse(self.blocks(request).as_json)
 
-    async def cells(self, request: Request) -> Response:
+    def cells(self, request: Request) -> Response:
         """The cell of each row, as unsigned integers of 32 bits."""
-        return Response((await self.blocks(request)).cells.astype("<u4").tobytes(), media_type=BYTES)
+        return Response(self.blocks(request).cells.astype("<u4").tobytes(), media_type=BYTES)
 
-    async def column(self, request: Request) -> Response:
+    def column(self, request: Request) -> Response:
         """The range of a column, or its codes with their colours."""
-        blocks = await self.blocks(request)
-        shown = await run_in_threadpool(blocks.column, request.query_params.get("column", ""))
+        shown = self.blocks(request).column(request.query_params.get("column", ""))
         return JSONResponse(shown.as_json)
 
-    async def values(self, request: Request) -> Response:
+    def values(self, request: Request) -> Response:
         """The values of a column by row: floats of 32 bits, or the places of its codes as bytes."""
-        blocks = await self.blocks(request)
-        shown = await run_in_threadpool(blocks.column, request.query_params.get("column", ""))
+        shown = self.blocks(request).column(request.query_params.get("column", ""))
         return Response(shown.values.tobytes(), media_type=BYTES)
 
-    async def row(self, request: Request) -> Response:
+    def row(self, request: Request) -> Response:
         """The fields of the block in a cell."""
         text = request.query_params.get("cell", "")
         if not (text.isascii() and text.isdigit() and len(text) < 12):
             raise NotThere(f"cell {text[:20]}: found no number, expected that of a cell")
-        return JSONResponse((await self.blocks(request)).row(int(text)))
+        return JSONResponse(self.blocks(request).row(int(text)))

@@ -78,11 +78,11 @@ class ComparePages:
             Route("/compare", self.pages.answering(self.compare), methods=["POST"]),
         ]
 
-    async def choose(self, request: Request) -> Response:
+    def choose(self, request: Request) -> Response:
         """The runs to choose from."""
         return self.pages.page("compare.html", title="Compare runs", results=comparable(self.pages.workspace))
 
-    async def compare(self, request: Request) -> Response:
+    def compare(self, request: Request) -> Response:
         """Starts the comparison."""
-        form = await form_of(request)
+        form = form_of(request)
         return self.pages.started(read(form, self.pages.workspace), form)

@@ -39,20 +39,20 @@ class EditPages:
     def routes(self) -> list[Route]:
         """The addresses."""
         return [
-            Route("/project/check", self.pages.answering(self.check), methods=["POST"]),
-            Route("/project/save", self.pages.answering(self.save), methods=["POST"]),
+            Route("/project/check", self.pages.answering(self.check, MOST_BYTES), methods=["POST"]),
+            Route("/project/save", self.pages.answering(self.save, MOST_BYTES), methods=["POST"]),
             Route("/project/values", self.pages.answering(self.values), methods=["POST"]),
         ]
 
-    async def check(self, request: Request) -> Response:
+    def check(self, request: Request) -> Response:
         """Checks the text, and shows it again."""
 
         def shown(name: str, path: Path, editor: Editor) -> Response:
             return self.pages.project_page(name, replace(editor, said="No errors. The text is not saved yet."))
 
-        return await self.answered(request, shown)
+        return self.answered(request, shown)
 
-    async def save(self, request: Request) -> Response:
+    def save(self, request: Request) -> Response:
         """Saves the text if it is a project; otherwise shows it again."""
 
         def saved(name: str, path: Path, editor: Editor) -> Response:
@@ -63,20 +63,20 @@ class EditPages:
                 return self.pages.project_page(name, replace(editor, wrong=str(error)), status)
             return RedirectResponse(f"/project?name={quote(name)}&saved=text#editor", status_code=303)
 
-        return await self.answered(request, saved)
+        return self.answered(request, saved)
 
-    async def answered(self, request: Request, act: Callable[[str, Path, Editor], Response]) -> Response:
+    def answered(self, request: Request, act: Callable[[str, Path, Editor], Response]) -> Response:
         """Returns the answer of `act` to a text that is a project; otherwise the page with the text and its error."""
-        name, editor = await self.editor_of(request)
+        name, editor = self.editor_of(request)
         path = self.place(name, editor)
         if isinstance(path, Response):
             return path
         found = project_text.judged(editor, path, name)
         return self.pages.project_page(name, found, 422) if found.wrong else act(name, path, found)
 
-    async def values(self, request: Request) -> Response:
+    def values(self, request: Request) -> Response:
         """Saves the text of the file with the numbers of the form; if they are refused it shows them again."""
-        form = await form_of(request)
+        form = form_of(request)
         name = form.get("project", "")
         path = self.pages.project_path(name)
         editor = project_text.opened(path, name)
@@ -94,9 +94,9 @@ class EditPages:
         shown = "schedule" if form.get("form") == "schedule" else "values"
         return RedirectResponse(f"/project?name={quote(name)}&saved={shown}#{shown}", status_code=303)
 
-    async def editor_of(self, request: Request) -> tuple[str, Editor]:
+    def editor_of(self, request: Request) -> tuple[str, Editor]:
         """Returns the name of the project of a form, and its text."""
-        form = await form_of(request, MOST_BYTES)
+        form = form_of(request)
         text = project_text.sent(form.get("text", ""))
         return form.get("project", ""), Editor(text, form.get("seen", ""), is_unsaved=True)
 

@@ -3,18 +3,23 @@
 from __future__ import annotations
 
 import asyncio
+from collections import Counter
 
 from starlette.concurrency import run_in_threadpool
 from starlette.requests import Request
 from starlette.responses import Response
 from starlette.routing import Route
 
+from minelib.ending import tell
+
 from . import passwords
-from .pages import Pages, form_of
+from .pages import Pages, read_form
 from .security import ENTER, Access
 
 # Seconds that a wrong password waits; of all browsers one is checked at a time.
 PATIENCE = 1.0
+# So many passwords wait at a time: of one address, and of all.
+MOST_OF_ADDRESS, MOST_WAITING = 3, 30
 
 
 class Entrance:
@@ -29,24 +34,41 @@ class Entrance:
 
     def __init__(self, pages: Pages, access: Access) -> None:
         self.pages, self.access, self.lock = pages, access, asyncio.Lock()
+        self.waiting: Counter[str] = Counter()
 
     @property
     def routes(self) -> list[Route]:
         """The addresses."""
         routes = [Route(ENTER, self.pages.answering(self.enter))]
-        return routes + ([Route(ENTER, self.pages.answering(self.check), methods=["POST"])] if self.access.host else [])
+        return routes + ([Route(ENTER, self.pages.streaming(self.check), methods=["POST"])] if self.access.host else [])
 
-    async def enter(self, request: Request) -> Response:
+    def enter(self, request: Request) -> Response:
         """Takes the token, or asks for the password."""
-        return self.asked("") if self.access.host else self.access.enter(request)
+        if self.access.host:
+            return self.asked("")
+        before = self.access.token
+        response = self.access.enter(request)
+        if self.access.token != before:
+            tell(f"another browser enters by {self.access.address}")
+        return response
 
     async def check(self, request: Request) -> Response:
-        """Checks the password."""
-        password = (await form_of(request)).get("password", "")
-        async with self.lock:
-            if await run_in_threadpool(passwords.matches, password, self.access.password):
+        """Checks the password. A wrong one waits after it was checked, so that a right one is not held up."""
+        address = request.client.host if request.client else ""
+        if self.waiting[address] >= MOST_OF_ADDRESS or self.waiting.total() >= MOST_WAITING:
+            return self.asked("Too many passwords are being checked: try again in a few seconds.", 429)
+        self.waiting[address] += 1
+        try:
+            password = (await read_form(request)).get("password", "")
+            async with self.lock:
+                is_right = await run_in_threadpool(passwords.matches, password, self.access.password)
+            if is_right:
                 return self.access.entered()
             await asyncio.sleep(PATIENCE)
+        finally:
+            self.waiting[address] -= 1
+            # Only addresses that wait are kept.
+            self.waiting = +self.waiting
         return self.asked("This is not the password of the team.", 403)
 
     def asked(self, wrong: str, status: int = 200) -> Response:

@@ -39,13 +39,13 @@ class GridPages:
     def routes(self) -> list[Route]:
         """The addresses."""
         return [
-            Route("/project/grid", self.pages.answering(self.save), methods=["POST"]),
+            Route("/project/grid", self.pages.answering(self.save, MOST_BYTES), methods=["POST"]),
             Route("/project/name-process", self.pages.answering(self.name_process), methods=["POST"]),
         ]
 
-    async def save(self, request: Request) -> Response:
+    def save(self, request: Request) -> Response:
         """Saves the text of the file with the rows of a grid; if they are refused it shows them again."""
-        form = await form_of(request, MOST_BYTES)
+        form = form_of(request)
         name, kind = form.get("project", ""), form.get("grid", "")
         path = self.pages.project_path(name)
         if kind not in KINDS:
@@ -66,9 +66,9 @@ class GridPages:
             return self.pages.project_page(name, replace(editor, seen=form.get("seen", "")), status, grid=shown)
         return saved(name, kind)
 
-    async def name_process(self, request: Request) -> Response:
+    def name_process(self, request: Request) -> Response:
         """Gives the only process a name, so that others can be added; if that is refused it says why."""
-        form = await form_of(request)
+        form = form_of(request)
         name = form.get("project", "")
         path = self.pages.project_path(name)
         editor = project_text.opened(path, name)

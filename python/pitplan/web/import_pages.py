@@ -5,6 +5,7 @@ from __future__ import annotations
 import json
 from typing import Any
 
+from starlette.concurrency import run_in_threadpool
 from starlette.requests import ClientDisconnect, Request
 from starlette.responses import JSONResponse, Response
 from starlette.routing import Route
@@ -14,7 +15,7 @@ from pitplan.errors import PlanError
 from . import import_roles, uploads
 from .import_roles import Recognised, RolePages, in_words
 from .jobs import DONE, IMPORT, Job
-from .pages import Pages, number_of
+from .pages import Pages, number_of, threaded
 from .run_form import WrongForm, plain
 from .workspace import NotThere
 
@@ -36,13 +37,13 @@ class ImportPages:
         """The addresses."""
         return [
             Route("/import", self.pages.answering(self.form)),
-            Route("/import/check", in_words(self.check)),
+            Route("/import/check", in_words(threaded(self.check))),
             Route("/import/file", in_words(self.file), methods=["PUT"]),
             Route("/imported", self.pages.answering(self.imported)),
             *RolePages(self.pages, self.recognised).routes,
         ]
 
-    async def form(self, request: Request) -> Response:
+    def form(self, request: Request) -> Response:
         """The form that sends a file."""
         return self.pages.page(
             "import.html",
@@ -52,7 +53,7 @@ class ImportPages:
             most=uploads.MOST_BYTES >> 30,
         )
 
-    async def check(self, request: Request) -> Response:
+    def check(self, request: Request) -> Response:
         """Checks names and size before a file is sent."""
         uploads.demand_size(size_of(request.query_params.get("size", "")))
         self.upload_of(request)
@@ -60,7 +61,7 @@ class ImportPages:
 
     async def file(self, request: Request) -> Response:
         """Takes a file, and starts the job that recognises it."""
-        upload = self.upload_of(request)
+        upload = await run_in_threadpool(self.upload_of, request)
         uploads.demand_size(size_of(request.headers.get("content-length", "0")))
         parts = request.stream()
         try:
@@ -71,16 +72,20 @@ class ImportPages:
             # A browser that still sends the file shows no answer.
             await uploads.drain(parts)
             raise
+        job = await run_in_threadpool(self.asked, upload)
+        return JSONResponse({"next": f"/job?number={job.number}"}, status_code=201)
+
+    def asked(self, upload: uploads.Upload) -> Job:
+        """Starts the job that recognises a file."""
         table, project = (self.workspace.name(path) for path in (upload.path, upload.project))
         words = (IMPORT, plain(table), f"--out={project}", "--figures", "--json")
-        job = self.jobs.ask(words, project, upload.folder, removes=table)
-        return JSONResponse({"next": f"/job?number={job.number}"}, status_code=201)
+        return self.jobs.ask(words, project, upload.folder, removes=table)
 
     def upload_of(self, request: Request) -> uploads.Upload:
         given = request.query_params
         return uploads.upload_of(self.workspace, given.get("folder", ""), given.get("file", ""))
 
-    async def imported(self, request: Request) -> Response:
+    def imported(self, request: Request) -> Response:
         """The block model of an import that has succeeded."""
         job = self.jobs.read(number_of(request.query_params.get("number", "")))
         return self.pages.page(

@@ -9,7 +9,6 @@ from functools import cache
 from pathlib import Path
 from typing import TYPE_CHECKING, Any
 
-from starlette.concurrency import run_in_threadpool
 from starlette.requests import Request
 from starlette.responses import JSONResponse, PlainTextResponse, RedirectResponse, Response
 from starlette.routing import Route
@@ -18,7 +17,7 @@ from pitplan.core.atomic_files import hash_of
 from pitplan.errors import WARNING, PlanError
 
 from .jobs import IMPORT, Job
-from .pages import MOST_BYTES, Answer, Pages, form_of, number_of
+from .pages import MOST_BYTES, Pages, Streaming, form_of, number_of, status_of, threaded
 from .run_form import WrongForm
 
 # The modules of block models need pandas, which is loaded when a page needs it.
@@ -116,16 +115,16 @@ class RolePages:
     def routes(self) -> list[Route]:
         """The addresses."""
         return [
-            Route("/import/preview", in_words(self.preview), methods=["POST"]),
-            Route("/import/roles", self.pages.answering(self.write), methods=["POST"]),
+            Route("/import/preview", in_words(threaded(self.preview, 16 * MOST_BYTES)), methods=["POST"]),
+            Route("/import/roles", self.pages.answering(self.write, 16 * MOST_BYTES), methods=["POST"]),
         ]
 
-    async def preview(self, request: Request) -> Response:
+    def preview(self, request: Request) -> Response:
         """The project that follows from other roles, which nothing writes."""
-        form = await form_of(request, 16 * MOST_BYTES)
+        form = form_of(request)
         job = self.pages.jobs.read(number_of(form.get("number", "")))
         roles = self.roles_of(job, form)
-        return JSONResponse(await run_in_threadpool(self.previewed, job, roles))
+        return JSONResponse(self.previewed(job, roles))
 
     def previewed(self, job: Job, roles: Mapping[str, Role]) -> dict[str, Any]:
         """Returns the text of the project, the columns, and the warnings."""
@@ -136,9 +135,9 @@ class RolePages:
         warnings = [it.removeprefix(WARNING) for it in found.warnings]
         return {"text": text, "columns": found.records, "warnings": warnings}
 
-    async def write(self, request: Request) -> Response:
+    def write(self, request: Request) -> Response:
         """Starts the job that writes the project again with other roles."""
-        form = await form_of(request, 16 * MOST_BYTES)
+        form = form_of(request)
         job = self.pages.jobs.read(number_of(form.get("number", "")))
         roles = self.roles_of(job, form)
         path = self.pages.workspace.place(job.project)
@@ -171,15 +170,14 @@ def table_of(job: Job) -> str:
     return job.words[1].removeprefix("./")
 
 
-def in_words(answer: Answer) -> Answer:
-    """Returns the answer with words in place of an error of the planner's, which a script shows."""
+def in_words(answer: Streaming) -> Streaming:
+    """Returns the endpoint of an answer with words in place of an error, which a script shows."""
 
     async def answered(request: Request) -> Response:
         try:
             return await answer(request)
-        except WrongForm as error:
-            return PlainTextResponse(str(error), status_code=422)
-        except PlanError as error:
-            return PlainTextResponse(str(error), status_code=400)
+        except Exception as error:
+            status, why = status_of(error, request)
+            return PlainTextResponse(why, status_code=400 if status == 404 else status)
 
     return answered

@@ -5,9 +5,11 @@ from __future__ import annotations
 import json
 import os
 import re
+import shutil
 import signal
 import subprocess
 import sys
+import threading
 from contextlib import suppress
 from dataclasses import asdict, dataclass, replace
 from datetime import datetime
@@ -16,6 +18,7 @@ from typing import Any, Optional
 
 from pitplan.core import paths
 from pitplan.core.atomic_files import write_json
+from pitplan.errors import PlanError
 
 from .workspace import NotThere
 
@@ -25,6 +28,8 @@ JOB, STATE, LOG, ANSWER, CANCEL, CLAIM = "job.json", "state.json", "log", "answe
 REMOVED = "removed"
 WAITING, RUNNING, DONE, FAILED, CANCELLED, LOST = "waiting", "running", "done", "failed", "cancelled", "lost"
 ENDED = (DONE, FAILED, CANCELLED, LOST)
+# So many jobs that have ended are kept.
+MOST_ENDED = 1_000
 # The commands that import a block model, and that write a file for other programs.
 IMPORT, EXPORT = "init", "export"
 # A line of the log that names a step, and the seconds that it took if it has ended.
@@ -83,9 +88,10 @@ class Job:
     @property
     def seconds(self) -> Optional[float]:
         """How long it took; None before its end."""
-        if not (self.started and self.ended):
+        try:
+            return (datetime.fromisoformat(self.ended) - datetime.fromisoformat(self.started)).total_seconds()
+        except (TypeError, ValueError):
             return None
-        return (datetime.fromisoformat(self.ended) - datetime.fromisoformat(self.started)).total_seconds()
 
 
 class Jobs:
@@ -95,44 +101,71 @@ class Jobs:
     ----------
     root : Path
         The folder that is served, in which commands run.
+
+    Raises
+    ------
+    PlanError
+        If others may read or write the folder of the jobs, and this user cannot change that.
     """
 
     def __init__(self, root: Path) -> None:
         self.root, self.folder = root, root / FOLDER
         self.runners: list[subprocess.Popen[bytes]] = []
+        # Jobs that have ended do not change.
+        self.ended: dict[int, Job] = {}
+        self.lock = threading.RLock()
+        demand_private(self.folder)
 
     def ask(self, words: tuple[str, ...], project: str, folder: str, removes: str = "") -> Job:
         """Adds a job to the queue and returns it; one that imports begins without waiting."""
-        self.folder.mkdir(parents=True, exist_ok=True)
-        number = 1 + max((job.number for job in self.all()), default=0)
-        while True:
-            try:
-                self.of(number).mkdir()
-                break
-            except FileExistsError:
-                number += 1
-        job = Job(number, words, project, folder, now(), removes)
-        write_json(self.of(number) / JOB, asdict(job))
-        if words[0] == IMPORT:
-            # No import waits for the run of another mine.
-            self.start(job)
-        self.pump()
-        return self.read(number)
+        with self.lock:
+            self.folder.parent.mkdir(mode=0o700, exist_ok=True)
+            demand_private(self.folder)
+            self.folder.mkdir(exist_ok=True)
+            number = 1 + max(self.numbers(), default=0)
+            while True:
+                try:
+                    self.of(number).mkdir()
+                    break
+                except FileExistsError:
+                    number += 1
+            job = Job(number, words, project, folder, now(), removes)
+            write_json(self.of(number) / JOB, asdict(job))
+            if words[0] == IMPORT:
+                # No import waits for the run of another mine.
+                self.start(job)
+            self.pump()
+            return self.read(number)
 
     def of(self, number: int) -> Path:
         return self.folder / str(number)
 
     def all(self) -> list[Job]:
         """Returns all jobs, the newest first."""
-        numbers = [int(it.name) for it in self.folder.glob("*") if it.name.isdigit()] if self.folder.is_dir() else []
         found = []
-        for number in sorted(numbers, reverse=True):
+        for number in sorted(self.numbers(), reverse=True):
             with suppress(NotThere):
                 found.append(self.read(number))
         return found
 
+    def numbers(self) -> list[int]:
+        """Returns the numbers of all jobs."""
+        try:
+            return [int(name) for name in os.listdir(self.folder) if name.isascii() and name.isdigit()]
+        except OSError:
+            return []
+
     def read(self, number: int) -> Job:
         """Returns a job with its state. Raises NotThere if it does not exist."""
+        known = self.ended.get(number)
+        if known is None:
+            known = self.read_files(number)
+            if known.status in (DONE, FAILED, CANCELLED):
+                self.ended[number] = known
+        return known
+
+    def read_files(self, number: int) -> Job:
+        """Returns a job with its state from its files. Raises NotThere if it does not exist."""
         try:
             said: dict[str, Any] = json.loads((self.of(number) / JOB).read_text(encoding="utf-8"))
             said["words"] = tuple(said["words"])
@@ -161,17 +194,21 @@ class Jobs:
             return None
 
     def pump(self) -> None:
-        """Starts the oldest job that waits, unless one runs."""
-        self.runners = [it for it in self.runners if it.poll() is None]
-        jobs = self.all()
-        for job in jobs:
-            if job.status == LOST and job.removes:
-                self.remove(job)
-        if self.runners or any(job.status == RUNNING for job in jobs):
-            return
-        waiting = [job for job in jobs if job.status == WAITING]
-        if waiting:
-            self.start(waiting[-1])
+        """Starts the oldest job that waits, unless one runs, and removes the oldest jobs that have ended beyond MOST_ENDED."""
+        with self.lock:
+            self.runners = [it for it in self.runners if it.poll() is None]
+            jobs = self.all()
+            for job in jobs:
+                if job.status == LOST and job.removes:
+                    self.remove(job)
+            for job in [it for it in jobs if it.has_ended][MOST_ENDED:]:
+                shutil.rmtree(self.of(job.number), ignore_errors=True)
+                self.ended.pop(job.number, None)
+            if self.runners or any(job.status == RUNNING for job in jobs):
+                return
+            waiting = [job for job in jobs if job.status == WAITING]
+            if waiting:
+                self.start(waiting[-1])
 
     def remove(self, job: Job) -> None:
         """Removes, once, the file of a job whose runner was killed before it could."""
@@ -182,7 +219,10 @@ class Jobs:
         remove_file(self.root / job.removes)
 
     def start(self, job: Job) -> None:
-        """Starts the runner of a job, which goes on without the server."""
+        """Starts the runner of a job, which goes on without the server. A job that another user has written is not run."""
+        if (self.of(job.number) / JOB).stat().st_uid != os.getuid():
+            (self.of(job.number) / CANCEL).touch()
+            return
         words = [sys.executable, "-P", "-m", "pitplan.web.job_runner", str(self.of(job.number)), str(self.root)]
         beside = os.pathsep.join([str(paths.PACKAGES), *filter(None, [os.environ.get("PYTHONPATH")])])
         runner = subprocess.Popen(
@@ -227,6 +267,21 @@ class Jobs:
             it for it in self.all() if it.status == DONE and it.words[:1] == job.words[:1] and it.project == job.project
         )
         return next((it.seconds for it in same if it.number < job.number), None)
+
+
+def demand_private(folder: Path) -> None:
+    """Lets nobody but its owner read or write the folder of jobs, if it exists. Raises PlanError if it belongs to another user."""
+    top = folder.parent
+    try:
+        state = top.stat()
+    except OSError:
+        return
+    if state.st_uid != os.getuid():
+        raise PlanError(
+            f"{top}: belongs to another user, whose jobs would run as yours: remove it, or serve another folder"
+        )
+    if state.st_mode & 0o077:
+        top.chmod(0o700)
 
 
 def steps_of(log: str) -> list[Step]:

@@ -46,9 +46,9 @@ class OutputPages:
             Route("/result/export", self.pages.answering(self.export), methods=["POST"]),
         ]
 
-    async def choose(self, request: Request) -> Response:
+    def choose(self, request: Request) -> Response:
         """Writes the chosen shell, or the shells of pushbacks, into the project."""
-        form = await form_of(request)
+        form = form_of(request)
         name = form.get("project", "")
         path = self.pages.project_path(name)
         editor = project_text.demanded(project_text.opened(path, name), path, name)
@@ -62,15 +62,15 @@ class OutputPages:
         project_text.save(path, name, changed)
         return RedirectResponse(f"/project?name={quote(name)}&saved=schedule#schedule", status_code=303)
 
-    async def view(self, request: Request) -> Response:
+    def view(self, request: Request) -> Response:
         """Starts the command that writes the 3D view."""
-        folder, project = self.folder_of(await form_of(request))
+        folder, project = self.folder_of(form_of(request))
         job = self.pages.jobs.ask(("view", plain(folder)), project, folder)
         return RedirectResponse(f"/job?number={job.number}", status_code=303)
 
-    async def export(self, request: Request) -> Response:
+    def export(self, request: Request) -> Response:
         """Starts the command that writes an export."""
-        form = await form_of(request)
+        form = form_of(request)
         folder, project = self.folder_of(form)
         selected = results_page.record_of(self.pages.workspace.root / folder).get("shells", {}).get("selected")
         words = export_words({"factor": factor_text(float(selected)), **filled(form)} if selected else form)

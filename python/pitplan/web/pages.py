@@ -1,10 +1,13 @@
-"""The pages: each answers a request."""
+"""The pages: each answers a request, in a thread of its own, so that no request waits for another."""
 
 from __future__ import annotations
 
 import asyncio
 import json
 import shlex
+import sys
+import threading
+import time
 from collections.abc import AsyncIterator, Awaitable, Callable, Mapping
 from dataclasses import asdict, replace
 from pathlib import Path
@@ -12,7 +15,8 @@ from typing import Any, Optional
 from urllib.parse import parse_qsl, quote
 
 from jinja2 import Environment, FileSystemLoader, StrictUndefined
-from starlette.requests import Request
+from starlette.concurrency import run_in_threadpool
+from starlette.requests import ClientDisconnect, Request
 from starlette.responses import FileResponse, HTMLResponse, RedirectResponse, Response, StreamingResponse
 from starlette.routing import Route
 
@@ -27,7 +31,7 @@ from .project_text import Editor
 from .run_form import COMMANDS, OPTIONS, Asked, WrongForm
 from .security import SANDBOX
 from .values_form import Values
-from .workspace import RECORDS, NotThere, Workspace
+from .workspace import RECORDS, NotThere, Workspace, shown
 
 TEMPLATES = paths.PACKAGE / "templates" / "web"
 SCRIPT = "text/javascript; charset=utf-8"
@@ -44,7 +48,11 @@ SHOWN = {
 MOST_BYTES = 64 * 1024
 # How often the events of a job look for news, in seconds.
 PACE = 0.25
-Answer = Callable[[Request], Awaitable[Response]]
+# A browser has so many seconds to send a form.
+PATIENCE = 30.0
+# What answers a request: in a thread, or in the event loop if it reads or writes a stream.
+Answer = Callable[[Request], Response]
+Streaming = Callable[[Request], Awaitable[Response]]
 
 
 class Pages:
@@ -60,6 +68,9 @@ class Pages:
 
     def __init__(self, workspace: Workspace, jobs: Jobs, version: str) -> None:
         self.workspace, self.jobs = workspace, jobs
+        # The state of each job that a page shows: when it was read, as JSON, and whether the job has ended.
+        self.states: dict[int, tuple[float, str, bool]] = {}
+        self.reading = threading.Lock()
         self.templates = Environment(
             loader=FileSystemLoader(TEMPLATES),
             autoescape=True,
@@ -92,18 +103,19 @@ class Pages:
             Route("/static/{name}", self.answering(self.static)),
         ]
 
-    def answering(self, answer: Answer) -> Answer:
-        """Returns the answer with a page in place of an error of the planner's."""
+    def answering(self, answer: Answer, most: int = MOST_BYTES) -> Streaming:
+        """Returns the endpoint of an answer that is computed in a thread, with a page in place of an error. A form that is posted has at most `most`
+        bytes."""
+        return self.streaming(threaded(answer, most))
+
+    def streaming(self, answer: Streaming) -> Streaming:
+        """Returns the endpoint of an answer that reads or writes a stream, with a page in place of an error."""
 
         async def answered(request: Request) -> Response:
             try:
                 return await answer(request)
-            except NotThere as error:
-                return self.error(404, str(error))
-            except WrongForm as error:
-                return self.error(422, str(error))
-            except PlanError as error:
-                return self.error(400, str(error))
+            except Exception as error:
+                return await run_in_threadpool(self.error, *status_of(error, request))
 
         return answered
 
@@ -112,11 +124,11 @@ class Pages:
 
     def error(self, status: int, why: str, text: str = "") -> Response:
         """Returns a page that says why something is not possible, with a text that would be lost."""
-        return self.page("error.html", status, title="Not possible", why=why, text=text)
+        return self.page("error.html", status, title="Not possible", why=shown(why), text=text)
 
     # ---- projects and results
 
-    async def home(self, request: Request) -> Response:
+    def home(self, request: Request) -> Response:
         """The projects and the results of the folder."""
         projects, results = self.workspace.projects(), self.workspace.results()
         running = [job for job in self.jobs.all() if not job.has_ended]
@@ -124,7 +136,7 @@ class Pages:
             "home.html", title="Projects", root=self.workspace.root, projects=projects, results=results, running=running
         )
 
-    async def project(self, request: Request) -> Response:
+    def project(self, request: Request) -> Response:
         """A project, the forms that run it, and its text."""
         name = request.query_params.get("name", "")
         path, saved = self.project_path(name), request.query_params.get("saved")
@@ -173,9 +185,9 @@ class Pages:
             jobs=jobs,
         )
 
-    async def run(self, request: Request) -> Response:
+    def run(self, request: Request) -> Response:
         """Starts a command, or shows it."""
-        form = await form_of(request)
+        form = form_of(request)
         asked = run_form.read(form, self.workspace)
         return self.started(asked, form)
 
@@ -188,7 +200,7 @@ class Pages:
         job = self.jobs.ask(asked.words, asked.project, asked.folder)
         return RedirectResponse(f"/job?number={job.number}", status_code=303)
 
-    async def result(self, request: Request) -> Response:
+    def result(self, request: Request) -> Response:
         """An output folder."""
         name = request.query_params.get("name", "")
         folder = self.workspace.place(name)
@@ -206,7 +218,7 @@ class Pages:
             formats=output_words.WORDS,
         )
 
-    async def table(self, request: Request) -> Response:
+    def table(self, request: Request) -> Response:
         """A table, to sort, filter and copy."""
         name = request.query_params.get("name", "")
         path = self.workspace.place(name)
@@ -222,7 +234,7 @@ class Pages:
             most=results_page.MOST_ROWS,
         )
 
-    async def file(self, request: Request) -> Response:
+    def file(self, request: Request) -> Response:
         """A file of an output folder: figures and pages are shown, all others are downloaded."""
         path = self.workspace.place(request.query_params.get("name", ""))
         if not path.is_file() or not (self.is_result(path) or self.is_of_model(path)):
@@ -247,7 +259,7 @@ class Pages:
         """Returns whether a file is the figure of the block model of a project."""
         return any(layout.figure_of_model(it) == path for it in path.parent.glob("*.toml"))
 
-    async def static(self, request: Request) -> Response:
+    def static(self, request: Request) -> Response:
         """The style and the script of all pages."""
         name = request.path_params["name"]
         if name not in STATIC:
@@ -256,17 +268,17 @@ class Pages:
 
     # ---- jobs
 
-    async def all_jobs(self, request: Request) -> Response:
+    def all_jobs(self, request: Request) -> Response:
         return self.page("jobs.html", title="Jobs", jobs=self.jobs.all())
 
-    async def job(self, request: Request) -> Response:
+    def job(self, request: Request) -> Response:
         """A job with its progress, which the page keeps up to date."""
         job = self.jobs.read(number_of(request.query_params.get("number", "")))
         is_import = job.words[0] == IMPORT
         title = f"Import of {job.folder}" if is_import else f"Job {job.number}: {job.words[0]}"
         return self.page("job.html", title=title, job=job, state=self.state_of(job), is_import=is_import)
 
-    async def events(self, request: Request) -> Response:
+    def events(self, request: Request) -> Response:
         """The progress of a job as server-sent events, until it has ended."""
         job = self.jobs.read(number_of(request.query_params.get("number", "")))
         return StreamingResponse(self.news(job.number), media_type="text/event-stream")
@@ -275,14 +287,26 @@ class Pages:
         """Yields the state of a job whenever it is another."""
         last = ""
         while True:
-            job = self.jobs.read(number)
-            state = json.dumps(self.state_of(job))
+            state, has_ended = await run_in_threadpool(self.latest, number)
             if state != last:
                 last = state
                 yield f"data: {state}\n\n"
-            if job.has_ended:
+            if has_ended:
                 return
             await asyncio.sleep(PACE)
+
+    def latest(self, number: int) -> tuple[str, bool]:
+        """Returns the state of a job as JSON, and whether it has ended. All pages of a job share what was read within PACE seconds."""
+        with self.reading:
+            known = self.states.get(number)
+            if known and time.monotonic() - known[0] < PACE:
+                return known[1:]
+            job = self.jobs.read(number)
+            found = json.dumps(self.state_of(job)), job.has_ended
+            self.states[number] = (time.monotonic(), *found)
+            for other in [it for it, (at, *_) in self.states.items() if time.monotonic() - at > PATIENCE]:
+                del self.states[other]
+            return found
 
     def state_of(self, job: Job) -> dict[str, Any]:
         """Returns what the page of a job shows."""
@@ -316,20 +340,56 @@ class Pages:
             return job.status == DONE
         return bool(job.folder) and any((self.workspace.root / job.folder / record).is_file() for record in RECORDS)
 
-    async def cancel(self, request: Request) -> Response:
+    def cancel(self, request: Request) -> Response:
         """Ends a job."""
-        number = number_of((await form_of(request)).get("number", ""))
+        number = number_of(form_of(request).get("number", ""))
         self.jobs.cancel(number)
         return RedirectResponse(f"/job?number={number}", status_code=303)
 
 
-async def form_of(request: Request, most: int = MOST_BYTES) -> dict[str, str]:
-    """Returns the fields of a form. Raises WrongForm if it is too long or no text."""
-    body = b""
-    async for part in request.stream():
-        body += part
-        if len(body) > most:
-            raise WrongForm(f"The form is longer than {most:,} bytes")
+def threaded(answer: Answer, most: int = MOST_BYTES) -> Streaming:
+    """Returns what reads the form of a request and then answers it in a thread, since an answer may read files for long."""
+
+    async def answered(request: Request) -> Response:
+        if request.method == "POST":
+            request.state.form = await read_form(request, most)
+        return await run_in_threadpool(answer, request)
+
+    return answered
+
+
+def status_of(error: Exception, request: Request) -> tuple[int, str]:
+    """Returns the status and the words for an error. One that nobody expects is noted on standard error, in one line."""
+    if isinstance(error, NotThere):
+        return 404, str(error)
+    if isinstance(error, WrongForm):
+        return 422, str(error)
+    if isinstance(error, PlanError):
+        return 400, str(error)
+    if isinstance(error, ClientDisconnect):
+        return 400, "The request was cut off"
+    why = " ".join(f"{type(error).__name__}: {error}".split())[:200]
+    print(f"pitplan serve: {request.method} {request.url.path}: {why}", file=sys.stderr, flush=True)
+    return 500, "This page cannot be shown: the server has noted why where it was started"
+
+
+def form_of(request: Request) -> dict[str, str]:
+    """Returns the fields of the form of a request."""
+    form: dict[str, str] = request.state.form
+    return form
+
+
+async def read_form(request: Request, most: int = MOST_BYTES) -> dict[str, str]:
+    """Reads the fields of a form. Raises WrongForm if it is too long, takes too long or is no text."""
+    body = bytearray()
+    try:
+        async with asyncio.timeout(PATIENCE):
+            async for part in request.stream():
+                body += part
+                if len(body) > most:
+                    raise WrongForm(f"The form is longer than {most:,} bytes")
+    except TimeoutError as error:
+        raise WrongForm(f"The form was not sent within {PATIENCE:.0f} seconds") from error
     try:
         return dict(parse_qsl(body.decode("utf-8"), keep_blank_values=True, strict_parsing=bool(body)))
     except ValueError as error:

@@ -7,6 +7,7 @@ import json
 from collections.abc import Callable
 from dataclasses import dataclass
 from decimal import Decimal, InvalidOperation
+from functools import cached_property
 from pathlib import Path
 from typing import TYPE_CHECKING, Any, Optional
 
@@ -25,6 +26,8 @@ if TYPE_CHECKING:
 
 # The most rows of a table on a page; a longer one is downloaded.
 MOST_ROWS = 2_000
+# A number with more digits before or after the point is shown as it is written.
+MOST_DIGITS = 18
 PICTURES = (".png", ".svg")
 # The tables that planners read first, in this order.
 FIRST = ("methods.csv", "shells.csv", "pushbacks.csv", "years.csv", "sensitivity.csv", "valuation.csv", "cash_flow.csv")
@@ -38,7 +41,7 @@ class Table:
     rows: list[list[str]]
     count: int
 
-    @property
+    @cached_property
     def are_numbers(self) -> list[bool]:
         """Whether each column has numbers, or nothing, in all rows."""
         columns = zip(*self.rows) if self.rows else [() for _ in self.names]
@@ -53,8 +56,8 @@ def is_number(text: str) -> bool:
 
 
 def grouped(text: str) -> str:
-    """Returns a number with its digits in groups of three, and any other text as it is."""
-    return f"{Decimal(text):,f}" if is_number(text) else text
+    """Returns a number with its digits in groups of three. Any other text, and a number with a large exponent, is returned unchanged."""
+    return f"{Decimal(text):,f}" if is_number(text) and abs(Decimal(text).adjusted()) <= MOST_DIGITS else text
 
 
 def head_of(path: Path) -> Callable[[str], str]:
@@ -79,7 +82,8 @@ def read_table(path: Path) -> Table:
             for row in reader:
                 count += 1
                 if count <= MOST_ROWS:
-                    rows.append(row)
+                    # A row that was cut is filled, so that the page shows what there is.
+                    rows.append([*row[: len(names)], *[""] * (len(names) - len(row))])
     except (OSError, ValueError, csv.Error) as error:
         raise PlanError(f"{path.name}: cannot be read as a table: {error}") from error
     return Table(names, rows, count)

@@ -9,7 +9,7 @@ from pathlib import Path
 from pitplan.config.project import Project, load
 from pitplan.errors import PlanError
 
-from .workspace import NotThere, Workspace
+from .workspace import NotThere, Workspace, is_text
 
 SET, FIGURES, VERIFY, BY_BLOCK, CERTIFICATE = "set", "figures", "verify", "by_block", "certificate"
 WRITES = (SET, FIGURES, VERIFY)
@@ -116,14 +116,18 @@ def folder_of(given: str, project: Project, below: str, workspace: Workspace) ->
         If it leads out of the folder that is served, is hidden, or is a file.
     """
     path = workspace.root / given if given else project.folder / below
-    resolved = path.resolve()
+    try:
+        resolved = path.resolve()
+        is_file = resolved.is_file()
+    except (OSError, ValueError, RuntimeError) as error:
+        raise WrongForm(f"Output folder: {given[:60]!r}: is no name of a folder: give another name") from error
     if not resolved.is_relative_to(workspace.root) or resolved == workspace.root:
         raise WrongForm(
             f"Output folder: {given or project.folder}: expected a folder below the one that is served: give its path from there"
         )
     if any(part.startswith(".") for part in resolved.relative_to(workspace.root).parts):
         raise WrongForm(f"Output folder: {given}: expected a name that does not begin with a dot")
-    if resolved.is_file():
+    if is_file or not is_text(given):
         raise WrongForm(f"Output folder: {given}: is a file: give another name")
     return plain(workspace.name(resolved))
 

@@ -4,13 +4,14 @@ from __future__ import annotations
 
 import hmac
 import secrets
+import threading
 from dataclasses import dataclass, field
 from typing import Optional
 from urllib.parse import urlsplit
 
 from starlette.datastructures import Headers, MutableHeaders
 from starlette.requests import Request
-from starlette.responses import PlainTextResponse, RedirectResponse, Response
+from starlette.responses import HTMLResponse, PlainTextResponse, RedirectResponse, Response
 from starlette.types import ASGIApp, Message, Receive, Scope, Send
 
 # The page that takes the token of the address that pitplan prints.
@@ -19,6 +20,9 @@ SAFE = ("GET", "HEAD")
 # The style of the page that asks for a password.
 STYLE = "/static/app.css"
 HTTPS = 443
+FIRST_PAGE = (
+    '<!doctype html><meta http-equiv="refresh" content="0; url=/"><title>pitplan</title><a href="/">Projects</a>'
+)
 # No script or style of a page is its own text, so text of a project can never become one.
 POLICY = (
     "default-src 'none'; script-src 'self'; style-src 'self'; img-src 'self' data:; connect-src 'self'; frame-src 'self'; "
@@ -38,15 +42,32 @@ HEADERS = {
 }
 
 
+class Key:
+    """The random token of the address that opens the application. It is for one use: the next browser needs the next one."""
+
+    def __init__(self) -> None:
+        self.lock, self.token = threading.Lock(), secrets.token_urlsafe(32)
+
+    def use(self, word: str) -> bool:
+        """Returns whether a word is the token; if so there is another token from now on."""
+        with self.lock:
+            is_right = hmac.compare_digest(word.encode(), self.token.encode())
+            if is_right:
+                self.token = secrets.token_urlsafe(32)
+            return is_right
+
+
 @dataclass(frozen=True)
 class Access:
-    """The addresses and the token of a server.
+    """The addresses of a server, and the secrets by which it knows browsers.
 
     Attributes
     ----------
     port : int
-    token : str
-        Random; it opens the application, and is the browser's cookie then. With a password only the cookie.
+    secret : str
+        Random: the cookie of the browsers that have entered.
+    key : Key
+        The token of the address, by which the browser of this machine enters.
     host : str
         The name by which the browsers of a team reach it; empty: only this machine does.
     password : str
@@ -54,7 +75,8 @@ class Access:
     """
 
     port: int
-    token: str = field(default_factory=lambda: secrets.token_urlsafe(32))
+    secret: str = field(default_factory=lambda: secrets.token_urlsafe(32))
+    key: Key = field(default_factory=Key)
     host: str = ""
     password: str = ""
 
@@ -77,6 +99,11 @@ class Access:
         if self.host:
             return f"https://{max(self.hosts, key=len)}{ENTER}"
         return f"http://127.0.0.1:{self.port}{ENTER}?token={self.token}"
+
+    @property
+    def token(self) -> str:
+        """The token of the address, until it is used."""
+        return self.key.token
 
     def refusal(self, request: Request) -> Optional[Response]:
         """Returns why a request is refused; None if it is not."""
@@ -105,18 +132,27 @@ class Access:
         return self.matches(request.cookies.get(self.cookie, ""))
 
     def matches(self, word: str) -> bool:
-        return hmac.compare_digest(word.encode(), self.token.encode())
+        return hmac.compare_digest(word.encode(), self.secret.encode())
 
     def enter(self, request: Request) -> Response:
         """Sets the cookie of a browser that has the token, and shows the first page."""
-        if not self.matches(request.query_params.get("token", "")):
-            return refused(403, "This token is not that of this server: open the address that it has printed.")
-        return self.entered()
+        if self.is_known(request):
+            return RedirectResponse("/", status_code=303)
+        if not self.key.use(request.query_params.get("token", "")):
+            why = "This token is not that of this server, or has been used: open the address that it has printed last."
+            return refused(403, why)
+        # A file of the user opened this address. After a redirect the browser would not send the cookie, which is of this site alone.
+        return self.with_cookie(HTMLResponse(FIRST_PAGE))
 
     def entered(self) -> Response:
         """Sets the cookie, and shows the first page."""
-        response = RedirectResponse("/", status_code=303)
-        response.set_cookie(self.cookie, self.token, httponly=True, samesite="strict", path="/", secure=bool(self.host))
+        return self.with_cookie(RedirectResponse("/", status_code=303))
+
+    def with_cookie(self, response: Response) -> Response:
+        """Returns the response with the cookie."""
+        response.set_cookie(
+            self.cookie, self.secret, httponly=True, samesite="strict", path="/", secure=bool(self.host)
+        )
         return response
 
 

@@ -3,21 +3,28 @@
 from __future__ import annotations
 
 import asyncio
+import html
 import ipaddress
+import logging
+import resource
 import socket
 import ssl
+import tempfile
 import threading
+import time
 import webbrowser
-from collections.abc import AsyncIterator
-from contextlib import asynccontextmanager, closing, suppress
+from collections.abc import AsyncIterator, Iterator
+from contextlib import asynccontextmanager, closing, contextmanager, suppress
 from dataclasses import dataclass
 from pathlib import Path
-from typing import Optional
+from typing import Any, Optional
 
 from starlette.applications import Starlette
+from starlette.concurrency import run_in_threadpool
 from starlette.middleware import Middleware
 
 from minelib.ending import tell
+from pitplan.core import input_places
 from pitplan.core.optional_packages import load
 from pitplan.errors import PlanError
 
@@ -35,6 +42,10 @@ from .security import Access, Guard
 from .workspace import Workspace
 
 HOST = "127.0.0.1"
+# A connection has so many seconds for its first request. So many requests are answered at a time; others are told to come again.
+PATIENCE, MOST_REQUESTS = 20.0, 200
+# The same words are logged once in so many seconds.
+SPARING = 60.0
 # How often the queue is looked through, in seconds.
 PACE = 0.5
 
@@ -75,6 +86,8 @@ class Settings:
         That of pitplan, at the foot of each page.
     team : Team, optional
         Browsers of other machines; None: this machine only.
+    inputs : tuple of Path
+        Folders, besides that of the projects, in which their inputs may lie.
     """
 
     folder: Path
@@ -82,6 +95,7 @@ class Settings:
     opens: bool = True
     version: str = ""
     team: Optional[Team] = None
+    inputs: tuple[Path, ...] = ()
 
 
 def make_app(root: Path, access: Access, version: str = "") -> Starlette:
@@ -110,7 +124,7 @@ async def pumping(jobs: Jobs) -> None:
     """Starts each job of the queue when it is its turn."""
     while True:
         with suppress(OSError):
-            jobs.pump()
+            await run_in_threadpool(jobs.pump)
         await asyncio.sleep(PACE)
 
 
@@ -161,6 +175,62 @@ def demand_pair(team: Team) -> None:
         ) from error
 
 
+class Sparing(logging.Filter):
+    """Lets the same words be logged once in SPARING seconds, in one line, so that no client fills a disk."""
+
+    def __init__(self) -> None:
+        super().__init__()
+        self.last: dict[str, float] = {}
+
+    def filter(self, record: logging.LogRecord) -> bool:
+        words, now = record.getMessage()[:60], time.monotonic()
+        self.last = {key: at for key, at in self.last.items() if now - at < SPARING}
+        is_new = words not in self.last
+        self.last.setdefault(words, now)
+        record.exc_info = record.exc_text = record.stack_info = None
+        record.msg, record.args = record.getMessage().splitlines()[0][:300] if record.getMessage() else "", None
+        return is_new
+
+
+def log_sparingly() -> None:
+    """Sets how the libraries below log."""
+    for name in ("asyncio", "uvicorn.error"):
+        logger = logging.getLogger(name)
+        logger.filters = [Sparing()]
+
+
+def impatient(protocol: Any) -> Any:
+    """Returns a protocol of uvicorn whose connections close if no request has come after PATIENCE seconds."""
+
+    class Impatient(protocol):  # type: ignore[misc]
+        def connection_made(self, transport: Any) -> None:
+            super().connection_made(transport)
+            self.loop.call_later(PATIENCE, self.close_idle)
+
+        def close_idle(self) -> None:
+            if self.cycle is None:
+                self.transport.abort()
+
+    return Impatient
+
+
+@contextmanager
+def opening(address: str) -> Iterator[Path]:
+    """Makes a page that leads to the address, which only this user may read: arguments of a browser are seen by all users of a machine."""
+    with tempfile.TemporaryDirectory(prefix="pitplan-serve-") as folder:
+        page = Path(folder) / "open.html"
+        page.write_text(f'<!doctype html><meta http-equiv="refresh" content="0; url={html.escape(address)}">\n')
+        page.chmod(0o600)
+        yield page
+
+
+def raise_limit_of_files() -> None:
+    """Lets as many connections be open as the system allows this user."""
+    _, most = resource.getrlimit(resource.RLIMIT_NOFILE)
+    with suppress(OSError, ValueError):
+        resource.setrlimit(resource.RLIMIT_NOFILE, (most, most))
+
+
 def serve(settings: Settings) -> None:
     """Serves the application until it is interrupted.
 
@@ -172,9 +242,14 @@ def serve(settings: Settings) -> None:
         Without uvicorn.
     """
     uvicorn = load("uvicorn", "python3-uvicorn", "serve")
+    from uvicorn.protocols.http.h11_impl import H11Protocol
+
     root = settings.folder.resolve()
     if not root.is_dir():
         raise PlanError(f"{settings.folder}: is no folder: give one with projects, or an empty one")
+    for folder in settings.inputs:
+        if not folder.is_dir():
+            raise PlanError(f"--inputs {folder}: is no folder: give one with inputs of projects")
     team = settings.team
     if team:
         demand_pair(team)
@@ -182,11 +257,24 @@ def serve(settings: Settings) -> None:
         port = bound.getsockname()[1]
         access = Access(port, host=team.host, password=team.password) if team else Access(port)
         safe = {"ssl_certfile": team.certificate, "ssl_keyfile": team.key} if team else {}
+        input_places.confine([root, *settings.inputs])
+        raise_limit_of_files()
         config = uvicorn.Config(
-            make_app(root, access, settings.version), log_level="warning", lifespan="on", server_header=False, **safe
+            make_app(root, access, settings.version),
+            log_level="warning",
+            lifespan="on",
+            server_header=False,
+            http=impatient(H11Protocol),
+            ws="none",
+            limit_concurrency=MOST_REQUESTS,
+            **safe,
         )
+        log_sparingly()
         # What is printed to standard output is held back until the end.
         tell(f"pitplan serves {root}\n{access.address}\nCtrl-C ends it; jobs go on.")
-        if settings.opens:
-            threading.Timer(0.5, webbrowser.open, (access.address,)).start()
-        uvicorn.Server(config).run(sockets=[bound])
+        if team:
+            tell("On a network that you do not trust, put a reverse proxy before it.")
+        with opening(access.address) as page:
+            if settings.opens:
+                threading.Timer(0.5, webbrowser.open, (page.as_uri() if not team else access.address,)).start()
+            uvicorn.Server(config).run(sockets=[bound])

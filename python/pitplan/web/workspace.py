@@ -10,9 +10,7 @@ from datetime import datetime
 from pathlib import Path
 from typing import Any
 
-import tomllib
-
-from pitplan.config import project_writer
+from pitplan.config import project_writer, toml_text
 from pitplan.core import layout
 from pitplan.errors import PlanError
 from pitplan.results import names
@@ -130,12 +128,19 @@ class Workspace:
         return found
 
     def project_in(self, path: Path) -> list[ProjectFile]:
-        """Returns the project in a file, if it is one."""
+        """Returns the project in a file, if it is one. A file that cannot be read is an entry that says why."""
         name = self.name(path)
+        if not is_text(name):
+            return [ProjectFile(shown(name), "cannot be read: its name is not UTF-8: rename it", "", False)]
         try:
-            data = tomllib.loads(path.read_text(encoding="utf-8"))
-        except (OSError, ValueError) as error:
-            return [ProjectFile(name, f"cannot be read: {error}", "", False)]
+            self.place(name)
+        except NotThere:
+            # A link that leads out of the folder.
+            return []
+        try:
+            data = toml_text.parsed(path.read_text(encoding="utf-8"), name)
+        except (OSError, ValueError, PlanError) as error:
+            return [ProjectFile(name, f"cannot be read: {str(error).removeprefix(f'{name}: ')}", "", False)]
         table = data.get("table")
         if not isinstance(table, dict):
             return []
@@ -152,12 +157,14 @@ class Workspace:
         return sorted(found, key=lambda it: it.written, reverse=True)
 
     def result_in(self, folder: Path, record: str, kind: str) -> list[Result]:
-        """Returns the results in a folder by their record; none if it is cut or gone."""
+        """Returns the results in a folder by their record; none if it is cut or gone, or if its name is not UTF-8."""
         path = folder / record
+        if not is_text(self.name(folder)):
+            return []
         try:
             said = json.loads(path.read_text(encoding="utf-8"))
             written = datetime.fromtimestamp(path.stat().st_mtime)
-        except (OSError, ValueError):
+        except (OSError, ValueError, RecursionError):
             return []
         if not isinstance(said, dict):
             return []
@@ -165,8 +172,22 @@ class Workspace:
 
     def project_of(self, folder: Path, said: dict[str, Any]) -> str:
         """Returns the name of the project of a record; empty if it is not below the folder that is served."""
-        path = (folder / str(said.get("project", ""))).resolve()
-        return self.name(path) if path.is_file() and path.is_relative_to(self.root) else ""
+        try:
+            path = (folder / str(said.get("project", ""))).resolve()
+            is_here = path.is_file() and path.is_relative_to(self.root)
+        except (OSError, ValueError, RuntimeError):
+            return ""
+        return self.name(path) if is_here and is_text(self.name(path)) else ""
+
+
+def is_text(name: str) -> bool:
+    """Returns whether a name can be shown and sent: it is UTF-8 on disk."""
+    return shown(name) == name
+
+
+def shown(name: str) -> str:
+    """Returns a name with a question mark for each byte that is not UTF-8."""
+    return name.encode("utf-8", "replace").decode("utf-8")
 
 
 def kind_of(record: dict[str, Any]) -> str:

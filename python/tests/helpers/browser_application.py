@@ -21,7 +21,7 @@ def client_of(root, access):
 def entered(root, access):
     """A browser that has entered."""
     found = client_of(root, access)
-    assert found.get(f"/enter?token={access.token}").status_code == 303
+    assert found.get(f"/enter?token={access.token}").status_code == 200
     return found
 
 
