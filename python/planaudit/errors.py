@@ -7,6 +7,8 @@ from collections.abc import Sequence
 
 # Whatever ends a line, by str.splitlines.
 LINE_ENDS = re.compile("[\n\r\v\f\x1c\x1d\x1e\x85\u2028\u2029]")
+# A longer sentence quotes a whole file: its middle is left out.
+MOST_LETTERS = 2_000
 
 
 class AuditError(Exception):
@@ -30,4 +32,7 @@ class PackageError(AuditError):
 
 
 def on_one_line(text: str) -> str:
-    return LINE_ENDS.sub(lambda end: end[0].encode("unicode_escape").decode(), text)
+    """Returns a sentence on one line, of MOST_LETTERS at most. A line's end in a name is shown as Python writes it."""
+    half = MOST_LETTERS // 2 - 3
+    short = text if len(text) <= MOST_LETTERS else f"{text[:half]} [..] {text[-half:]}"
+    return LINE_ENDS.sub(lambda end: end[0].encode("unicode_escape").decode(), short)

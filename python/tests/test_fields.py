@@ -65,6 +65,17 @@ def test_a_nul_byte_is_named_in_whatever_piece_form_and_place_it_stands(plan_fol
     )
 
 
+@pytest.mark.parametrize(("row", "column"), [(5, "rock"), (9, "name")])
+def test_a_line_without_an_end_is_named_by_its_row(plan_folder, row, column):
+    """A packed file of megabytes may hold a field that fills all memory."""
+    table = rows(2, 2, 2).astype(object)
+    table.loc[row - 2, column] = "x" * 12_000_000
+    path = plan_folder(rows(2, 2, 2), PROJECT, ("blocks.csv", "blocks.csv.gz"))
+    (path.parent / "blocks.csv.gz").write_bytes(gzip.compress(table.to_csv(index=False).encode()))
+    remedy = "expected a line for each block: export the table again as CSV"
+    assert refused(path) == f"{path.parent / 'blocks.csv.gz'} row {row}: has more than 10,000,000 letters, {remedy}"
+
+
 def test_a_table_in_utf_16_without_a_mark_is_refused_with_the_remedy(plan_folder):
     path = plan_folder(rows(2, 2, 2))
     table = path.parent / "blocks.csv"
@@ -133,7 +144,9 @@ def test_an_empty_field_of_each_dtype_is_one(plan_folder, dtype):
     assert "table row 3 column cu: is empty" in refused(plan_folder(rows(3, 2, 2)), table=table)
     path = plan_folder(rows(3, 2, 2), PROJECT, ('id = "name"', 'id = "name"\nempty = "zero"'))
     plan = pitplan.Plan.from_project(path, table=table)
-    assert sorted(plan.blocks["cu"])[:3] == [0.0, 0.0, 0.5] and any("2 null or empty" in note for note in plan.notes)
+    assert sorted(plan.blocks["cu"])[:3] == [0.0, 0.0, 0.5] and any(
+        "2 rows are null or empty in cu" in note for note in plan.notes
+    )
 
 
 def test_columns_of_other_kinds_are_no_numbers(plan_folder):

@@ -34,7 +34,11 @@ def test_a_key_of_an_earlier_release_is_answered_with_the_new_one(tmp_path, new,
 
 
 def test_the_page_lists_each_key_with_its_new_name():
-    rows = re.findall(r"^\| ([^|]*`[^|]*) \| ([^|]*) \|$", PAGE.partition("## Results that change")[0], re.MULTILINE)
+    rows = re.findall(
+        r"^\| ([^|]*`[^|]*) \| ([^|]*) \|$",
+        PAGE.partition("### Keys of project.toml")[2].partition("### Results that change")[0],
+        re.MULTILINE,
+    )
     listed = {}
     for olds, news in rows:
         keys = [re.findall(r"`\[*([\w.]+)\]*`", cell) for cell in (olds, news)]

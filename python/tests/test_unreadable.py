@@ -13,6 +13,7 @@ import pitplan
 from pitplan import PlanError
 from pitplan.config.survey import SurveyFile
 from pitplan.survey import readers
+from planaudit.errors import AuditError
 
 ZIP = ('"blocks.csv"', '"blocks.zip"')
 STRINGS = "a,b\n0,0\n" + "".join(f"1, {y}.0, {x}.0, {x * y}.0\n" for x in range(3) for y in range(3)) + "0,0,0,0\n"
@@ -166,7 +167,8 @@ def test_points_that_are_no_places_are_named(tmp_path, number):
     assert "lease.csv: has a point at 1e+12, 0: expected metres" in refused(readers.areas, SurveyFile(file))
 
 
-def test_a_sentence_that_quotes_a_file_keeps_its_begin_and_its_remedy():
-    said = str(pitplan.PlanError(f"blocks.csv: found {'x' * 140_000}: rename it"))
+@pytest.mark.parametrize("kind", [pitplan.PlanError, AuditError])
+def test_a_sentence_that_quotes_a_file_keeps_its_begin_and_its_remedy(kind):
+    said = str(kind(f"blocks.csv: found {'x' * 140_000}: rename it"))
     assert len(said) < 2_010 and said.startswith("blocks.csv: found xxx") and said.endswith("xxx: rename it")
     assert " [..] " in said

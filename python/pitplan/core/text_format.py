@@ -29,6 +29,8 @@ LOCKED = 1
 PACKED = (b"PK\x03\x04", b"\xd0\xcf\x11\xe0")
 # The encoding without a byte-order mark or a key, and that of bytes which are not of this encoding.
 USUAL, OTHERWISE = "utf-8-sig", "cp1252"
+# The most letters of a line: a packed file may hold one that no memory holds.
+MOST_IN_A_LINE = 10_000_000
 # The error handler of `codecs` that reads these bytes.
 MIXED = "pitplan.cp1252"
 # Files of block models that are no texts, by their endings.
@@ -129,17 +131,38 @@ def encoding_of(file: Path) -> str:
 
 
 class WholeText(io.TextIOWrapper):
-    """A table's text. Raises NulByte where it holds one, at which pandas would end the field without a word."""
+    """A table's text. Raises NulByte where it holds one, at which pandas would end the field without a word, and LongLine where a line has no end."""
+
+    ended = letters = 0
 
     def read(self, size: Optional[int] = -1, /) -> str:
         piece = super().read(size)
         if "\0" in piece:
             raise NulByte
+        self.count(piece)
         return piece
+
+    def count(self, piece: str) -> None:
+        """Counts the lines that have ended, and the letters of the one that has not."""
+        end = max(piece.rfind("\n"), piece.rfind("\r"))
+        self.letters = self.letters + len(piece) if end < 0 else len(piece) - end - 1
+        self.ended += piece.count("\n")
+        if self.letters > MOST_IN_A_LINE:
+            raise LongLine(self.ended + 1)
 
 
 class NulByte(Exception):
     """A text holds a NUL byte."""
+
+
+class LongLine(Exception):
+    """A row, from 1, has more than MOST_IN_A_LINE letters."""
+
+
+def long_line(file: Path, error: LongLine) -> PlanError:
+    """Names the row of a line without an end."""
+    remedy = "expected a line for each block: export the table again as CSV"
+    return PlanError(f"{file} row {error}: has more than {MOST_IN_A_LINE:,} letters, {remedy}")
 
 
 def nul_byte(file: Path, form: TableFormat) -> PlanError:

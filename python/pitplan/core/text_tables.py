@@ -18,7 +18,18 @@ from pitplan.errors import PlanError
 
 from . import table_parts
 from .numeric_fields import header_row_of, without_truths
-from .text_format import UNREADABLE, NulByte, TableFormat, WholeText, nul_byte, opened, unreadable, wrong_encoding
+from .text_format import (
+    UNREADABLE,
+    LongLine,
+    NulByte,
+    TableFormat,
+    WholeText,
+    long_line,
+    nul_byte,
+    opened,
+    unreadable,
+    wrong_encoding,
+)
 
 # Rows that are read at a time: the reader holds several times what it has read.
 PIECE = 500_000
@@ -65,6 +76,8 @@ def read_columns(file: Path, form: TableFormat, fields: Fields = Fields()) -> pd
                 return joined([without_truths(piece) for piece in pd.read_csv(text, **options)])
     except NulByte as error:
         raise nul_byte(file, form) from error
+    except LongLine as error:
+        raise long_line(file, error) from error
     except UnicodeError as error:
         raise wrong_encoding(file, form.encoding) from error
     except (pd.errors.ParserError, pd.errors.EmptyDataError, pd.errors.ParserWarning) as error:
@@ -135,16 +148,13 @@ def stacked(columns: list[pd.Series]) -> Any:
 def read_header(file: Path, form: TableFormat) -> list[str]:
     """The names of a table's columns. Raises PlanError where it cannot be read."""
     try:
-        with opened(file) as data:
-            header = pd.read_csv(
-                data,
-                sep=pandas_separator(form),
-                skiprows=form.skipped,
-                nrows=0,
-                encoding=form.encoding,
-                encoding_errors=form.errors,
-            )
+        with opened(file) as data, WholeText(data, encoding=form.encoding, errors=form.errors, newline="") as text:
+            header = pd.read_csv(text, sep=pandas_separator(form), skiprows=form.skipped, nrows=0)
             return list(header.columns)
+    except NulByte as error:
+        raise nul_byte(file, form) from error
+    except LongLine as error:
+        raise long_line(file, error) from error
     except (*UNREADABLE, ValueError) as error:
         raise PlanError(f"{file}: cannot be read: {error}") from error
 
