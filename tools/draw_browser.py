@@ -24,7 +24,6 @@ from helpers.browser_clicks import Server, chromium, enter, wait  # noqa: E402
 from PIL import Image  # noqa: E402
 
 PROJECT = "hillside/project.toml"
-MORE = "\n[pushbacks]\ncount = 4\nultimate_pit = 1.00\n\n[schedule]\nbench_lag = 1\nvertical_advance_rate = 8\nramp_up = [0.5, 1.0]\n"
 SCHEDULE = "hillside/plan/schedule"
 # The picture, its page, how high it is in pixels, and a line of script that shows the part of the page.
 PAGES = [
@@ -53,8 +52,6 @@ def make_projects(root: pathlib.Path) -> None:
     """Writes two projects into a folder, and plans the first."""
     shutil.copytree(TOP / "examples" / "plan", root / "hillside", ignore=shutil.ignore_patterns("expected"))
     shutil.copytree(TOP / "docs" / "recipes", root / "north")
-    with open(root / PROJECT, "a", encoding="utf-8") as project:
-        project.write(MORE)
     words = [sys.executable, "-m", "pitplan"]
     environment = {**os.environ, "PYTHONPATH": str(TOP / "python")}
     for command, folder in (("shells", "plan"), ("schedule", "plan/schedule")):
