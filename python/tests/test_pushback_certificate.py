@@ -212,6 +212,18 @@ def test_altered_shares_are_not_proved(copied):
         checked(copied, paths.schedule_program())
 
 
+def test_a_program_that_no_build_recorded_proves_nothing(copied, tmp_path):
+    """The same program with another SHA-256 finds the same, and the note does not call it proved."""
+    program = tmp_path / "pitschedule"
+    program.write_bytes(paths.schedule_program().read_bytes() + b"\n")
+    program.chmod(0o755)
+    recorded, other = (checked(copied, it) for it in (paths.schedule_program(), program))
+    assert recorded.note.startswith("proved by pitschedule: the schedule keeps all precedences")
+    assert other.note == recorded.note.replace(
+        "proved by pitschedule", "checked by a pitschedule that is not known to be proved"
+    )
+
+
 @pytest.mark.parametrize(
     ("words", "text", "why"),
     [

@@ -14,8 +14,10 @@ from numpy.typing import NDArray
 
 from pitplan.config.project import Project
 from pitplan.core import layout
+from pitplan.core.atomic_files import hash_of
 from pitplan.economics.period_costs import of_project
 from pitplan.errors import PlanError, ProgramError
+from pitplan.solver.choice import is_proved
 
 from .methods import PROVED
 
@@ -148,7 +150,7 @@ class Certificate:
 
 @dataclass(frozen=True)
 class Certified:
-    """What the program has proved.
+    """What the program has found of the texts: a proof, if the build recorded the program as proved.
 
     Attributes
     ----------
@@ -160,6 +162,8 @@ class Certified:
         Of the texts, in their order: name and side.
     unit : int
         How many units of the currency one of the texts is.
+    recorded : bool
+        Whether the build recorded the SHA-256 of the program.
     """
 
     value: Optional[float]
@@ -167,6 +171,7 @@ class Certified:
     destinations: tuple[tuple[str, str, int], ...] = ()
     limits: tuple[tuple[str, str], ...] = ()
     unit: int = 1
+    recorded: bool = True
 
     @property
     def record(self) -> dict[str, Any]:
@@ -180,8 +185,9 @@ class Certified:
         """What a planner should know of it."""
         if self.value is None or self.bound is None:
             return "the certificate of the schedule is not checked: pitschedule is not installed"
+        by = PROVED if self.recorded else "checked by a pitschedule that is not known to be proved: "
         return (
-            f"{PROVED}the schedule keeps all precedences and limits, and is worth {self.value:,.2f}; no schedule within them is worth "
+            f"{by}the schedule keeps all precedences and limits, and is worth {self.value:,.2f}; no schedule within them is worth "
             f"more than {self.bound:,.2f}. Block values and limits are as in the folder certificate; they are verified, not proved"
         )
 
@@ -462,4 +468,4 @@ def checked(stage: Path, program: Optional[Path], unit: int = 1) -> Certified:
         said = (ran.stdout + ran.stderr).strip().replace("\n", "; ")
         raise ProgramError(f"{program}: the certificate is not that of a schedule: {said}")
     value, bound = (unit * float(line.partition(": ")[2]) for line in lines[1:])
-    return Certified(value, bound, unit=unit)
+    return Certified(value, bound, unit=unit, recorded=is_proved(hash_of(program)))
