@@ -99,6 +99,18 @@ def test_nulls_are_drawn_as_nulls_and_not_as_zero(tmp_path, of):
     assert not np.isnan(blocks.column("tonnes").values).any()
 
 
+def test_a_result_without_its_block_model_or_without_nulls_is_shown(served, tmp_path, monkeypatch):
+    """The block model is read again only if it may have nulls, and a result is shown without it."""
+    pillars().to_csv(tmp_path / "blocks.csv", index=False)
+    text = PUSHBACKS.replace("[table]\n", '[table]\nempty = "zero"\n', 1)
+    (tmp_path / "project.toml").write_text(text)
+    pitplan.write_shells(tmp_path / "project.toml", tmp_path / "plan", writing=UNDRAWN)
+    (tmp_path / "blocks.csv").unlink()
+    assert block_data.of_results(tmp_path / "plan").nulls == {}
+    monkeypatch.setattr(block_data.reader, "read", lambda project: pytest.fail("the block model is read again"))
+    assert block_data.of_results(served / "hill" / "plan").nulls == {}
+
+
 def test_the_cell_of_a_block_gives_its_place(client):
     model = get(client, "model").json()
     cells = np.frombuffer(get(client, "cells").content, dtype="<u4")

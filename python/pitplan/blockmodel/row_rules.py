@@ -272,6 +272,11 @@ def meaning_of(name: str, project: Project) -> str:
     return REFUSE if meaning == ZERO and name in never else meaning
 
 
+def reads_zeros(project: Project) -> bool:
+    """Returns whether a null of some column is read as 0."""
+    return any(meaning_of(name, project) == ZERO for name in names_of(project))
+
+
 def refused(name: str, count: int, project: Project) -> str:
     """Returns why an empty field is an error, and the remedy."""
     if count == 1 and not project.table.rules.nulls.of(name):

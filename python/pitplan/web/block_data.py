@@ -16,7 +16,7 @@ import pandas as pd
 from numpy.typing import NDArray
 
 from pitplan import preparation
-from pitplan.blockmodel import reader
+from pitplan.blockmodel import reader, row_rules
 from pitplan.blockmodel.grid import Grid
 from pitplan.blockmodel.reader import Table
 from pitplan.config import project_writer
@@ -210,9 +210,10 @@ def of_results(folder: Path) -> Blocks:
     frame = found.blocks.iloc[order].reset_index(drop=True)
     selected, cells = float(rules.get("selected") or 0), frame["id"].to_numpy()
     nulls: dict[str, NDArray[Any]] = {}
-    # Without the block model there are the numbers of the result, in which a null is 0.
-    with suppress(PlanError):
-        nulls = nulls_of(reader.read(project), project, found.grid, cells)
+    if row_rules.reads_zeros(project):
+        # Without the block model there are the numbers of the result, in which a null is 0.
+        with suppress(PlanError):
+            nulls = nulls_of(reader.read(project), project, found.grid, cells)
     return Blocks(found.grid, frame, cells, project, list(found.record["codes"]), found.factors, selected, nulls)
 
 
