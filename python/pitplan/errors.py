@@ -2,7 +2,7 @@
 
 import re
 from collections.abc import Sequence
-from typing import Optional
+from typing import Any, Optional
 
 # Whatever ends a line, by str.splitlines.
 LINE_ENDS = re.compile("[\n\r\v\f\x1c\x1d\x1e\x85\u2028\u2029]")
@@ -25,6 +25,16 @@ class PlanError(Exception):
 
     def __init__(self, text: str, details: Sequence[str] = ()) -> None:
         super().__init__("\n  ".join(map(on_one_line, (text, *details))))
+
+    def __reduce__(self) -> tuple[Any, ...]:
+        return received, (type(self), str(self), self.__dict__)
+
+
+def received(kind: type[PlanError], text: str, state: dict[str, Any]) -> PlanError:
+    """Returns an error that another process has sent, as it was: its lines stay lines."""
+    error = kind.__new__(kind, text)
+    error.__dict__.update(state)
+    return error
 
 
 class MissingPackage(PlanError):
