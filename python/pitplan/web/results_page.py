@@ -57,7 +57,11 @@ def is_number(text: str) -> bool:
 
 def grouped(text: str) -> str:
     """Returns a number with its digits in groups of three. Any other text, and a number with a large exponent, is returned unchanged."""
-    return f"{Decimal(text):,f}" if is_number(text) and abs(Decimal(text).adjusted()) <= MOST_DIGITS else text
+    try:
+        number = Decimal(text)
+    except InvalidOperation:
+        return text
+    return f"{number:,f}" if number.is_finite() and abs(number.adjusted()) <= MOST_DIGITS else text
 
 
 def head_of(path: Path) -> Callable[[str], str]:
