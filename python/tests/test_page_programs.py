@@ -35,7 +35,7 @@ def test_reserves_from_the_blocks(tmp_path, monkeypatch, capsys):
     shutil.copytree(HILL, tmp_path, dirs_exist_ok=True)
     project = tmp_path / "project.toml"
     text = project.read_text().replace("[economics]", 'class = "class"\n[classes]\nnone = "waste"\n[economics]')
-    project.write_text(text + "[schedule]\nbench_lag = 1\n")
+    project.write_text(text.replace("[schedule]\n", "[schedule]\nbench_lag = 1\n"))
     pitplan.write_schedule(project, tmp_path / "build" / "schedule", writing=UNVERIFIED)
     monkeypatch.chdir(tmp_path)
     names: dict = {}
