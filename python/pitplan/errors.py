@@ -32,7 +32,8 @@ class PlanError(Exception):
 
 def received(kind: type[PlanError], text: str, state: dict[str, Any]) -> PlanError:
     """Returns an error that another process has sent, as it was: its lines stay lines."""
-    error = kind.__new__(kind, text)
+    error = kind.__new__(kind)
+    error.args = (text,)
     error.__dict__.update(state)
     return error
 
