@@ -78,7 +78,8 @@ uint32_t pitshell_check(const int64_t *values, size_t values_len, const uint32_t
                         const uint64_t *flow_low, size_t flow_low_len, bool *yes, uint32_t *place);
 
 /* The cycle for which the calls above refuse rows of so many blocks: where the answer is 0, *count is how many blocks it has, each of
- * which needs the next, and the last the first, and cycle begins with them, as far as there is room; *count is 0 where there is none. */
+ * which needs the next, and the last the first, and cycle begins with them, as far as there is room; *count is 0 where there is none,
+ * and cycle is as it was. */
 uint32_t pitshell_cycle(size_t blocks, const uint32_t *starts, size_t starts_len, const uint32_t *needs, size_t needs_len, uint32_t *cycle,
                         size_t cycle_len, size_t *count, uint32_t *place);
 

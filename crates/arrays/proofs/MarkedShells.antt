@@ -90,6 +90,18 @@ module _ (deposit : Deposit) (factors firsts : List ℕ) (shells : List Shell) (
         worth_is = is.worth_is ∙ ap (λ f. worth (mine_at deposit f) is.set) at;
       }
 
+  -- a block of no pit has the number of factors
+  pub none_is_last : (u : ℕ) → u < deposit.blocks → ((k : ℕ) → k < length factors → k < get_or firsts u 0) → get_or firsts u 0 ≡ length factors
+  none_is_last u below later =
+      let size = many in
+      ⊎_elim
+      (λ (first : (get_or firsts u 0 < length shells) × Holds shells (get_or firsts u 0) u × ((j : ℕ) → j < get_or firsts u 0 → Holds shells j u → ⊥)).
+      let inside = first.0 in
+      let own = later (get_or firsts u 0) (omega arith) in
+      absurd (omega arith))
+      (λ (none : (get_or firsts u 0 ≡ length shells) × ((j : ℕ) → j < length shells → Holds shells j u → ⊥)). none.0 ∙ many)
+      (numbered.each u below)
+
 -- the blocks of shells are blocks of the deposit
 pub shells_below : (deposit : Deposit) (n : ℕ) (shells : List Shell) → deposit.blocks ≡ n → All (IsShell Least deposit) shells → All (λ (shell : Shell). All (λ u. u < n) shell.pit.items) shells
 shells_below deposit n shells same each = subst (λ m. All (λ (shell : Shell). All (λ u. u < m) shell.pit.items) shells) same
@@ -139,4 +151,5 @@ are_marked rows prices graph factors firsts shells worths encoded revenues costs
       count = numbered.size;
       counted = sized ∙ many_factors;
       each = λ k l. worth_of_some (deposit_of prices graph) encoded.pairs factors firsts shells worths encoded.same priced are found numbered summed k (omega arith);
+      in_none = none_is_last (deposit_of prices graph) factors firsts shells priced are found numbered;
     }

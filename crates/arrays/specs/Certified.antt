@@ -4,6 +4,7 @@ use Rattle.faults.specs.Words.{number_of}
 use Rattle.faults.specs.declared.refusal.Refusal.{Refusal}
 use Rattle.faults.specs.declared.refusal.Refusal.TheVariants.{OverLimit, IdOutOfPlace, CountsDiffer, WrongHeader, NegativeColumn}
 use Rattle.pit_model.specs.Certificate.{Certifies}
+use Rattle.pit_model.specs.Limits.{Between}
 use Rattle.pit_model.specs.Mine.{Instance, IsPit, worth}
 use Rattle.optimality.specs.Check.{most_amount}
 use Rattle.csr.specs.Rows.{RowsRise}
@@ -33,10 +34,14 @@ pub data RefusesCertified (blocks : ℕ) (starts needs marks : List ℕ) (refusa
   by_rows : RefusesRows blocks starts needs refusal place → RefusesCertified blocks starts needs marks refusal place
   by_order : refusal ≡ IdOutOfPlace → place ≡ 0 → (RowsRise starts needs → ⊥) → RefusesCertified blocks starts needs marks refusal place
 
--- of an amount on a pair: it is negative, or above 10^30
+-- the amounts on the pairs before one are not negative and at most 10^30
+abbrev pub AreFlowsBefore : List ℤ → ℕ → Type 0
+AreFlowsBefore amounts place = (k : ℕ) → k < place → Between (pos 0) (get_or amounts k (pos 0)) most_amount
+
+-- the first amount on a pair that is negative, or above 10^30
 abbrev pub RefusesFlow : List ℤ → Refusal → ℕ → Type 0
-RefusesFlow amounts (NegativeColumn least) place = (least ≡ place) × (place < length amounts) × (get_or amounts place (pos 0) <ℤ pos 0)
-RefusesFlow amounts OverLimit place = (place < length amounts) × (most_amount <ℤ get_or amounts place (pos 0))
+RefusesFlow amounts (NegativeColumn least) place = (least ≡ place) × (place < length amounts) × (get_or amounts place (pos 0) <ℤ pos 0) × AreFlowsBefore amounts place
+RefusesFlow amounts OverLimit place = (place < length amounts) × (most_amount <ℤ get_or amounts place (pos 0)) × AreFlowsBefore amounts place
 RefusesFlow amounts _ place = ⊥
 
 -- why a flow is not looked at: or there is not an amount for each need; or a mark is neither 0 nor 1; or an amount is not as it must be

@@ -14,8 +14,8 @@ pub record IsMarkedShell (deposit : Deposit) (factor k : ℕ) (firsts : List ℕ
   pub held : (u : ℕ) → u < deposit.blocks → IsTrue (set u) ↔ (get_or firsts u 0 ≤ k)
   pub worth_is : amount ≡ worth (mine_at deposit factor) set
 
--- of the deposit that the arrays encode, each block has the number of the first factor whose least pit holds it, and each factor the
--- worth of its pit
+-- of the deposit that the arrays encode, each block has the number of the first factor whose least pit holds it, or the number of factors if
+-- none does, and each factor the worth of its pit
 pub record MarkShells (rows : PricedRows) (factors firsts : List ℕ) (amounts : List ℤ) : Type 0 where
   pub deposit : Deposit
   pub encoded : EncodesDeposit rows deposit
@@ -23,3 +23,4 @@ pub record MarkShells (rows : PricedRows) (factors firsts : List ℕ) (amounts :
   pub count : length firsts ≡ deposit.blocks
   pub counted : length amounts ≡ length factors
   pub each : (k : ℕ) → k < length factors → IsMarkedShell deposit (factor_of factors k) k firsts (get_or amounts k (pos 0))
+  pub in_none : (u : ℕ) → u < deposit.blocks → ((k : ℕ) → k < length factors → k < get_or firsts u 0) → get_or firsts u 0 ≡ length factors

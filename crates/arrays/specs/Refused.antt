@@ -1,10 +1,11 @@
 -- Why arrays encode no mine, or none within the limits.
-use Rattle.std.specs.Prelude.{◌≡◌, ◌⊎◌, ℕ, ◌<◌, ◌≤◌, ◌^◌, ℤ, pos, ◌<ℤ◌, List, length, get_or, map, Some}
+use Rattle.std.specs.Prelude.{◌≡◌, ◌⊎◌, ℕ, ◌<◌, ◌≤◌, ◌^◌, ℤ, pos, ◌<ℤ◌, ◌≤ℤ◌, List, length, get_or, map, Some}
 use Rattle.pit_model.specs.Size.{most_blocks, most_pairs}
 use Rattle.faults.specs.Words.{number_of}
 use Rattle.faults.specs.declared.fault.Fault.{Fault}
 use Rattle.faults.specs.declared.refusal.Refusal.{Refusal}
 use Rattle.faults.specs.declared.refusal.Refusal.TheVariants.{NoMemory, OverLimit, IdOutOfPlace, PredecessorOutOfRange, NeedsItself, PredecessorTwice, Cycle, CountsDiffer, WrongHeader, FixedClash, NegativeColumn}
+use Rattle.pit_model.specs.Deposit.{IsAmount}
 use Rattle.pit_model.specs.Graph.{AreSamePairs}
 use Rattle.pit_model.specs.Cycle.{IsCycleList}
 use Rattle.nesting.specs.FactorList.{IsFirstItemFault}
@@ -63,10 +64,15 @@ RefusesAmount block amount (NegativeColumn least) = (least ≡ block) × (amount
 RefusesAmount block amount OverLimit = pos (10 ^ 18) <ℤ amount
 RefusesAmount block amount _ = ⊥
 
--- no memory; or a block has such an amount
+-- the amounts of the blocks before one are not negative and at most 10^18
+pub record AreAmountsBefore (amounts : List ℤ) (block : ℕ) : Type 0 where
+  pub least : (u : ℕ) → u < block → pos 0 ≤ℤ get_or amounts u (pos 0)
+  pub most : (u : ℕ) → u < block → get_or amounts u (pos 0) ≤ℤ pos (10 ^ 18)
+
+-- no memory; or the first block that has such an amount
 abbrev pub RefusesAmounts : List ℤ → Refusal → ℕ → Type 0
 RefusesAmounts amounts NoMemory block = block ≡ 0
-RefusesAmounts amounts refusal block = (block < length amounts) × RefusesAmount block (get_or amounts block (pos 0)) refusal
+RefusesAmounts amounts refusal block = (block < length amounts) × RefusesAmount block (get_or amounts block (pos 0)) refusal × AreAmountsBefore amounts block
 
 -- no memory; or the first factor of a list that breaks a check is refused by it
 abbrev pub RefusesFactors : List ℕ → Refusal → Type 0
@@ -78,7 +84,7 @@ pub data RefusesShellArrays (rows : PricedRows) (factors firsts : List ℕ) (ref
   by_counts : refusal ≡ CountsDiffer → place ≡ 0 → ((length firsts ≡ length rows.revenues) × (length rows.costs ≡ length rows.revenues) → ⊥) → RefusesShellArrays rows factors firsts refusal place
   by_rows : RefusesRows (length rows.revenues) rows.starts rows.needs refusal place → RefusesShellArrays rows factors firsts refusal place
   by_revenues : RefusesAmounts rows.revenues refusal place → RefusesShellArrays rows factors firsts refusal place
-  by_costs : RefusesAmounts rows.costs refusal place → RefusesShellArrays rows factors firsts refusal place
+  by_costs : IsAmount (length rows.revenues) rows.revenues → RefusesAmounts rows.costs refusal place → RefusesShellArrays rows factors firsts refusal place
   by_factors : RefusesFactors factors refusal → place ≡ 0 → RefusesShellArrays rows factors firsts refusal place
 
 -- the number of why nested pits are not marked

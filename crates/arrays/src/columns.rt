@@ -50,7 +50,7 @@ pub fn columns_of(alloc: Global, revenues: &[i64], costs: &[i64]) -> Result<Colu
     requires counted { length costs.now ≡ length revenues.now }
     ensures revenues { IfOk result (λ c. c.revenues ≡ revenues.now) }
     ensures costs { IfOk result (λ c. c.costs ≡ costs.now) }
-    ensures refused { IfErr result (λ e. RefusesAmounts revenues.now e.refusal e.place ⊎ RefusesAmounts costs.now e.refusal e.place) }
+    ensures refused { IfErr result (λ e. RefusesAmounts revenues.now e.refusal e.place ⊎ (IsAmount (length revenues.now) revenues.now × RefusesAmounts costs.now e.refusal e.place)) }
 {
     if let Some(wrong) = first_wrong(revenues) {
         return Err(wrong);

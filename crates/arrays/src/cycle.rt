@@ -19,8 +19,8 @@ fn write_front(blocks: &[u32], room: &mut [u32])
 }
 
 /// Writes the blocks of a cycle in the rows of `blocks` blocks, as far as there is room, and returns how many there are; None if
-/// the graph is acyclic. Each block needs the next, and the last needs the first. Errors: those of `mine_of` for its rows. After an
-/// error the room is unchanged.
+/// the graph is acyclic. Each block needs the next, and the last needs the first. Errors: those of `mine_of` for its rows. Without a
+/// cycle, and after an error, the room is unchanged.
 pub fn find_cycle(
     alloc: Global,
     blocks: usize,
@@ -28,6 +28,7 @@ pub fn find_cycle(
     room: &mut [u32],
 ) -> Result<Option<usize>, ArrayError>
     ensures none { IfOk result (λ found. IfNone found (EncodeNoCycle blocks rows.now.offsets.now rows.now.targets.now)) }
+    ensures unwritten { IfOk result (λ found. IfNone found (room.new ≡ room.old)) }
     ensures some { IfOk result (λ found. IfSome found (λ count. (0 < count) × WritesCycle blocks rows.now.offsets.now rows.now.targets.now room.new count)) }
     ensures refused { IfErr result (λ e. RefusesRows blocks rows.now.offsets.now rows.now.targets.now e.refusal e.place) }
     ensures kept { IfErr result (λ _. room.new ≡ room.old) }

@@ -239,7 +239,8 @@ pub extern "C" fn pitshell_check(
 }
 
 /// Finds a cycle in the rows, for which the other calls refuse them. If the result is 0, `count` is the number of its blocks: each
-/// needs the next, and the last needs the first. `cycle` begins with them, as far as there is room. Without a cycle `count` is 0.
+/// needs the next, and the last needs the first. `cycle` begins with them, as far as there is room. Without a cycle `count` is 0
+/// and `cycle` is unchanged.
 #[unsafe(no_mangle)]
 pub extern "C" fn pitshell_cycle(
     alloc: Global,
@@ -251,6 +252,7 @@ pub extern "C" fn pitshell_cycle(
     place: &mut u32,
 ) -> u32
     ensures none { result ≡ 0 → count.new ≡ 0 → EncodeNoCycle blocks starts.now needs.now }
+    ensures unwritten { result ≡ 0 → count.new ≡ 0 → cycle.new ≡ cycle.old }
     ensures some { result ≡ 0 → 0 < count.new → WritesCycle blocks starts.now needs.now cycle.new count.new }
     ensures refused { result ≢ 0 → (refusal : AnyRefusal) × (result ≡ number_of refusal) × RefusesRows blocks starts.now needs.now refusal place.new }
     ensures kept { result ≢ 0 → cycle.new ≡ cycle.old }
