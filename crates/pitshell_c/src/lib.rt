@@ -275,8 +275,8 @@ pub extern "C" fn pitshell_cycle(
             *count = found;
             0
         }
-        Err(ArrayError { refusal, place: at }) => {
-            *place = at;
+        Err(ArrayError { refusal, place: id }) => {
+            *place = id;
             refusal.number()
         }
     }
