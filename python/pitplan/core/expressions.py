@@ -22,7 +22,7 @@ from numpy.typing import NDArray
 # Decimals that are kept of a result; numpy rounds halves to the even one.
 PLACES = 9
 MOST_LETTERS, MOST_NODES = 2_000, 500
-# So many letters of another library's words are said.
+# The most letters of another library's message in an error.
 MOST_SAID = 200
 TOKEN = re.compile(
     r"""'[^']*'|"[^"]*"|`[^`]+`|[^\W\d]\w*|\d+\.?\d*(?:[eE][-+]?\d+)?|\.\d+(?:[eE][-+]?\d+)?|[=!<>]=|\*\*|\S"""

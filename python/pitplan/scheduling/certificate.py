@@ -238,7 +238,7 @@ class LimitOfYears:
 
     @property
     def capacity(self) -> NDArray[np.float64]:
-        """The limit in millionths, infinite where there is none, shape (periods,)."""
+        """The limit in millionths, infinite without one, shape (periods,)."""
         return np.rint(self.most * UNIT)
 
 

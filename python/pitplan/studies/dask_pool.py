@@ -23,7 +23,7 @@ PACKAGE = "python3-distributed"
 RETRIES = 2
 # How many workers may die during a task before the scheduler counts the task as the cause.
 DEATHS = 5
-# A scheduler without a worker gets so many seconds until one joins.
+# Seconds until the first worker must have joined a scheduler.
 PATIENCE = 60.0
 # A server on this address can be reached from this machine only.
 LOOPBACK = "127.0.0.1"

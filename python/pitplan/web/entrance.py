@@ -18,7 +18,7 @@ from .security import ENTER, Access
 
 # Seconds that a wrong password waits; of all browsers one is checked at a time.
 PATIENCE = 1.0
-# So many passwords wait at a time: of one address, and of all.
+# The most passwords that wait at a time: from one address, and from all.
 MOST_OF_ADDRESS, MOST_WAITING = 3, 30
 
 

@@ -28,7 +28,7 @@ JOB, STATE, LOG, ANSWER, CANCEL, CLAIM = "job.json", "state.json", "log", "answe
 REMOVED = "removed"
 WAITING, RUNNING, DONE, FAILED, CANCELLED, LOST = "waiting", "running", "done", "failed", "cancelled", "lost"
 ENDED = (DONE, FAILED, CANCELLED, LOST)
-# So many jobs that have ended are kept.
+# The most ended jobs that are kept.
 MOST_ENDED = 1_000
 # The commands that import a block model, and that write a file for other programs.
 IMPORT, EXPORT = "init", "export"

@@ -48,7 +48,7 @@ SHOWN = {
 MOST_BYTES = 64 * 1024
 # How often the events of a job look for news, in seconds.
 PACE = 0.25
-# A browser has so many seconds to send a form.
+# Seconds in which a browser must send a form.
 PATIENCE = 30.0
 # What answers a request: in a thread, or in the event loop if it reads or writes a stream.
 Answer = Callable[[Request], Response]

@@ -42,9 +42,9 @@ from .security import Access, Guard
 from .workspace import Workspace
 
 HOST = "127.0.0.1"
-# A connection has so many seconds for its first request. So many requests are answered at a time; others are told to come again.
+# Seconds in which a connection must send its first request. The most requests that are answered at a time; others get the status 503.
 PATIENCE, MOST_REQUESTS = 20.0, 200
-# The same words are logged once in so many seconds.
+# Seconds in which the same message is logged once.
 SPARING = 60.0
 # How often the queue is looked through, in seconds.
 PACE = 0.5

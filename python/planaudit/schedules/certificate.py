@@ -21,7 +21,7 @@ from planaudit.schedules.bounds import MIN, MUST_MINE, Bound
 from planaudit.schedules.certificate_texts import FOLDER, KEY, MONEY, NAME, ROUNDING, UNFIT, UNIT, Texts
 from planaudit.schedules.discounts import discount
 
-# By so many millionths a share may differ, since shares are rounded and then reduced until they keep the limits.
+# Millionths by which a share may differ, since shares are rounded and then reduced until they keep the limits.
 MOVED = 5
 HOLDS = "the certificate has the block values, limits, discount factors, multipliers and years of the run, and its value and bound are those of the schedule"
 

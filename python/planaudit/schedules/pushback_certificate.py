@@ -26,7 +26,7 @@ from planaudit.schedules.pushback_bounds import ADVANCE, MIN, STOCK, Bound
 
 HOLDS = "the certificate has the benches, ore, precedences, limits, discount factors and flows of the run, and its value is that of the schedule"
 SLIGHT = 1e-8
-# By so many millionths the share of a block may differ, since shares are rounded and then reduced until they keep the limits.
+# Millionths by which the share of a block may differ, since shares are rounded and then reduced until they keep the limits.
 MOVED = 5
 # Where ore goes: the stockpile, the process, and the years until the process takes it.
 Way = tuple[str, str, int]

@@ -1,4 +1,4 @@
-"""Blocks of which a part goes to a destination, since the whole holds more than a year takes.
+"""Blocks that are processed in part, since the whole holds more than a year takes.
 
 Years are filled with blocks that each go to one destination. If a block holds more metal or feed than a limit of a year, it fits nowhere but as waste. So
 such a problem gets more destinations: each sends the part of a block that fits into a year, and the rest to where it takes least.

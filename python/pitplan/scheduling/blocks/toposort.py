@@ -19,7 +19,7 @@ PARTS = (0.1, 0.5, 0.9)
 EARLIER = (0, 1, None)
 # A share that may be the solver's tolerance alone, and one below which the relaxation leaves a block.
 SLIGHT, LEFT = 1e-6, 0.5
-# A schedule digs the blocks of which the relaxation digs one of these shares at least.
+# A schedule mines a block if the relaxation mines at least one of these shares of it.
 LEAST, ALL = (LEFT, SLIGHT), 0.0
 
 
