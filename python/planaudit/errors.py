@@ -4,6 +4,7 @@ from __future__ import annotations
 
 import re
 from collections.abc import Sequence
+from typing import Any
 
 # Whatever ends a line, by str.splitlines.
 LINE_ENDS = re.compile("[\n\r\v\f\x1c\x1d\x1e\x85\u2028\u2029]")
@@ -25,6 +26,9 @@ class AuditError(Exception):
     def __init__(self, text: str, details: Sequence[str] = ()) -> None:
         self.text, self.details = text, tuple(details)
         super().__init__("\n  ".join(map(on_one_line, (text, *details))))
+
+    def __reduce__(self) -> tuple[Any, ...]:
+        return type(self), (self.text, self.details), self.__dict__
 
 
 class PackageError(AuditError):

@@ -19,6 +19,7 @@ from pitplan.commands import audit_process
 from pitplan.commands.audit_process import AuditProcess
 from pitplan.core import paths, processes
 from pitplan.core.processes import each_done, run_all
+from planaudit import AuditError, PackageError
 from planaudit.__main__ import main
 
 
@@ -131,6 +132,13 @@ def test_who_stops_waiting_ends_all_processes(tmp_path, started):
 def test_a_long_error_is_sent_whole():
     with pytest.raises(PlanError, match=r"^many(\n  x{1900}){100}$"):
         run_all([failing(PlanError("many", ["x" * 1_900] * 100)), lambda: None], most=2)
+
+
+@pytest.mark.parametrize("kind", [AuditError, PackageError])
+def test_an_error_of_the_audit_is_sent_with_its_lines(kind):
+    with pytest.raises(kind, match=r"^two differences\n  in\\nyears.csv\n  in pits.csv$") as error:
+        run_all([failing(kind("two differences", ["in\nyears.csv", "in pits.csv"])), lambda: None], most=2)
+    assert (error.value.text, error.value.details) == ("two differences", ("in\nyears.csv", "in pits.csv"))
 
 
 # ---- a sensitivity
