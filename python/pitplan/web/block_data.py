@@ -3,7 +3,6 @@
 from __future__ import annotations
 
 import threading
-from collections import OrderedDict
 from collections.abc import Iterator
 from contextlib import suppress
 from dataclasses import dataclass, field
@@ -28,6 +27,8 @@ from pitplan.results.folder import read_folder
 from pitplan.results.names import RECORD
 from pitplan.results.sheet_heads import unit_in
 from pitplan.survey import readers
+
+from .kept import Kept
 
 # Whole numbers from 1 that have a colour each, 0 being none; the colour map of each.
 STAGES = {"pushback": "viridis_r", "year": "plasma_r", "period": "plasma_r"}
@@ -248,31 +249,16 @@ class Store:
     """The models that were asked for last: a page asks for each column by itself."""
 
     def __init__(self) -> None:
-        self.lock = threading.Lock()
-        self.found: OrderedDict[tuple[Any, ...], Blocks] = OrderedDict()
+        self.lock, self.kept = threading.Lock(), Kept[Blocks](KEPT)
 
     def of(self, path: Path) -> Blocks:
         """Returns the blocks of an output folder or of a project. Raises PlanError if they cannot be read or are too many."""
         read, files = (of_results, [path / RECORD]) if path.is_dir() else (of_project, [path])
         if not path.is_dir():
             files += load(path).inputs[1:]
+        # Requests for the columns of a model that is being read wait for it.
         with self.lock:
-            key = (str(path), *(state_of(it) for it in files))
-            if key not in self.found:
-                self.found[key] = demand_few(read(path))
-            self.found.move_to_end(key)
-            while len(self.found) > KEPT:
-                self.found.popitem(last=False)
-            return self.found[key]
-
-
-def state_of(file: Path) -> tuple[str, int, int]:
-    """Returns what changes if a file does. Raises PlanError if it does not exist."""
-    try:
-        state = file.stat()
-    except OSError as error:
-        raise PlanError(f"{file.name}: cannot be read: {error.strerror}: run the command again") from error
-    return str(file), state.st_mtime_ns, state.st_size
+            return self.kept.of(path, files, lambda: demand_few(read(path)))
 
 
 def demand_few(blocks: Blocks) -> Blocks:

@@ -79,10 +79,10 @@ class EditPages:
         form = form_of(request)
         name = form.get("project", "")
         path = self.pages.project_path(name)
-        editor = project_text.opened(path, name)
+        forms = self.pages.forms.of(path, name)
+        editor, before = forms.editor, forms.fields
         if editor.wrong:
             return self.pages.project_page(name, editor, 422)
-        before = project_text.fields_in(path, name)
         after = values_form.typed(before, form)
         try:
             text = values_form.changed(editor.text, before, after)

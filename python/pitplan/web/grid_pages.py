@@ -50,11 +50,11 @@ class GridPages:
         path = self.pages.project_path(name)
         if kind not in KINDS:
             raise WrongForm(f"Grid: found {kind[:40]!r}, expected one of {', '.join(KINDS)}")
-        editor = project_text.opened(path, name)
+        forms = self.pages.forms.of(path, name)
+        editor = forms.editor
         if editor.wrong:
             return self.pages.project_page(name, editor, 422)
-        before = grids.grids_of(editor.text, project_text.demand_project(editor.text, path, name))[kind]
-        after = before
+        after = before = forms.grids[kind]
         try:
             after = grids.typed(before, form)
             project_text.demand_seen(path, name, form.get("seen", ""))
@@ -71,7 +71,8 @@ class GridPages:
         form = form_of(request)
         name = form.get("project", "")
         path = self.pages.project_path(name)
-        editor = project_text.opened(path, name)
+        forms = self.pages.forms.of(path, name)
+        editor = forms.editor
         if editor.wrong:
             return self.pages.project_page(name, editor, 422)
         try:
@@ -79,8 +80,8 @@ class GridPages:
             text = with_named_process(editor.text, form.get("name", "").strip(), name)
             self.write(path, name, Editor(text, form.get("seen", "")))
         except PlanError as error:
-            grid = grids.grids_of(editor.text, project_text.demand_project(editor.text, path, name))["processes"]
-            return self.pages.project_page(name, editor, 422, grid=replace(grid, wrong=str(error)))
+            grid = replace(forms.grids["processes"], wrong=str(error))
+            return self.pages.project_page(name, editor, 422, grid=grid)
         return saved(name, "processes")
 
     def write(self, path: Path, name: str, editor: Editor) -> None:

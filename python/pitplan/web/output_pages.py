@@ -80,8 +80,8 @@ class OutputPages:
         """Returns the name of the output folder of a form, and that of its project. Raises NotThere if it has no plan."""
         folder = self.pages.workspace.place(form.get("name", ""))
         name = self.pages.workspace.name(folder)
-        found = next((it for it in self.pages.workspace.results() if it.name == name), None)
-        if found is None or not (folder / RECORD).is_file():
+        found = self.pages.workspace.result(folder)
+        if not (folder / RECORD).is_file():
             raise NotThere(f"{name}: is no output folder with a plan: run shells, pushbacks or schedule")
         return name, found.project
 

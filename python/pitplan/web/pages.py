@@ -24,9 +24,10 @@ from pitplan.core import layout, paths
 from pitplan.core.atomic_files import hash_of
 from pitplan.errors import PlanError
 
-from . import output_words, project_text, results_page, run_form
+from . import output_words, results_page, run_form
 from .grids import Grid
 from .jobs import DONE, EXPORT, IMPORT, Job, Jobs, steps_of
+from .project_forms import ProjectForms
 from .project_text import Editor
 from .run_form import COMMANDS, OPTIONS, Asked, WrongForm
 from .security import SANDBOX
@@ -67,16 +68,18 @@ class Pages:
     """
 
     def __init__(self, workspace: Workspace, jobs: Jobs, version: str) -> None:
-        self.workspace, self.jobs = workspace, jobs
+        self.workspace, self.jobs, self.forms = workspace, jobs, ProjectForms()
         # The state of each job that a page shows: when it was read, as JSON, and whether the job has ended.
         self.states: dict[int, tuple[float, str, bool]] = {}
         self.reading = threading.Lock()
+        self.statics = {name: (TEMPLATES / name).read_bytes() for name in STATIC}
         self.templates = Environment(
             loader=FileSystemLoader(TEMPLATES),
             autoescape=True,
             undefined=StrictUndefined,
             trim_blocks=True,
             lstrip_blocks=True,
+            auto_reload=False,
         )
         self.templates.filters |= {
             "path": quote,
@@ -140,9 +143,10 @@ class Pages:
         """A project, the forms that run it, and its text."""
         name = request.query_params.get("name", "")
         path, saved = self.project_path(name), request.query_params.get("saved")
-        editor = project_text.opened(path, name, "Saved." if saved == "text" else "")
-        values = Values(project_text.fields_in(path, name), said=saved if saved in ("values", "schedule") else "")
-        grid = project_text.grids_in(path, name).get(saved or "")
+        forms = self.forms.of(path, name)
+        editor = replace(forms.editor, said="Saved." if saved == "text" and not forms.editor.wrong else "")
+        values = Values(forms.fields, said=saved if saved in ("values", "schedule") else "")
+        grid = forms.grids.get(saved or "")
         return self.project_page(name, editor, values=values, grid=replace(grid, said="Saved.") if grid else None)
 
     def project_path(self, name: str) -> Path:
@@ -162,9 +166,10 @@ class Pages:
     ) -> Response:
         """Returns the page of a project with a text in its editor, and with the numbers and the grids of the file, or others in their place."""
         path = self.workspace.place(name)
-        found = self.workspace.project_in(path)
+        found, forms = self.workspace.project_in(path), self.forms.of(path, name)
         folders = {
-            command.name: run_form.default_folder(path, command, self.workspace) for command in COMMANDS.values()
+            command.name: run_form.default_folder(forms.project, command, self.workspace)
+            for command in COMMANDS.values()
         }
         results = [it for it in self.workspace.results() if it.project == name]
         jobs = [job for job in self.jobs.all() if job.project == name][:10]
@@ -174,8 +179,8 @@ class Pages:
             title=found[0].title if found[0].is_readable else name,
             project=found[0],
             editor=editor,
-            values=values or Values(project_text.fields_in(path, name)),
-            grids=(project_text.grids_in(path, name) | ({grid.kind.name: grid} if grid else {})),
+            values=values or Values(forms.fields),
+            grids=forms.grids | ({grid.kind.name: grid} if grid else {}),
             figure=self.figure_of(path),
             commands=list(COMMANDS.values()),
             options=OPTIONS,
@@ -204,11 +209,7 @@ class Pages:
         """An output folder."""
         name = request.query_params.get("name", "")
         folder = self.workspace.place(name)
-        if not folder.is_dir():
-            raise NotThere(f"{name}: is no output folder")
-        found = next((it for it in self.workspace.results() if it.name == self.workspace.name(folder)), None)
-        if found is None:
-            raise NotThere(f"{name}: is no output folder of pitplan: it has no record")
+        found = self.workspace.result(folder)
         return self.page(
             "result.html",
             title=f"{found.kind}: {found.name}",
@@ -264,7 +265,7 @@ class Pages:
         name = request.path_params["name"]
         if name not in STATIC:
             raise NotThere(f"{name}: no such file")
-        return FileResponse(TEMPLATES / name, media_type=STATIC[name])
+        return Response(self.statics[name], media_type=STATIC[name])
 
     # ---- jobs
 

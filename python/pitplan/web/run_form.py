@@ -4,7 +4,7 @@ from __future__ import annotations
 
 from collections.abc import Mapping
 from dataclasses import dataclass
-from pathlib import Path
+from typing import Optional
 
 from pitplan.config.project import Project, load
 from pitplan.errors import PlanError
@@ -143,9 +143,9 @@ def settings(text: str) -> list[str]:
     return ["=".join(part.strip() for part in line.split("=", 1)) for line in found]
 
 
-def default_folder(path: Path, command: Command, workspace: Workspace) -> str:
+def default_folder(project: Optional[Project], command: Command, workspace: Workspace) -> str:
     """Returns the output folder that a command has by default; empty if the project cannot be read, or has it elsewhere."""
     try:
-        return folder_of("", load(path), command.folder, workspace) if command.folder else ""
+        return folder_of("", project, command.folder, workspace) if project and command.folder else ""
     except (PlanError, NotThere):
         return ""

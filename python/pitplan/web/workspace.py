@@ -4,8 +4,8 @@ from __future__ import annotations
 
 import json
 import os
-from collections.abc import Iterator
-from dataclasses import dataclass
+from collections.abc import Collection, Iterator
+from dataclasses import dataclass, field
 from datetime import datetime
 from pathlib import Path
 from typing import Any
@@ -15,8 +15,12 @@ from pitplan.core import layout
 from pitplan.errors import PlanError
 from pitplan.results import names
 
+from .kept import Kept
+
 # Folders below the one that is served are searched to this depth.
 DEPTH = 5
+# How many projects and records are kept as they were read.
+KEPT = 5_000
 # The record of each kind of results, with the title of those without a plan.
 RECORDS = {
     names.RECORD: "",
@@ -76,6 +80,14 @@ class Result:
 
 
 @dataclass(frozen=True)
+class Record:
+    """What the list of results takes from the record of an output folder: what it has, and its project as the record names it."""
+
+    kind: str
+    project: str
+
+
+@dataclass(frozen=True)
 class Workspace:
     """A folder with projects and results.
 
@@ -83,9 +95,15 @@ class Workspace:
     ----------
     root : Path
         Without symbolic links.
+    known : Kept of list of ProjectFile
+        The projects that were read, by their paths.
+    records : Kept of Record
+        The records of output folders that were read, by their paths.
     """
 
     root: Path
+    known: Kept[list[ProjectFile]] = field(default_factory=lambda: Kept(KEPT), compare=False)
+    records: Kept[Record] = field(default_factory=lambda: Kept(KEPT), compare=False)
 
     def place(self, name: str) -> Path:
         """Returns the path of a file or folder by its name.
@@ -113,8 +131,8 @@ class Workspace:
     def folders(self) -> Iterator[tuple[Path, list[str]]]:
         """Yields the folders that are searched, each with the names of its files."""
         for at, below, files in os.walk(self.root):
-            depth = len(Path(at).relative_to(self.root).parts)
-            inside = (*layout.FOLDERS, layout.INPUTS) if any(name in files for name in RECORDS) else ()
+            depth = at.count("/") - str(self.root).count("/")
+            inside = (*layout.FOLDERS, layout.INPUTS) if RECORDS.keys() & files else ()
             below[:] = sorted(it for it in below if not it.startswith(".") and it not in inside and depth < DEPTH)
             yield Path(at), sorted(files)
 
@@ -133,51 +151,72 @@ class Workspace:
         if not is_text(name):
             return [ProjectFile(shown(name), "cannot be read: its name is not UTF-8: rename it", "", False)]
         try:
-            self.place(name)
+            return self.known.of(
+                path,
+                [self.place(name)],
+                lambda: project_in(path, name),
+                keeps=lambda it: all(one.is_readable for one in it),
+            )
         except NotThere:
             # A link that leads out of the folder.
             return []
-        try:
-            data = toml_text.parsed(path.read_text(encoding="utf-8"), name)
-        except (OSError, ValueError, PlanError) as error:
-            return [ProjectFile(name, f"cannot be read: {str(error).removeprefix(f'{name}: ')}", "", False)]
-        table = data.get("table")
-        if not isinstance(table, dict):
-            return []
-        return [ProjectFile(name, str(data.get("title", path.stem)), str(table.get("file", "")))]
 
     def results(self) -> list[Result]:
         """Returns the output folders, the newest first."""
-        found = []
-        for folder, files in self.folders():
-            for record, kind in RECORDS.items():
-                if record in files:
-                    found += self.result_in(folder, record, kind)
-                    break
+        found = [it for folder, files in self.folders() for it in self.result_in(folder, files)]
         return sorted(found, key=lambda it: it.written, reverse=True)
 
-    def result_in(self, folder: Path, record: str, kind: str) -> list[Result]:
-        """Returns the results in a folder by their record; none if it is cut or gone, or if its name is not UTF-8."""
+    def result_in(self, folder: Path, files: Collection[str]) -> list[Result]:
+        """Returns the results in a folder by its record; none if the record is missing, cut or gone, or if the folder's name is not UTF-8."""
+        record = next((it for it in RECORDS if it in files), "")
+        if not record or not is_text(self.name(folder)):
+            return []
         path = folder / record
-        if not is_text(self.name(folder)):
-            return []
         try:
-            said = json.loads(path.read_text(encoding="utf-8"))
             written = datetime.fromtimestamp(path.stat().st_mtime)
-        except (OSError, ValueError, RecursionError):
+            said = self.records.of(path, [path], lambda: record_in(path, RECORDS[record]))
+        except (OSError, ValueError, RecursionError, PlanError):
             return []
-        if not isinstance(said, dict):
-            return []
-        return [Result(self.name(folder), kind or kind_of(said), self.project_of(folder, said), written)]
+        return [Result(self.name(folder), said.kind, self.project_of(folder, said), written)]
 
-    def project_of(self, folder: Path, said: dict[str, Any]) -> str:
+    def result(self, folder: Path) -> Result:
+        """Returns the results in a folder. Raises NotThere if it has no record."""
+        try:
+            found = self.result_in(folder, os.listdir(folder))
+        except OSError:
+            found = []
+        if not found:
+            raise NotThere(f"{self.name(folder)}: is no output folder of pitplan: it has no record")
+        return found[0]
+
+    def project_of(self, folder: Path, said: Record) -> str:
         """Returns the name of the project of a record; empty if it is not below the folder that is served."""
         try:
-            path = (folder / str(said.get("project", ""))).resolve()
+            path = (folder / said.project).resolve()
             is_here = path.is_file() and path.is_relative_to(self.root)
         except (OSError, ValueError, RuntimeError):
             return ""
         return self.name(path) if is_here and is_text(self.name(path)) else ""
+
+
+def project_in(path: Path, name: str) -> list[ProjectFile]:
+    """Returns the project in a file with this name, if it is one, with the reason if it cannot be read."""
+    try:
+        data = toml_text.parsed(path.read_text(encoding="utf-8"), name)
+    except (OSError, ValueError, PlanError) as error:
+        return [ProjectFile(name, f"cannot be read: {str(error).removeprefix(f'{name}: ')}", "", False)]
+    table = data.get("table")
+    if not isinstance(table, dict):
+        return []
+    return [ProjectFile(name, str(data.get("title", path.stem)), str(table.get("file", "")))]
+
+
+def record_in(path: Path, kind: str) -> Record:
+    """Returns the record in a file, of this kind or of that which it says. Raises ValueError, OSError or RecursionError if it is none."""
+    said = json.loads(path.read_text(encoding="utf-8"))
+    if not isinstance(said, dict):
+        raise ValueError(path)
+    return Record(kind or kind_of(said), str(said.get("project", "")))
 
 
 def is_text(name: str) -> bool:
