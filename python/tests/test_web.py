@@ -191,7 +191,7 @@ def test_results_have_their_tables_with_units_and_pages_in_a_sandbox(root, clien
     text = client.get("/result?name=hill/plan").text
     assert "/table?name=hill/plan/tables/shells.csv" in text and "rules of the independent verification hold" in text
     table = client.get("/table?name=hill/plan/tables/shells.csv").text
-    assert "npv_best (USD)" in table and 'data-raw="600.0"' in table
+    assert "npv_best (USD)" in table and '<td class="number">600.0</td>' in table
     report = client.get("/file?name=hill/plan/report.html")
     assert report.headers["content-security-policy"].startswith("sandbox allow-scripts; default-src 'none'")
     assert "attachment" in client.get("/file?name=hill/plan/tables/shells.csv").headers["content-disposition"]

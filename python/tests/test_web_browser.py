@@ -70,7 +70,7 @@ def test_from_a_project_to_a_schedule_by_clicks(driver, server, root):
         assert heading.get_attribute("aria-sort") == direction
     place = heading.get_property("cellIndex")
     numbers = driver.execute_script(
-        f"return Array.from(document.querySelectorAll('#rows tbody tr'), row => Number(row.cells[{place}].dataset.raw))"
+        f"return Array.from(document.querySelectorAll('#rows tbody tr'), row => Number(textOf(row.cells[{place}])))"
     )
     assert numbers == sorted(numbers, reverse=True) and len(set(numbers)) > 1
     driver.find_element(ID, "filter").send_keys("best")

@@ -1,13 +1,16 @@
-"""What pages keep of files: until a file changes, and not beyond a number."""
+"""What pages keep of files: until a file changes, and not beyond a number; and tables page by page."""
 
+import csv
 import os
+import re
+import shutil
 
 import pytest
 from conftest import PROJECT, rows
 from helpers.browser_application import PORT, entered
 
 from pitplan import PlanError
-from pitplan.web import project_forms, workspace
+from pitplan.web import project_forms, results_page, workspace
 from pitplan.web.kept import Kept
 from pitplan.web.security import Access
 from pitplan.web.workspace import Workspace
@@ -136,3 +139,86 @@ def test_a_project_with_a_table_of_periods_follows_the_table(client, root):
     assert "The project has an error" not in client.get("/project", params={"name": NAME}).text
     periods.write_text("years\nmany\n")
     assert "The project has an error" in client.get("/project", params={"name": NAME}).text
+
+
+# ---- pages of tables
+
+
+def write_table(root, lines):
+    folder = root / "hill/plan/tables"
+    folder.mkdir(parents=True, exist_ok=True)
+    (root / "hill/plan/plan.json").write_text('{"project": "../project.toml"}')
+    (folder / "years.csv").write_text("\n".join(lines) + "\n")
+    return folder / "years.csv"
+
+
+def page_of(client, page=""):
+    answer = client.get("/table", params={"name": "hill/plan/tables/years.csv", "page": page})
+    assert answer.status_code == 200
+    return answer.text
+
+
+@pytest.mark.parametrize("field", ["x", '"two\nlines"', '"a ""quote"""'])
+def test_all_rows_of_a_long_table_lie_on_its_pages(root, monkeypatch, field):
+    monkeypatch.setattr(results_page, "MOST_ROWS", 3)
+    path = write_table(root, ["a,b", *(f"{k},{field}" for k in range(7))])
+    with open(path, newline="") as file:
+        _, *expected = csv.reader(file)
+    tables = [results_page.read_table(path, page) for page in (1, 2, 3)]
+    assert [row for it in tables for row in it.rows] == expected
+    assert [(it.first, it.page, it.pages, it.count) for it in tables] == [(0, 1, 3, 7), (3, 2, 3, 7), (6, 3, 3, 7)]
+    # Pages beyond the last show the last.
+    assert results_page.read_table(path, 400) == tables[2]
+
+
+def test_pages_lead_to_the_next_and_back(client, root, monkeypatch):
+    monkeypatch.setattr(results_page, "MOST_ROWS", 3)
+    write_table(root, ["a", *map(str, range(1_000, 1_007))])
+    first, second, third = (page_of(client, it) for it in ("", "2", "3"))
+    assert "7 rows, of which this page has 1 to 3" in first and "page has 4 to 6" in second and "7 to 7" in third
+    links = [re.findall(r'rel="(prev|next)" href="/table\?name=([^&"]+)&amp;page=(\d)"', it) for it in (first, second)]
+    name = "hill/plan/tables/years.csv"
+    assert links == [[("next", name, "2")], [("prev", name, "1"), ("next", name, "3")]]
+    assert 'data-raw="1003">1,003<' in second and "1,002" not in second and 'rel="next"' not in third
+    for other in ("0", "-1", "x", "9" * 30, "²"):
+        assert page_of(client, other) == first
+    assert page_of(client, "99") == third
+
+
+def test_a_short_table_has_one_page_without_links(client, root):
+    write_table(root, ["a", "1"])
+    text = page_of(client)
+    assert "1 rows." in text and "rel=" not in re.sub(r"<head>.*</head>", "", text, flags=re.DOTALL)
+
+
+@pytest.mark.parametrize("lines", [[], ["a,b"]])
+def test_a_table_without_rows_is_shown(client, root, lines):
+    write_table(root, lines)
+    assert "0 rows" in page_of(client)
+
+
+def test_a_page_of_a_table_is_kept_until_the_file_changes(client, root, monkeypatch):
+    path = write_table(root, ["a", "17"])
+    calls = counted(monkeypatch, results_page, "read_table")
+    assert page_of(client) == page_of(client) and ">17<" in page_of(client) and len(calls) == 1
+    path.write_text("a\n18\n")
+    assert ">18<" in page_of(client)
+    # Headings have the units of the project of the run.
+    shutil.copy(root / NAME, root / "hill/plan/project-as-run.toml")
+    page_of(client)
+    assert len(calls) == 3
+
+
+def test_texts_of_a_table_are_escaped(client, root):
+    write_table(root, ["a,b", "<b>&,1"])
+    assert "<td>&lt;b&gt;&amp;</td>" in page_of(client)
+
+
+def test_a_line_without_an_end_is_refused(client, root, monkeypatch):
+    monkeypatch.setattr(results_page, "MOST_IN_A_LINE", 100)
+    write_table(root, ["a", "1" * 101])
+    answer = client.get("/table", params={"name": "hill/plan/tables/years.csv"})
+    assert (
+        answer.status_code == 400
+        and "years.csv: cannot be read as a table: a line has more than 100 letters" in answer.text
+    )

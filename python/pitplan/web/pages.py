@@ -27,6 +27,7 @@ from pitplan.errors import PlanError
 from . import output_words, results_page, run_form
 from .grids import Grid
 from .jobs import DONE, EXPORT, IMPORT, Job, Jobs, steps_of
+from .kept import Kept
 from .project_forms import ProjectForms
 from .project_text import Editor
 from .run_form import COMMANDS, OPTIONS, Asked, WrongForm
@@ -47,6 +48,8 @@ SHOWN = {
     ".txt": "text/plain; charset=utf-8",
 }
 MOST_BYTES = 64 * 1024
+# How many pages of tables are kept, of a megabyte each.
+KEPT = 8
 # How often the events of a job look for news, in seconds.
 PACE = 0.25
 # Seconds in which a browser must send a form.
@@ -69,6 +72,7 @@ class Pages:
 
     def __init__(self, workspace: Workspace, jobs: Jobs, version: str) -> None:
         self.workspace, self.jobs, self.forms = workspace, jobs, ProjectForms()
+        self.tables = Kept[bytes](KEPT)
         # The state of each job that a page shows: when it was read, as JSON, and whether the job has ended.
         self.states: dict[int, tuple[float, str, bool]] = {}
         self.reading = threading.Lock()
@@ -225,15 +229,16 @@ class Pages:
         path = self.workspace.place(name)
         if path.suffix != ".csv":
             raise NotThere(f"{name}: is no table")
-        table = results_page.read_table(path)
-        return self.page(
-            "table.html",
-            title=path.name,
-            name=name,
-            table=table,
-            head=results_page.head_of(path),
-            most=results_page.MOST_ROWS,
-        )
+        number = request.query_params.get("page", "")
+        page = int(number) if number.isascii() and number.isdigit() and len(number) < 10 else 1
+        run = results_page.project_of(path)
+        files = [path, run] if run.is_file() else [path]
+        return HTMLResponse(self.tables.of((path, page), files, lambda: self.page_of_table(path, name, max(1, page))))
+
+    def page_of_table(self, path: Path, name: str, page: int) -> bytes:
+        """Returns a page of a table as HTML."""
+        table, head = results_page.read_table(path, page), results_page.head_of(path)
+        return self.page("table.html", title=path.name, name=name, table=table, head=head).body
 
     def file(self, request: Request) -> Response:
         """A file of an output folder: figures and pages are shown, all others are downloaded."""

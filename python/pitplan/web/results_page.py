@@ -4,16 +4,20 @@ from __future__ import annotations
 
 import csv
 import json
-from collections.abc import Callable
+from collections.abc import Callable, Iterator
 from dataclasses import dataclass
 from decimal import Decimal, InvalidOperation
-from functools import cached_property
+from functools import cached_property, partial
+from itertools import islice
 from pathlib import Path
-from typing import TYPE_CHECKING, Any, Optional
+from typing import IO, TYPE_CHECKING, Any, Optional
+
+from markupsafe import Markup, escape
 
 from pitplan.config import project_writer
 from pitplan.config.project import load
 from pitplan.core import layout
+from pitplan.core.text_format import MOST_IN_A_LINE
 from pitplan.errors import WARNING, PlanError
 from pitplan.results.names import TABLE
 from pitplan.results.sheet_heads import heads_of
@@ -24,7 +28,7 @@ from .workspace import RECORDS, Workspace
 if TYPE_CHECKING:
     from .charts import Chart
 
-# The most rows of a table on a page; a longer one is downloaded.
+# The most rows of a table on a page.
 MOST_ROWS = 2_000
 # A number with more digits before or after the point is shown as it is written.
 MOST_DIGITS = 18
@@ -35,17 +39,54 @@ FIRST = ("methods.csv", "shells.csv", "pushbacks.csv", "years.csv", "sensitivity
 
 @dataclass(frozen=True)
 class Table:
-    """The rows of a table as texts, and how many there are in all."""
+    """A page of a table.
+
+    Attributes
+    ----------
+    names : list of str
+    rows : list of list of str
+        A text for each name.
+    count : int
+        How many rows the table has.
+    first : int
+        How many rows lie before this page.
+    """
 
     names: list[str]
     rows: list[list[str]]
     count: int
+    first: int = 0
 
     @cached_property
     def are_numbers(self) -> list[bool]:
         """Whether each column has numbers, or nothing, in all rows."""
         columns = zip(*self.rows) if self.rows else [() for _ in self.names]
         return [bool(column) and all(it == "" or is_number(it) for it in column) for column in columns]
+
+    @property
+    def page(self) -> int:
+        """The number of this page, from 1."""
+        return 1 + self.first // MOST_ROWS
+
+    @property
+    def pages(self) -> int:
+        """How many pages the table has."""
+        return 1 + max(0, self.count - 1) // MOST_ROWS
+
+    @property
+    def lines(self) -> Markup:
+        """The rows as HTML. A template takes four times as long."""
+        columns = [
+            [number_cell(it) if is_number else f"<td>{escape(it)}</td>" for it in column]
+            for column, is_number in zip(zip(*self.rows), self.are_numbers)
+        ]
+        return Markup("\n".join(f"<tr>{''.join(cells)}</tr>" for cells in zip(*columns)))
+
+
+def number_cell(text: str) -> str:
+    """Returns the cell of a number, with its digits in groups of three; then scripts read the number as it is written."""
+    shown = grouped(text)
+    return f'<td class="number">{text}</td>' if shown == text else f'<td class="number" data-raw="{text}">{shown}</td>'
 
 
 def is_number(text: str) -> bool:
@@ -66,31 +107,49 @@ def grouped(text: str) -> str:
 
 def head_of(path: Path) -> Callable[[str], str]:
     """Returns what makes the heading of a column of a table, with its unit if the project of the run beside it can be read."""
-    project = path.parents[1] / project_writer.AS_RUN
-    if project.is_file():
-        try:
-            return heads_of(load(project))
-        except PlanError:
-            pass
-    return str
+    try:
+        return heads_of(load(project_of(path)))
+    except PlanError:
+        return str
 
 
-def read_table(path: Path) -> Table:
-    """Reads a table that pitplan has written. Raises PlanError if the file is not one."""
+def project_of(path: Path) -> Path:
+    """Returns where the project of the run lies that has written a table."""
+    return path.parents[1] / project_writer.AS_RUN
+
+
+def read_table(path: Path, page: int = 1) -> Table:
+    """Reads a page of a table that pitplan has written, the last one if there are fewer. Raises PlanError if the file is not a table."""
     try:
         with open(path, encoding="utf-8", newline="") as file:
-            reader = csv.reader(file)
-            names: list[str] = next(reader, [])
-            rows: list[list[str]] = []
-            count = 0
-            for row in reader:
-                count += 1
-                if count <= MOST_ROWS:
-                    # A row that was cut is filled, so that the page shows what there is.
-                    rows.append([*row[: len(names)], *[""] * (len(names) - len(row))])
+            count, is_quoted = -1, False
+            for line in lines_of(file):
+                count, is_quoted = count + 1, is_quoted or '"' in line
+            if is_quoted:
+                # A field in quotes may have several lines.
+                file.seek(0)
+                count = sum(1 for _ in csv.reader(lines_of(file))) - 1
+            first = MOST_ROWS * min(page - 1, max(0, count - 1) // MOST_ROWS)
+            file.seek(0)
+            lines = lines_of(file)
+            names: list[str] = next(csv.reader(lines), [])
+            if is_quoted:
+                found = list(islice(csv.reader(lines), first, first + MOST_ROWS))
+            else:
+                found = list(csv.reader(islice(lines, first, first + MOST_ROWS)))
     except (OSError, ValueError, csv.Error) as error:
         raise PlanError(f"{path.name}: cannot be read as a table: {error}") from error
-    return Table(names, rows, count)
+    # A row that was cut is filled, so that the page shows what there is.
+    rows = [[*row[: len(names)], *[""] * (len(names) - len(row))] for row in found]
+    return Table(names, rows, max(0, count), first)
+
+
+def lines_of(file: IO[str]) -> Iterator[str]:
+    """Yields the lines of a text. Raises ValueError if one has more than MOST_IN_A_LINE letters."""
+    for line in iter(partial(file.readline, MOST_IN_A_LINE + 1), ""):
+        if len(line) > MOST_IN_A_LINE:
+            raise ValueError(f"a line has more than {MOST_IN_A_LINE:,} letters")
+        yield line
 
 
 @dataclass(frozen=True)
