@@ -120,6 +120,18 @@ def test_pages_of_one_job_share_what_was_read(root, monkeypatch):
     assert len({found.latest(1) for _ in range(50)}) == 1 and count == 1
 
 
+def test_fresh_news_of_a_job_go_to_all_its_pages_without_a_thread(root, monkeypatch):
+    found = pages.Pages(Workspace(root), Jobs(root), "")
+    found.latest_news[1] = pages.News("{}", True, time.monotonic())
+    monkeypatch.setattr(pages, "PACE", 60.0)
+    monkeypatch.setattr(found, "latest", lambda number: pytest.fail("was read again"))
+
+    async def watched():
+        return [[text async for text in found.news(1)] for _ in range(3)]
+
+    assert asyncio.run(watched()) == [["data: {}\n\n"]] * 3
+
+
 # ---- jobs
 
 

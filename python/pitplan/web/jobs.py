@@ -111,7 +111,7 @@ class Jobs:
     def __init__(self, root: Path) -> None:
         self.root, self.folder = root, root / FOLDER
         self.runners: list[subprocess.Popen[bytes]] = []
-        # Jobs that have ended do not change.
+        # Jobs that have ended do not change. All are read when the queue is looked through first.
         self.ended: dict[int, Job] = {}
         self.lock = threading.RLock()
         demand_private(self.folder)
@@ -263,10 +263,13 @@ class Jobs:
 
     def usual_seconds(self, job: Job) -> Optional[float]:
         """Returns how long the last such job took that succeeded; None without one."""
-        same = (
-            it for it in self.all() if it.status == DONE and it.words[:1] == job.words[:1] and it.project == job.project
-        )
-        return next((it.seconds for it in same if it.number < job.number), None)
+        same = (DONE, job.words[:1], job.project)
+        before = [
+            it
+            for it in list(self.ended.values())
+            if it.number < job.number and (it.status, it.words[:1], it.project) == same
+        ]
+        return max(before, key=lambda it: it.number).seconds if before else None
 
 
 def demand_private(folder: Path) -> None:

@@ -9,7 +9,7 @@ import sys
 import threading
 import time
 from collections.abc import AsyncIterator, Awaitable, Callable, Mapping
-from dataclasses import asdict, replace
+from dataclasses import asdict, dataclass, replace
 from pathlib import Path
 from typing import Any, Optional
 from urllib.parse import parse_qsl, quote
@@ -51,12 +51,25 @@ MOST_BYTES = 64 * 1024
 # How many pages of tables are kept, of a megabyte each.
 KEPT = 8
 # How often the events of a job look for news, in seconds.
-PACE = 0.25
+PACE = 0.5
 # Seconds in which a browser must send a form.
 PATIENCE = 30.0
 # What answers a request: in a thread, or in the event loop if it reads or writes a stream.
 Answer = Callable[[Request], Response]
 Streaming = Callable[[Request], Awaitable[Response]]
+
+
+@dataclass(frozen=True)
+class News:
+    """The state of a job as JSON, whether the job has ended, and when both were read, by the monotonic clock."""
+
+    state: str
+    has_ended: bool
+    at: float
+
+    @property
+    def is_fresh(self) -> bool:
+        return time.monotonic() - self.at < PACE
 
 
 class Pages:
@@ -73,8 +86,8 @@ class Pages:
     def __init__(self, workspace: Workspace, jobs: Jobs, version: str) -> None:
         self.workspace, self.jobs, self.forms = workspace, jobs, ProjectForms()
         self.tables = Kept[bytes](KEPT)
-        # The state of each job that a page shows: when it was read, as JSON, and whether the job has ended.
-        self.states: dict[int, tuple[float, str, bool]] = {}
+        # Of each job that a page shows.
+        self.latest_news: dict[int, News] = {}
         self.reading = threading.Lock()
         self.statics = {name: (TEMPLATES / name).read_bytes() for name in STATIC}
         self.templates = Environment(
@@ -293,25 +306,26 @@ class Pages:
         """Yields the state of a job whenever it is another."""
         last = ""
         while True:
-            state, has_ended = await run_in_threadpool(self.latest, number)
-            if state != last:
-                last = state
-                yield f"data: {state}\n\n"
-            if has_ended:
+            found = self.latest_news.get(number)
+            if not found or not found.is_fresh:
+                found = await run_in_threadpool(self.latest, number)
+            if found.state != last:
+                last = found.state
+                yield f"data: {last}\n\n"
+            if found.has_ended:
                 return
             await asyncio.sleep(PACE)
 
-    def latest(self, number: int) -> tuple[str, bool]:
-        """Returns the state of a job as JSON, and whether it has ended. All pages of a job share what was read within PACE seconds."""
+    def latest(self, number: int) -> News:
+        """Returns the news of a job. All pages of the job share them while they are fresh."""
         with self.reading:
-            known = self.states.get(number)
-            if known and time.monotonic() - known[0] < PACE:
-                return known[1:]
+            found = self.latest_news.get(number)
+            if found and found.is_fresh:
+                return found
             job = self.jobs.read(number)
-            found = json.dumps(self.state_of(job)), job.has_ended
-            self.states[number] = (time.monotonic(), *found)
-            for other in [it for it, (at, *_) in self.states.items() if time.monotonic() - at > PATIENCE]:
-                del self.states[other]
+            found = self.latest_news[number] = News(json.dumps(self.state_of(job)), job.has_ended, time.monotonic())
+            for other in [it for it, old in self.latest_news.items() if found.at - old.at > PATIENCE]:
+                del self.latest_news[other]
             return found
 
     def state_of(self, job: Job) -> dict[str, Any]:
