@@ -21,7 +21,7 @@ _pitplan() {
         return
     fi
     case "$command $before" in
-    "init --out" | "view --out" | "export --out" | "serve --password-file" | "serve --certificate" | "serve --key" | "serve --new-password")
+    "init --out" | "view --out" | "export --out" | "serve --socket")
         _pitplan_paths file && return
         ;;
     "init --role" | "check --set" | "prepare --set" | "shells --set" | "pit --set" | "pit --revenue-factor" | "pit --rf" | "pushbacks --set" | "schedule --set" | "sensitivity --set" | "sensitivity --on" | "sensitivity --workers" | "scenarios --set" | "scenarios --on" | "scenarios --workers" | "scenarios --revenue-factor" | "scenarios --rf" | "gather --revenue-factor" | "gather --rf" | "export --revenue-factor" | "export --rf" | "audit --revenue-factor" | "audit --rf" | "serve --port" | "serve --host")
@@ -70,7 +70,7 @@ _pitplan() {
     audit) options="--out --quiet --revenue-factor --rf -h --help" valued="--out --revenue-factor --rf" ;;
     verify) options="-h --help" valued="" ;;
     convert) options="-h --help --out" valued="--out" ;;
-    serve) options="--port --no-browser --inputs --host --password-file --certificate --key --new-password -h --help" valued="--port --inputs --host --password-file --certificate --key --new-password" ;;
+    serve) options="--port --no-browser --inputs --host --socket -h --help" valued="--port --inputs --host --socket" ;;
     esac
     # Arguments before this one: words that are neither options nor their values, which bash divides at = and :.
     for ((k = 2; k < COMP_CWORD; k++)); do

@@ -26,7 +26,7 @@ python3-distributed   tests    the same
 python3-starlette     tests    pitplan serve
 python3-uvicorn       tests    the same
 python3-httpx         tests    the tests that ask its server
-openssl               tests    the test of pitplan serve --host
+openssl               tests    the test of pitplan serve behind nginx
 parallel              tests    the test of pitplan scenarios --on parallel
 fish                  tests    the test of pitplan's completions
 zsh                   tests    the same
@@ -54,6 +54,7 @@ python3-tornado       all      the test that clicks in the 3D page
 poppler-utils         all      the test that reads the printed report
 python3-selenium      all      the tests that click in the browser application
 chromium-driver       all      the same
+nginx-light           all      the test of pitplan serve behind it
 python3-coverage      changes  tools/planted_changes.py
 iproute2              hosts    the tests of scenarios on several hosts
 slurm-wlm             hosts    the same

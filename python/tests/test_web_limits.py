@@ -12,11 +12,10 @@ from helpers.browser_application import OWN, PORT, entered
 
 from pitplan import PlanError, load
 from pitplan.core import input_places
-from pitplan.web import entrance, jobs, pages, passwords, results_page
-from pitplan.web.entrance import MOST_OF_ADDRESS
+from pitplan.web import jobs, pages, results_page
 from pitplan.web.jobs import DONE, Jobs
 from pitplan.web.security import Access
-from pitplan.web.server import Sparing, make_app, opening
+from pitplan.web.server import Sparing, opening
 from pitplan.web.workspace import Workspace
 
 
@@ -293,56 +292,7 @@ def test_a_table_of_periods_has_a_limit(root, monkeypatch):
         load(with_keys(root, ("[table]", 'periods = "periods.csv"\n[table]')))
 
 
-# ---- before the password
-
-
-def test_few_passwords_wait_and_the_right_one_is_not_held_up(root, monkeypatch):
-    """Wrong passwords wait a while, and of one address few; the right one of another address is checked at once."""
-    known = passwords.hash_of_password("a long password", b"salt")
-    monkeypatch.setattr(passwords, "matches", lambda password, _: password == "a long password")
-    monkeypatch.setattr(entrance, "PATIENCE", 1.5)
-    access = Access(8443, host="mine-server", password=known)
-    app = make_app(root, access)
-
-    async def enter_all():
-        wrong = [asyncio.create_task(post(app, "10.0.0.1", "wrong")) for _ in range(MOST_OF_ADDRESS + 3)]
-        await asyncio.sleep(0.2)
-        began = time.monotonic()
-        right = await post(app, "10.0.0.2", "a long password")
-        return right, time.monotonic() - began, sorted(await asyncio.gather(*wrong))
-
-    right, seconds, wrong = asyncio.run(enter_all())
-    assert right == 303 and seconds < 1.0
-    assert wrong == [403] * MOST_OF_ADDRESS + [429] * 3
-
-
-async def post(app, address, password):
-    """The status of a form with a password that an address sends."""
-    body = f"password={password.replace(' ', '+')}".encode()
-    headers = {"host": "mine-server:8443", "origin": "https://mine-server:8443", "content-length": str(len(body))}
-    scope = {
-        "type": "http",
-        "method": "POST",
-        "path": "/enter",
-        "raw_path": b"/enter",
-        "query_string": b"",
-        "root_path": "",
-        "scheme": "https",
-        "http_version": "1.1",
-        "headers": [(name.encode(), value.encode()) for name, value in headers.items()],
-        "client": (address, 1),
-        "server": ("mine-server", 8443),
-    }
-    sent = []
-
-    async def receive():
-        return {"type": "http.request", "body": body, "more_body": False}
-
-    async def send(message):
-        sent.append(message)
-
-    await app(scope, receive, send)
-    return sent[0]["status"]
+# ---- slow forms, the log, the token
 
 
 def test_a_form_that_is_not_sent_is_refused_after_a_while(root, monkeypatch):

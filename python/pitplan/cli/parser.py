@@ -120,7 +120,7 @@ def parser() -> Parser:
 
 
 def add_serve(subs: Subparsers) -> None:
-    more = "Only this machine reaches it, by the address with the token that is printed, unless you name it for a team. Jobs go on after Ctrl-C."
+    more = "Only this machine reaches it, by the address with the token that is printed, unless a reverse proxy shows it to a team. Jobs go on after Ctrl-C."
     does = "show and run the projects of a folder in the browser"
     sub = subs.add("serve", does, subcommands.serve, more)
     words = "folder with projects (default: this one)"
@@ -129,14 +129,10 @@ def add_serve(subs: Subparsers) -> None:
     sub.add_argument("--no-browser", action="store_true", help="print the address only")
     text = "folder, besides FOLDER, in which the inputs of its projects may lie (repeatable)"
     sub.add_argument("--inputs", type=Path, action="append", default=[], metavar="FOLDER", help=text)
-    text = "let a team reach this machine by this name or address, over TLS; requires a password file, a certificate and its key"
+    text = "name, or NAME:PORT, by which browsers reach a reverse proxy over HTTPS; requires --socket"
     sub.add_argument("--host", metavar="NAME", help=text)
-    text = "file with the hash of the team's password"
-    sub.add_argument("--password-file", type=Path, metavar="FILE", help=text)
-    sub.add_argument("--certificate", type=Path, metavar="FILE", help="TLS certificate of the host (PEM)")
-    sub.add_argument("--key", type=Path, metavar="FILE", help="key of the certificate (PEM)")
-    text = "ask for a password, write its hash to this file, and exit"
-    sub.add_argument("--new-password", type=Path, metavar="FILE", help=text)
+    text = "listen at this Unix socket, for the proxy, in place of a port; requires --host"
+    sub.add_argument("--socket", type=Path, metavar="FILE", help=text)
 
 
 def add_init(subs: Subparsers) -> None:

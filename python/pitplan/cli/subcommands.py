@@ -6,7 +6,7 @@ Each imports its command itself, so that a subcommand loads only the libraries t
 from __future__ import annotations
 
 from argparse import Namespace
-from typing import TYPE_CHECKING, Optional
+from typing import TYPE_CHECKING
 
 from minelib.ending import tell
 from pitplan.core.progress import Progress, on_standard_error, silent
@@ -19,7 +19,6 @@ if TYPE_CHECKING:
     from pitplan.studies.scenarios.result import ScenarioResult
 
     from ..commands.writing import Writing
-    from ..web.server import Team
 
 
 def progress_of(options: Namespace) -> Progress:
@@ -297,56 +296,18 @@ def serve(options: Namespace) -> int:
     from ..core.optional_packages import demand_modules
 
     demand_modules({"starlette": "python3-starlette", "uvicorn": "python3-uvicorn"}, "pitplan serve")
-    from ..web import passwords
-    from ..web.server import Settings, serve
+    from ..errors import PlanError
+    from ..web.server import Proxy, Settings, serve
 
-    if options.new_password:
-        passwords.write(options.new_password, asked_password())
-        print(options.new_password)
-        return 0
-    team, inputs = team_of(options), tuple(options.inputs)
-    serve(Settings(options.folder, options.port, not options.no_browser, __version__, team, inputs))
-    return 0
-
-
-def team_of(options: Namespace) -> Optional[Team]:
-    """The team that may reach the server; None if only this machine may. Raises PlanError if an option is missing."""
-    from pitplan.errors import PlanError
-
-    from ..web import passwords
-    from ..web.server import Team
-
-    needed = {
-        "--password-file": options.password_file,
-        "--certificate": options.certificate,
-        "--key": options.key,
-    }
-    missing = [name for name, value in needed.items() if value is None]
-    if options.host is None:
-        if len(missing) < len(needed):
-            given = next(name for name in needed if name not in missing)
-            raise PlanError(f"{given}: requires --host, the name of this machine for the browsers of the team")
-        return None
-    if missing:
+    if (options.host is None) != (options.socket is None):
+        given, other = ("--host", "--socket") if options.host else ("--socket", "--host")
         raise PlanError(
-            f"--host {options.host}: requires {', '.join(missing)} too: the network carries a password and your plans"
+            f"{given}: requires {other} too: a reverse proxy has this name, and reaches the server by this socket"
         )
-    return Team(options.host, passwords.read(options.password_file), options.certificate, options.key)
-
-
-def asked_password() -> str:
-    """A password, from the terminal twice, otherwise a line of standard input. Raises PlanError if the two differ."""
-    import getpass
-    import sys
-
-    from pitplan.errors import PlanError
-
-    if not sys.stdin.isatty():
-        return sys.stdin.readline().rstrip("\n")
-    found = getpass.getpass("Password of the team: ")
-    if getpass.getpass("The same again: ") != found:
-        raise PlanError("--new-password: the two passwords differ: enter the same twice")
-    return found
+    proxy = Proxy(options.host, options.socket) if options.host else None
+    inputs = tuple(options.inputs)
+    serve(Settings(options.folder, options.port, not options.no_browser, __version__, proxy, inputs))
+    return 0
 
 
 def completion(options: Namespace) -> int:

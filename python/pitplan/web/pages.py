@@ -126,14 +126,11 @@ class Pages:
     def answering(self, answer: Answer, most: int = MOST_BYTES) -> Streaming:
         """Returns the endpoint of an answer that is computed in a thread, with a page in place of an error. A form that is posted has at most `most`
         bytes."""
-        return self.streaming(threaded(answer, most))
-
-    def streaming(self, answer: Streaming) -> Streaming:
-        """Returns the endpoint of an answer that reads or writes a stream, with a page in place of an error."""
+        computed = threaded(answer, most)
 
         async def answered(request: Request) -> Response:
             try:
-                return await answer(request)
+                return await computed(request)
             except Exception as error:
                 return await run_in_threadpool(self.error, *status_of(error, request))
 
@@ -300,7 +297,9 @@ class Pages:
     def events(self, request: Request) -> Response:
         """The progress of a job as server-sent events, until it has ended."""
         job = self.jobs.read(number_of(request.query_params.get("number", "")))
-        return StreamingResponse(self.news(job.number), media_type="text/event-stream")
+        # A proxy sends each event at once.
+        headers = {"X-Accel-Buffering": "no"}
+        return StreamingResponse(self.news(job.number), media_type="text/event-stream", headers=headers)
 
     async def news(self, number: int) -> AsyncIterator[str]:
         """Yields the state of a job whenever it is another."""

@@ -1,4 +1,4 @@
-"""Who may use the application: the browser that was opened with the token, on this machine, or with the password of a team; from its own pages."""
+"""Who may use the application: the browser that was opened with the token, on this machine, or those that a reverse proxy lets in; from its own pages."""
 
 from __future__ import annotations
 
@@ -14,12 +14,11 @@ from starlette.requests import Request
 from starlette.responses import HTMLResponse, PlainTextResponse, RedirectResponse, Response
 from starlette.types import ASGIApp, Message, Receive, Scope, Send
 
+from minelib.ending import tell
+
 # The page that takes the token of the address that pitplan prints.
 ENTER = "/enter"
 SAFE = ("GET", "HEAD")
-# The style of the page that asks for a password.
-STYLE = "/static/app.css"
-HTTPS = 443
 FIRST_PAGE = (
     '<!doctype html><meta http-equiv="refresh" content="0; url=/"><title>pitplan</title><a href="/">Projects</a>'
 )
@@ -69,23 +68,19 @@ class Access:
     key : Key
         The token of the address, by which the browser of this machine enters.
     host : str
-        The name by which the browsers of a team reach it; empty: only this machine does.
-    password : str
-        The hash of the team's password; empty without a team.
+        The name, or the name and port, by which browsers reach the reverse proxy; empty: only this machine reaches the server, by the token.
     """
 
     port: int
     secret: str = field(default_factory=lambda: secrets.token_urlsafe(32))
     key: Key = field(default_factory=Key)
     host: str = ""
-    password: str = ""
 
     @property
     def hosts(self) -> frozenset[str]:
         """The accepted values of the header Host; they exclude a name that an attacker points to this machine."""
         if self.host:
-            name = f"[{self.host}]" if ":" in self.host else self.host.lower()
-            return frozenset([f"{name}:{self.port}", *([name] if self.port == HTTPS else [])])
+            return frozenset([self.host.lower()])
         return frozenset(f"{name}:{self.port}" for name in ("127.0.0.1", "localhost"))
 
     @property
@@ -97,7 +92,7 @@ class Access:
     def address(self) -> str:
         """The address that opens the application."""
         if self.host:
-            return f"https://{max(self.hosts, key=len)}{ENTER}"
+            return f"https://{self.host}/"
         return f"http://127.0.0.1:{self.port}{ENTER}?token={self.token}"
 
     @property
@@ -113,9 +108,7 @@ class Access:
             return refused(421, f"This server answers only to {known}.")
         if request.method not in SAFE and not self.is_own(headers):
             return refused(403, "This request comes from another site.")
-        if request.url.path not in (ENTER, STYLE) and not self.is_known(request):
-            if self.host:
-                return RedirectResponse(ENTER, status_code=303)
+        if not self.host and request.url.path != ENTER and not self.is_known(request):
             return refused(403, "Open the address that pitplan serve has printed: it holds the token of this server.")
         return None
 
@@ -129,10 +122,7 @@ class Access:
 
     def is_known(self, request: Request) -> bool:
         """Returns whether the browser has the cookie."""
-        return self.matches(request.cookies.get(self.cookie, ""))
-
-    def matches(self, word: str) -> bool:
-        return hmac.compare_digest(word.encode(), self.secret.encode())
+        return hmac.compare_digest(request.cookies.get(self.cookie, "").encode(), self.secret.encode())
 
     def enter(self, request: Request) -> Response:
         """Sets the cookie of a browser that has the token, and shows the first page."""
@@ -141,18 +131,10 @@ class Access:
         if not self.key.use(request.query_params.get("token", "")):
             why = "This token is not that of this server, or has been used: open the address that it has printed last."
             return refused(403, why)
+        tell(f"another browser enters by {self.address}")
         # A file of the user opened this address. After a redirect the browser would not send the cookie, which is of this site alone.
-        return self.with_cookie(HTMLResponse(FIRST_PAGE))
-
-    def entered(self) -> Response:
-        """Sets the cookie, and shows the first page."""
-        return self.with_cookie(RedirectResponse("/", status_code=303))
-
-    def with_cookie(self, response: Response) -> Response:
-        """Returns the response with the cookie."""
-        response.set_cookie(
-            self.cookie, self.secret, httponly=True, samesite="strict", path="/", secure=bool(self.host)
-        )
+        response = HTMLResponse(FIRST_PAGE)
+        response.set_cookie(self.cookie, self.secret, httponly=True, samesite="strict", path="/")
         return response
 
 

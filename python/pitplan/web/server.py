@@ -3,12 +3,12 @@
 from __future__ import annotations
 
 import asyncio
+import errno
 import html
-import ipaddress
 import logging
 import resource
 import socket
-import ssl
+import stat
 import tempfile
 import threading
 import time
@@ -22,6 +22,7 @@ from typing import Any, Optional
 from starlette.applications import Starlette
 from starlette.concurrency import run_in_threadpool
 from starlette.middleware import Middleware
+from starlette.routing import Route
 
 from minelib.ending import tell
 from pitplan.core import input_places
@@ -32,13 +33,12 @@ from .area_pages import AreaPages
 from .block_pages import BlockPages
 from .compare_pages import ComparePages
 from .edit_pages import EditPages
-from .entrance import Entrance
 from .grid_pages import GridPages
 from .import_pages import ImportPages
 from .jobs import Jobs
 from .output_pages import OutputPages
 from .pages import Pages
-from .security import Access, Guard
+from .security import ENTER, Access, Guard
 from .workspace import Workspace
 
 HOST = "127.0.0.1"
@@ -51,23 +51,19 @@ PACE = 0.5
 
 
 @dataclass(frozen=True)
-class Team:
-    """How browsers of other machines reach the server.
+class Proxy:
+    """A reverse proxy, which has TLS and passwords, and before which the server stands.
 
     Attributes
     ----------
     host : str
-        The name or address of this machine.
-    password : str
-        The hash of their password.
-    certificate, key : Path
-        Those of TLS, in PEM.
+        The name, or the name and port, by which browsers reach it.
+    socket : Path
+        The Unix socket by which it reaches the server.
     """
 
     host: str
-    password: str
-    certificate: Path
-    key: Path
+    socket: Path
 
 
 @dataclass(frozen=True)
@@ -84,8 +80,8 @@ class Settings:
         Open the browser.
     version : str
         That of pitplan, at the foot of each page.
-    team : Team, optional
-        Browsers of other machines; None: this machine only.
+    proxy : Proxy, optional
+        None: only browsers of this machine reach the server.
     inputs : tuple of Path
         Folders, besides that of the projects, in which their inputs may lie.
     """
@@ -94,7 +90,7 @@ class Settings:
     port: int = 0
     opens: bool = True
     version: str = ""
-    team: Optional[Team] = None
+    proxy: Optional[Proxy] = None
     inputs: tuple[Path, ...] = ()
 
 
@@ -111,12 +107,12 @@ def make_app(root: Path, access: Access, version: str = "") -> Starlette:
         with suppress(asyncio.CancelledError):
             await task
 
-    entrance = Entrance(pages, access)
+    entrance = [] if access.host else [Route(ENTER, pages.answering(access.enter))]
     setup = [*ImportPages(pages).routes, *EditPages(pages).routes, *GridPages(pages).routes]
     blocks = BlockPages(pages)
     setup += AreaPages(pages, blocks).routes
     results = [*blocks.routes, *OutputPages(pages).routes, *ComparePages(pages).routes]
-    routes = [*entrance.routes, *pages.routes, *setup, *results]
+    routes = [*entrance, *pages.routes, *setup, *results]
     return Starlette(routes=routes, middleware=[Middleware(Guard, access=access)], lifespan=lifespan)
 
 
@@ -128,51 +124,35 @@ async def pumping(jobs: Jobs) -> None:
         await asyncio.sleep(PACE)
 
 
-def listening(port: int, host: str = "") -> socket.socket:
-    """Returns a socket that listens on this machine alone, or for a team at the address of a host, if it is a name at all addresses.
-
-    Raises
-    ------
-    PlanError
-        If the port is taken, or if this machine does not have the address.
-    """
-    family, address = address_of(host)
-    found = socket.socket(family, socket.SOCK_STREAM)
+def listening(port: int) -> socket.socket:
+    """Returns a socket that listens on this machine alone. Raises PlanError if the port is taken."""
+    found = socket.socket(socket.AF_INET, socket.SOCK_STREAM)
     found.setsockopt(socket.SOL_SOCKET, socket.SO_REUSEADDR, 1)
+    return bound(found, (HOST, port), f"--port {port}", "give another port, or 0 for any free one")
+
+
+def listening_at(path: Path) -> socket.socket:
+    """Returns a Unix socket that listens for this user and the group of the socket. Raises PlanError if there is another server or file."""
+    with suppress(OSError), socket.socket(socket.AF_UNIX, socket.SOCK_STREAM) as probe:
+        if stat.S_ISSOCK(path.stat().st_mode) and probe.connect_ex(str(path)) == errno.ECONNREFUSED:
+            # The socket of a server that has ended.
+            path.unlink()
+    remedy = "give another file, in a folder that you may write"
+    found = bound(socket.socket(socket.AF_UNIX, socket.SOCK_STREAM), str(path), f"--socket {path}", remedy)
+    path.chmod(0o660)
+    return found
+
+
+def bound(found: socket.socket, address: Any, option: str, remedy: str) -> socket.socket:
+    """Returns a socket that listens at an address. Raises PlanError, with the option and the remedy, if it cannot."""
     try:
-        found.bind((address, port))
+        found.bind(address)
         # From now on connections wait until the server takes them; the address is printed before it does.
         found.listen(socket.SOMAXCONN)
     except OSError as error:
         found.close()
-        raise PlanError(
-            f"--port {port}: cannot listen there ({error.strerror}): give another port, or 0 for any free one"
-        ) from error
+        raise PlanError(f"{option}: cannot listen there ({error.strerror or error}): {remedy}") from error
     return found
-
-
-def address_of(host: str) -> tuple[socket.AddressFamily, str]:
-    """Returns the address to listen at, and its family."""
-    if not host:
-        return socket.AF_INET, HOST
-    try:
-        known = ipaddress.ip_address(host)
-    except ValueError:
-        return socket.AF_INET, ""
-    return (socket.AF_INET6 if known.version == 6 else socket.AF_INET), host
-
-
-def demand_pair(team: Team) -> None:
-    """Raises PlanError if a certificate and its key cannot be used."""
-    try:
-        # A key with a passphrase is refused, not asked for.
-        ssl.SSLContext(ssl.PROTOCOL_TLS_SERVER).load_cert_chain(team.certificate, team.key, lambda: "")
-    except (OSError, ValueError) as error:
-        why = getattr(error, "reason", None) or getattr(error, "strerror", None) or str(error)
-        raise PlanError(
-            f"--certificate {team.certificate} --key {team.key}: cannot be used: {why}: give a certificate and its key in PEM, "
-            "without a passphrase"
-        ) from error
 
 
 class Sparing(logging.Filter):
@@ -250,13 +230,9 @@ def serve(settings: Settings) -> None:
     for folder in settings.inputs:
         if not folder.is_dir():
             raise PlanError(f"--inputs {folder}: is no folder: give one with inputs of projects")
-    team = settings.team
-    if team:
-        demand_pair(team)
-    with closing(listening(settings.port, team.host if team else "")) as bound:
-        port = bound.getsockname()[1]
-        access = Access(port, host=team.host, password=team.password) if team else Access(port)
-        safe = {"ssl_certfile": team.certificate, "ssl_keyfile": team.key} if team else {}
+    proxy = settings.proxy
+    with closing(listening_at(proxy.socket) if proxy else listening(settings.port)) as listener:
+        access = Access(0, host=proxy.host) if proxy else Access(listener.getsockname()[1])
         input_places.confine([root, *settings.inputs])
         raise_limit_of_files()
         config = uvicorn.Config(
@@ -267,14 +243,16 @@ def serve(settings: Settings) -> None:
             http=impatient(H11Protocol),
             ws="none",
             limit_concurrency=MOST_REQUESTS,
-            **safe,
         )
         log_sparingly()
         # What is printed to standard output is held back until the end.
         tell(f"pitplan serves {root}\n{access.address}\nCtrl-C ends it; jobs go on.")
-        if team:
-            tell("On a network that you do not trust, put a reverse proxy before it.")
         with opening(access.address) as page:
-            if settings.opens:
-                threading.Timer(0.5, webbrowser.open, (page.as_uri() if not team else access.address,)).start()
-            uvicorn.Server(config).run(sockets=[bound])
+            if settings.opens and not proxy:
+                threading.Timer(0.5, webbrowser.open, (page.as_uri(),)).start()
+            try:
+                uvicorn.Server(config).run(sockets=[listener])
+            finally:
+                if proxy:
+                    # Another server takes the place of the socket as soon as this one does not listen.
+                    proxy.socket.unlink(missing_ok=True)
