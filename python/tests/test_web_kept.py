@@ -8,6 +8,7 @@ import shutil
 import pytest
 from conftest import PROJECT, rows
 from helpers.browser_application import PORT, entered
+from helpers.documentation import ROOT
 
 from pitplan import PlanError
 from pitplan.web import project_forms, results_page, workspace
@@ -119,6 +120,20 @@ def test_a_record_is_read_once_and_again_after_the_next_run(root, monkeypatch):
     assert found.result(root / "hill/plan").project == NAME and len(calls) == 1
     record.write_text('{"project": "../project.toml", "schedule": "lp"}')
     assert [it.kind for it in found.results()] == ["Schedule"]
+
+
+def test_charts_are_made_once_and_again_if_a_table_changes(client, root, monkeypatch):
+    folder = root / "hill/plan"
+    (folder / "tables").mkdir(parents=True)
+    (folder / "plan.json").write_text('{"project": "../project.toml", "shells": {"selected": 0.8}}')
+    shutil.copy(root / NAME, folder / "project-as-run.toml")
+    table = (ROOT / "examples/plan/expected/shells.csv").read_text()
+    (folder / "tables/shells.csv").write_text(table)
+    calls = counted(monkeypatch, results_page, "charts_in")
+    first, second = (client.get("/result", params={"name": "hill/plan"}).text for _ in range(2))
+    assert len(calls) == 1 and first == second and "Pit by pit" in first
+    (folder / "tables/shells.csv").write_text("\n".join(table.splitlines()[:1]))
+    assert "Pit by pit" not in client.get("/result", params={"name": "hill/plan"}).text
 
 
 def test_the_page_of_a_project_shows_the_file_as_it_is(client, root, monkeypatch):

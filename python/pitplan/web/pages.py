@@ -11,7 +11,7 @@ import time
 from collections.abc import AsyncIterator, Awaitable, Callable, Mapping
 from dataclasses import asdict, dataclass, replace
 from pathlib import Path
-from typing import Any, Optional
+from typing import TYPE_CHECKING, Any, Optional
 from urllib.parse import parse_qsl, quote
 
 from jinja2 import Environment, FileSystemLoader, StrictUndefined
@@ -35,6 +35,10 @@ from .security import SANDBOX
 from .values_form import Values
 from .workspace import RECORDS, NotThere, Workspace, shown
 
+# Charts need pandas, which is loaded when a page needs it.
+if TYPE_CHECKING:
+    from .charts import Chart
+
 TEMPLATES = paths.PACKAGE / "templates" / "web"
 SCRIPT = "text/javascript; charset=utf-8"
 STATIC = {"app.css": "text/css; charset=utf-8"} | {
@@ -48,7 +52,7 @@ SHOWN = {
     ".txt": "text/plain; charset=utf-8",
 }
 MOST_BYTES = 64 * 1024
-# How many pages of tables are kept, of a megabyte each.
+# How many pages of tables, of a megabyte each, and how many results' charts are kept.
 KEPT = 8
 # How often the events of a job look for news, in seconds.
 PACE = 0.5
@@ -85,7 +89,8 @@ class Pages:
 
     def __init__(self, workspace: Workspace, jobs: Jobs, version: str) -> None:
         self.workspace, self.jobs, self.forms = workspace, jobs, ProjectForms()
-        self.tables = Kept[bytes](KEPT)
+        self.tables: Kept[bytes] = Kept(KEPT)
+        self.charts: Kept[list[Chart]] = Kept(KEPT)
         # Of each job that a page shows.
         self.latest_news: dict[int, News] = {}
         self.reading = threading.Lock()
@@ -228,7 +233,7 @@ class Pages:
             "result.html",
             title=f"{found.kind}: {found.name}",
             result=found,
-            page=results_page.page_of(folder, self.workspace),
+            page=results_page.page_of(folder, self.workspace, self.charts),
             seen=hash_of(self.workspace.place(found.project)) if found.project else "",
             formats=output_words.WORDS,
         )

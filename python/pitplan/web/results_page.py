@@ -22,6 +22,7 @@ from pitplan.errors import WARNING, PlanError
 from pitplan.results.names import TABLE
 from pitplan.results.sheet_heads import heads_of
 
+from .kept import Kept
 from .workspace import RECORDS, Workspace
 
 # Charts need pandas, which is loaded when a page needs it.
@@ -196,8 +197,9 @@ class Page:
         return next((name for name in self.files if name.endswith(".xlsx")), "")
 
 
-def page_of(folder: Path, workspace: Workspace) -> Page:
-    """Returns the parts of the page of an output folder. Raises PlanError if it has no record."""
+def page_of(folder: Path, workspace: Workspace, charts: Kept[list[Chart]]) -> Page:
+    """Returns the parts of the page of an output folder, with the charts that are kept while its files are unchanged. Raises PlanError if it has no
+    record."""
     record = record_of(folder)
     files = sorted(
         it
@@ -211,6 +213,7 @@ def page_of(folder: Path, workspace: Workspace) -> Page:
     tables.sort(key=lambda pair: (order.get(pair[0].name, len(order)), pair[1]))
     pages = [name for it, name in named if it.suffix == ".html" and it.parent == folder]
     notes = [str(note) for note in record.get("notes", [])]
+    drawn = [it for it in files if it.suffix in (".csv", ".json", ".toml")]
     return Page(
         notes,
         len(record["verified"]) if "verified" in record else None,
@@ -219,7 +222,7 @@ def page_of(folder: Path, workspace: Workspace) -> Page:
         pages,
         [name for _, name in named],
         "shells" in record and (folder / TABLE).is_file(),
-        charts_in(folder, record),
+        charts.of(folder, drawn, lambda: charts_in(folder, record)),
         ["revenue_factor", *(key for key, name in (("pushback", "pushbacks"), ("year", "schedule")) if name in record)],
     )
 
