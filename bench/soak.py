@@ -84,17 +84,26 @@ class Client:
 
     def ask(self, kind: str, method: str, path: str, body: bytes = b"", **headers: str) -> str:
         """Asks, and notes the time and the status."""
-        before, text = time.monotonic(), ""
+        before = time.monotonic()
         try:
-            self.connection.request(method, path, body or None, {**self.headers, **headers})
-            answer = self.connection.getresponse()
-            status, text = answer.status, answer.read().decode(errors="replace")
+            status, text = self.asked(method, path, body, headers)
         except (http.client.HTTPException, ConnectionError):
-            self.connection.close()
-            status = 0
+            status, text = 0, ""
         self.server.seconds[kind].append(time.monotonic() - before)
         self.server.statuses[kind, status] += 1
         return text
+
+    def asked(self, method: str, path: str, body: bytes, headers: dict[str, str]) -> tuple[int, str]:
+        """Asks again, as browsers do, if the server has closed the connection while the client paused."""
+        for is_last in (False, True):
+            try:
+                self.connection.request(method, path, body or None, {**self.headers, **headers})
+                answer = self.connection.getresponse()
+                return answer.status, answer.read().decode(errors="replace")
+            except (http.client.HTTPException, ConnectionError):
+                self.connection.close()
+                if is_last:
+                    raise
 
     def once(self) -> None:
         getattr(self, self.random.choices(list(MIX), list(MIX.values()))[0])()
