@@ -96,9 +96,10 @@ def test_a_place_without_a_socket_is_refused(tmp_path, name, why):
     [
         (["--host", "mine"], "--host: requires --socket too: a reverse proxy has this name"),
         (["--socket", "s"], "--socket: requires --host too"),
+        (["--host", "mine", "--socket", "s", "--port", "8"], "--port 8: the server listens at --socket s: give one"),
     ],
 )
-def test_an_option_that_is_missing_is_named(tmp_path, capsys, words, why):
+def test_options_that_do_not_go_together_are_named(tmp_path, capsys, words, why):
     assert main(["serve", str(tmp_path), *words]) == 1
     assert why in capsys.readouterr().err
 

@@ -304,6 +304,8 @@ def serve(options: Namespace) -> int:
         raise PlanError(
             f"{given}: requires {other} too: a reverse proxy has this name, and reaches the server by this socket"
         )
+    if options.socket and options.port:
+        raise PlanError(f"--port {options.port}: the server listens at --socket {options.socket}: give one of both")
     proxy = Proxy(options.host, options.socket) if options.host else None
     inputs = tuple(options.inputs)
     serve(Settings(options.folder, options.port, not options.no_browser, __version__, proxy, inputs))
