@@ -79,7 +79,7 @@ class EditPages:
         form = form_of(request)
         name = form.get("project", "")
         path = self.pages.project_path(name)
-        forms = self.pages.forms.of(path, name)
+        forms = self.pages.forms(path, name)
         editor, before = forms.editor, forms.fields
         if editor.wrong:
             return self.pages.project_page(name, editor, 422)

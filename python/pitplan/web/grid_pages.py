@@ -50,7 +50,7 @@ class GridPages:
         path = self.pages.project_path(name)
         if kind not in KINDS:
             raise WrongForm(f"Grid: found {kind[:40]!r}, expected one of {', '.join(KINDS)}")
-        forms = self.pages.forms.of(path, name)
+        forms = self.pages.forms(path, name)
         editor = forms.editor
         if editor.wrong:
             return self.pages.project_page(name, editor, 422)
@@ -71,7 +71,7 @@ class GridPages:
         form = form_of(request)
         name = form.get("project", "")
         path = self.pages.project_path(name)
-        forms = self.pages.forms.of(path, name)
+        forms = self.pages.forms(path, name)
         editor = forms.editor
         if editor.wrong:
             return self.pages.project_page(name, editor, 422)

@@ -24,11 +24,11 @@ from pitplan.core import layout, paths
 from pitplan.core.atomic_files import hash_of
 from pitplan.errors import PlanError
 
-from . import output_words, results_page, run_form
+from . import output_words, project_forms, results_page, run_form
 from .grids import Grid
 from .jobs import DONE, EXPORT, IMPORT, Job, Jobs, steps_of
 from .kept import Kept
-from .project_forms import ProjectForms
+from .project_forms import Forms
 from .project_text import Editor
 from .run_form import COMMANDS, OPTIONS, Asked, WrongForm
 from .security import SANDBOX
@@ -52,8 +52,8 @@ SHOWN = {
     ".txt": "text/plain; charset=utf-8",
 }
 MOST_BYTES = 64 * 1024
-# How many pages of tables, of a megabyte each, and how many results' charts are kept.
-KEPT = 8
+# How many projects are kept, and how many pages of tables, of a megabyte each, and results' charts.
+MOST_FORMS, MOST_TABLES = 64, 8
 # How often the events of a job look for news, in seconds.
 PACE = 0.5
 # Seconds in which a browser must send a form.
@@ -88,9 +88,10 @@ class Pages:
     """
 
     def __init__(self, workspace: Workspace, jobs: Jobs, version: str) -> None:
-        self.workspace, self.jobs, self.forms = workspace, jobs, ProjectForms()
-        self.tables: Kept[bytes] = Kept(KEPT)
-        self.charts: Kept[list[Chart]] = Kept(KEPT)
+        self.workspace, self.jobs = workspace, jobs
+        self.known_forms: Kept[Forms] = Kept(MOST_FORMS)
+        self.tables: Kept[bytes] = Kept(MOST_TABLES)
+        self.charts: Kept[list[Chart]] = Kept(MOST_TABLES)
         # Of each job that a page shows.
         self.latest_news: dict[int, News] = {}
         self.reading = threading.Lock()
@@ -162,11 +163,17 @@ class Pages:
         """A project, the forms that run it, and its text."""
         name = request.query_params.get("name", "")
         path, saved = self.project_path(name), request.query_params.get("saved")
-        forms = self.forms.of(path, name)
+        forms = self.forms(path, name)
         editor = replace(forms.editor, said="Saved." if saved == "text" and not forms.editor.wrong else "")
         values = Values(forms.fields, said=saved if saved in ("values", "schedule") else "")
         grid = forms.grids.get(saved or "")
         return self.project_page(name, editor, values=values, grid=replace(grid, said="Saved.") if grid else None)
+
+    def forms(self, path: Path, name: str) -> Forms:
+        """Returns the forms of a project's file. Its name is that from the folder that is served."""
+        return self.known_forms.of(
+            path, [path], lambda: project_forms.read(path, name), keeps=lambda found: found.is_of_one_file
+        )
 
     def project_path(self, name: str) -> Path:
         """Returns the path of a project. Raises NotThere if it does not exist."""
@@ -185,7 +192,7 @@ class Pages:
     ) -> Response:
         """Returns the page of a project with a text in its editor, and with the numbers and the grids of the file, or others in their place."""
         path = self.workspace.place(name)
-        found, forms = self.workspace.project_in(path), self.forms.of(path, name)
+        found, forms = self.workspace.project_in(path), self.forms(path, name)
         folders = {
             command.name: run_form.default_folder(forms.project, command, self.workspace)
             for command in COMMANDS.values()

@@ -10,12 +10,8 @@ from pitplan.config.project import Project
 
 from . import project_text
 from .grids import Grid, grids_of
-from .kept import Kept
 from .project_text import Editor
 from .values_form import Field, fields_of
-
-# How many projects are kept as they were read.
-KEPT = 64
 
 
 @dataclass(frozen=True)
@@ -44,19 +40,8 @@ class Forms:
         return self.project is not None and self.project.shells.calendar.file is None
 
 
-class ProjectForms:
-    """The forms of the projects that were asked for last."""
-
-    def __init__(self) -> None:
-        self.kept = Kept[Forms](KEPT)
-
-    def of(self, path: Path, name: str) -> Forms:
-        """Returns the forms of a project's file. Its name is that from the folder that is served."""
-        return self.kept.of(path, [path], lambda: read(path, name), keeps=lambda found: found.is_of_one_file)
-
-
 def read(path: Path, name: str) -> Forms:
-    """Reads the forms of a project's file."""
+    """Returns the forms of a project's file. Its name is that from the folder that is served."""
     editor = project_text.opened(path, name)
     if editor.wrong:
         return Forms(editor)
