@@ -1,5 +1,6 @@
 """The browser application behind a reverse proxy: the names that it answers to, its Unix socket, and the nginx of docs/planning/browser.md."""
 
+import json
 import os
 import re
 import shutil
@@ -19,6 +20,7 @@ from starlette.testclient import TestClient
 from pitplan import PlanError
 from pitplan.cli import main
 from pitplan.core import paths
+from pitplan.web import jobs
 from pitplan.web.security import Access
 from pitplan.web.server import listening_at, make_app
 
@@ -206,7 +208,6 @@ def test_nginx_refuses_a_wrong_password_and_pitplan_another_name(recipe):
 
 @needs_nginx
 def test_a_file_larger_than_the_default_of_nginx_is_taken(recipe):
-    """And the job that recognises it tells its news at once, while it runs."""
     base, top = recipe
     table = "x,y,z,cu\n" + "".join(
         f"{x},{y},{z},0.5\n" for z in range(10, 60, 10) for y in range(100) for x in range(400)
@@ -217,8 +218,20 @@ def test_a_file_larger_than_the_default_of_nginx_is_taken(recipe):
         answer = browser.put(url, content=table.encode(), headers={"origin": base})
         assert answer.status_code == 201, answer.text
         assert (top / "mines/pit/blocks.csv").read_text() == table
-        with browser.stream("GET", answer.json()["next"].replace("/job?", "/job/events?")) as events:
-            assert next(events.iter_lines()).startswith("data: {")
+
+
+@needs_nginx
+def test_news_of_a_job_come_while_it_runs(recipe):
+    """nginx does not wait for more of an answer that has no end. The job runs as long as this process."""
+    folder = recipe[1] / "mines" / jobs.FOLDER / "5000"
+    folder.mkdir(parents=True)
+    job = {"number": 5000, "words": ["check", "x"], "project": "x", "folder": "", "asked": "2026-01-01T00:00:00"}
+    (folder / jobs.JOB).write_text(json.dumps(job))
+    state = {"status": jobs.RUNNING, "runner": os.getpid(), "began": jobs.begun_at(os.getpid())}
+    (folder / jobs.STATE).write_text(json.dumps(state))
+    with browser_of(recipe) as browser, browser.stream("GET", "/job/events?number=5000") as events:
+        assert json.loads(next(events.iter_lines()).removeprefix("data: "))["status"] == jobs.RUNNING
+    shutil.rmtree(folder)
 
 
 @needs_nginx
