@@ -52,8 +52,8 @@ SHOWN = {
     ".txt": "text/plain; charset=utf-8",
 }
 MOST_BYTES = 64 * 1024
-# How many projects are kept, and how many pages of tables, of a megabyte each, and results' charts.
-MOST_FORMS, MOST_TABLES = 64, 8
+# How many projects and charts are kept, and how many pages of tables, of some megabytes each.
+MOST_KEPT, MOST_TABLES = 64, 4
 # How often the events of a job look for news, in seconds.
 PACE = 0.5
 # Seconds in which a browser must send a form.
@@ -89,9 +89,9 @@ class Pages:
 
     def __init__(self, workspace: Workspace, jobs: Jobs, version: str) -> None:
         self.workspace, self.jobs = workspace, jobs
-        self.known_forms: Kept[Forms] = Kept(MOST_FORMS)
+        self.known_forms: Kept[Forms] = Kept(MOST_KEPT)
         self.tables: Kept[bytes] = Kept(MOST_TABLES)
-        self.charts: Kept[list[Chart]] = Kept(MOST_TABLES)
+        self.charts: Kept[list[Chart]] = Kept(MOST_KEPT)
         # Of each job that a page shows.
         self.latest_news: dict[int, News] = {}
         self.reading = threading.Lock()
