@@ -12,7 +12,7 @@ from helpers.browser_application import OWN, PORT, entered
 
 from pitplan import PlanError, load
 from pitplan.core import input_places
-from pitplan.web import jobs, pages, results_page
+from pitplan.web import jobs, pages, results_page, security
 from pitplan.web.jobs import DONE, Jobs
 from pitplan.web.security import Access
 from pitplan.web.server import Sparing, opening
@@ -308,6 +308,23 @@ def test_a_form_that_is_not_sent_is_refused_after_a_while(root, monkeypatch):
 
     with pytest.raises(PlanError, match="The form was not sent within 0 seconds"):
         asyncio.run(stuck())
+
+
+@pytest.mark.parametrize(("more", "taken"), [(True, 16), (False, 1)])
+def test_of_a_refused_form_a_megabyte_is_taken(more, taken):
+    asked = []
+
+    async def receive():
+        asked.append(1)
+        return {"type": "http.request", "body": b"x" * (64 << 10), "more_body": more}
+
+    asyncio.run(security.drain(receive))
+    assert len(asked) == taken
+
+
+def test_a_refused_form_that_is_not_sent_holds_up_nobody(monkeypatch):
+    monkeypatch.setattr(security, "DRAINING", 0.05)
+    asyncio.run(asyncio.wait_for(security.drain(lambda: asyncio.sleep(60)), 20))
 
 
 def test_the_same_words_are_logged_once_a_minute():

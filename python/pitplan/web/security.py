@@ -2,9 +2,11 @@
 
 from __future__ import annotations
 
+import asyncio
 import hmac
 import secrets
 import threading
+from contextlib import suppress
 from dataclasses import dataclass, field
 from typing import Optional
 from urllib.parse import urlsplit
@@ -19,6 +21,8 @@ from minelib.ending import tell
 # The page that takes the token of the address that pitplan prints.
 ENTER = "/enter"
 SAFE = ("GET", "HEAD")
+# The bytes and seconds of a refused form that are taken.
+MOST_DRAINED, DRAINING = 1 << 20, 1.0
 FIRST_PAGE = (
     '<!doctype html><meta http-equiv="refresh" content="0; url=/"><title>pitplan</title><a href="/">Projects</a>'
 )
@@ -163,4 +167,18 @@ class Guard:
             await send(message)
 
         refusal = self.access.refusal(Request(scope))
+        if refusal:
+            await drain(receive)
         await (refusal or self.app)(scope, receive, with_headers)
+
+
+async def drain(receive: Receive) -> None:
+    """Takes what comes at once of a short form: a proxy that still sends a form when the connection ends shows no answer."""
+    with suppress(TimeoutError):
+        async with asyncio.timeout(DRAINING):
+            left = MOST_DRAINED
+            while left > 0:
+                message = await receive()
+                left -= len(message.get("body", b""))
+                if not message.get("more_body"):
+                    return
