@@ -36,6 +36,7 @@ docs:
 	tools/make_docs.py
 	tools/make_manual.py
 	tools/columns_page.py
+	tools/keys_page.py
 	tools/bench_tables.py
 	tools/pitplan completion bash > completions/pitplan.bash
 	tools/pitplan completion zsh > completions/_pitplan

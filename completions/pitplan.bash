@@ -13,19 +13,27 @@ _pitplan_paths() {
     esac
 }
 
+_pitplan_keys() {
+    compopt -o nospace 2> /dev/null
+    _pitplan_words "title= output.folder= table.file= table.x= table.y= table.z= table.density= table.volume= table.id= table.rock_type= table.domain= table.separator= table.decimal= table.encoding= table.header_row= table.first_row= table.empty= table.class= table.tonnes= table.missing_blocks= table.reblock= table.topography= table.null_values= table.nulls= table.map= table.calculate= table.filter= table.clip= table.cell_size= table.rock_percent= table.ore_percent= grid.size= grid.tolerance= grid.azimuth= economics.currency= economics.mining_cost= economics.mining_cost_per_bench= economics.mining_cost_reference= economics.mining_cost_by_elevation= economics.processing_cost= economics.decimals= economics.cutoff= economics.mining_recovery= economics.dilution= economics.royalty= economics.royalty_per_tonne= economics.fixed_cost_per_year= economics.capex= economics.mcaf= economics.pcaf= classes= metals.1.name= metals.1.column= metals.1.unit= metals.1.price= metals.1.selling_cost= metals.1.recovery= metals.1.tail_grade= metals.1.prices= metals.1.price_per= metals.1.smelter= processes.1.name= processes.1.cost= processes.1.recovery= processes.1.capacity= processes.1.feed= processes.1.accepts= slopes.precedence_benches= slopes.never_steeper= slopes.domains= shells.revenue_factors= shells.selected= shells.discount_rate= shells.processing_capacity= shells.mining_capacity= shells.discounting= shells.specified= haulage.pit_exit= haulage.ramp_gradient= haulage.cost= haulage.ex_pit_distance= constraints.must_mine= constraints.exclude= constraints.as_mined= constraints.topography= constraints.areas= pushbacks.count= pushbacks.tonnes= pushbacks.revenue_factors= pushbacks.ultimate_pit= pushbacks.min_mining_width= pushbacks.min_bottom_width= pushbacks.mining_cost_added= schedule.processing_capacity= schedule.mining_capacity= schedule.vertical_advance_rate= schedule.bench_lag= schedule.ramp_up= schedule.years= schedule.bins= schedule.milp= schedule.stockpiles= schedule.max_metal_per_year= schedule.minimum= schedule.limits= schedule.feed= dumps.1.name= dumps.1.cost= dumps.1.capacity= dumps.1.accepts= cash_flow.discount_rates= cash_flow.closure_cost= cash_flow.tax_rate= cash_flow.depreciation= price_paths.count= price_paths.seed= price_paths.metals= sensitivity.changes= sensitivity.parameters= sensitivity.pairs= sensitivity.skin= sensitivity.largest_increment= sensitivity.hill= scenarios.realisations= scenarios.columns= scenarios.prices= figures.levels= figures.north= figures.east= figures.metal= figures.formats= periods.1.years= periods.1.period_months= periods.1.mining_capacity= periods.1.processing_capacity= periods.1.capacity= periods.1.minimum= periods.1.feed= periods.1.stockpiles= periods.1.dumps= periods.1.prices= periods.1.mining_cost_factor= periods.1.processing_cost_factor= periods.1.selling_cost_factor= periods.1.fixed_cost_per_year= periods.1.capex="
+}
+
 _pitplan() {
     local command=${COMP_WORDS[1]} before=${COMP_WORDS[COMP_CWORD - 1]} options="" valued="" given=0 k
     COMPREPLY=()
     if [ "$COMP_CWORD" -eq 1 ]; then
-        _pitplan_words "init check completion doctor prepare shells pit pushbacks schedule sensitivity compare scenarios gather scenario report view export audit verify convert serve --version -h --help"
+        _pitplan_words "init check schema completion doctor prepare shells pit pushbacks schedule sensitivity compare scenarios gather scenario report view export audit verify convert serve --version -h --help"
         return
     fi
     case "$command $before" in
     "init --out" | "view --out" | "export --out" | "serve --socket")
         _pitplan_paths file && return
         ;;
-    "init --role" | "check --set" | "prepare --set" | "shells --set" | "pit --set" | "pit --revenue-factor" | "pit --rf" | "pushbacks --set" | "schedule --set" | "sensitivity --set" | "sensitivity --on" | "sensitivity --workers" | "scenarios --set" | "scenarios --on" | "scenarios --workers" | "scenarios --revenue-factor" | "scenarios --rf" | "gather --revenue-factor" | "gather --rf" | "export --revenue-factor" | "export --rf" | "audit --revenue-factor" | "audit --rf" | "serve --port" | "serve --host")
+    "init --role" | "pit --revenue-factor" | "pit --rf" | "sensitivity --on" | "sensitivity --workers" | "scenarios --on" | "scenarios --workers" | "scenarios --revenue-factor" | "scenarios --rf" | "gather --revenue-factor" | "gather --rf" | "export --revenue-factor" | "export --rf" | "audit --revenue-factor" | "audit --rf" | "serve --port" | "serve --host")
         return
+        ;;
+    "check --set" | "prepare --set" | "shells --set" | "pit --set" | "pushbacks --set" | "schedule --set" | "sensitivity --set" | "scenarios --set")
+        _pitplan_keys && return
         ;;
     "prepare --out" | "shells --out" | "pit --out" | "pushbacks --out" | "schedule --out" | "sensitivity --out" | "compare --out" | "scenarios --out" | "report --sensitivity" | "audit --out" | "convert --out" | "serve --inputs")
         _pitplan_paths folder && return
@@ -52,6 +60,7 @@ _pitplan() {
     case $command in
     init) options="--out --role --replace --figures --json -h --help" valued="--out --role" ;;
     check) options="--set --quiet -h --help" valued="--set" ;;
+    schema) options="-h --help" valued="" ;;
     completion) options="-h --help" valued="" ;;
     doctor) options="--json -h --help" valued="" ;;
     prepare) options="--set --out --quiet -h --help" valued="--set --out" ;;

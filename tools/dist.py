@@ -45,7 +45,7 @@ Priority: optional
 Installed-Size: {kilobytes}
 Depends: libc6 (>= {c_library}), python3
 Recommends: {layer}
-Suggests: python3-vtk9, python3-ezdxf, python3-gdal, libjs-three, python3-dask, python3-distributed, python3-starlette, python3-uvicorn
+Suggests: python3-vtk9, python3-ezdxf, python3-gdal, libjs-three, python3-dask, python3-distributed, python3-starlette, python3-uvicorn, python3-tomlkit
 Description: open-pit mine planning, with a proved solver for ultimate pits
  pitplan goes from a block model, prices, costs and slope angles to pit
  shells, pushbacks, schedules and reports. It needs the recommended packages.

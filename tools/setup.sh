@@ -24,6 +24,7 @@ coinor-cbc            tests    the same: that solver
 python3-dask          tests    pitplan scenarios --on local, or on a cluster
 python3-distributed   tests    the same
 python3-starlette     tests    pitplan serve
+python3-tomlkit       tests    the same: forms that change a project
 python3-uvicorn       tests    the same
 python3-httpx         tests    the tests that ask its server
 openssl               tests    the test of pitplan serve behind nginx
@@ -33,6 +34,7 @@ zsh                   tests    the same
 python3-pytest        tests    make test
 python3-pytest-xdist  tests    make test-plan, as many processes as processors
 python3-hypothesis    tests    the same: properties
+python3-jsonschema    tests    the test of pitplan schema
 black                 tests    make style: the layout of Python code
 isort                 tests    the same: the order of imports
 python3-pyflakes      tests    the same: names that nothing uses or defines

@@ -101,7 +101,7 @@ def test_rock_on_request_in_scenarios(plan_folder):
     ("text", "said"),
     [
         ('missing_blocks = "rock"', '[table] missing_blocks: found "rock", expected one of refuse, air'),
-        ("missing_blocks = { tonnes = -1 }", "[table.missing_blocks] tonnes: -1 is below 0"),
+        ("missing_blocks = { tonnes = -1 }", "[table.missing_blocks] tonnes: found -1, expected 0 or more"),
         (
             "missing_blocks = { tonnes = 1 }",
             "[table] missing_blocks: needs a rock_type if, and only if, [table] rock_type names a column",

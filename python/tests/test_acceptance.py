@@ -84,7 +84,7 @@ def test_what_is_accepted_against_the_rules_is_found(plan_folder, monkeypatch):
         ("{ au = { min = 1 } }", r"leach accepts: found au, expected one of rock_type, domain, class, cu"),
         ("{ cu = { min = 2, max = 1 } }", r"accepts\] cu: min 2 is above max 1"),
         ("{ cu = {} }", r"accepts\] cu: expected min, max or both, such as \{ min = 0.1 \}"),
-        ("{ rock_type = [] }", r"accepts\] rock_type: found \[\], expected codes"),
+        ("{ rock_type = [] }", r"accepts\] rock_type: must be a code or a list of codes"),
         ("{ cu = { least = 2 } }", r"accepts.cu\] least: unknown key"),
     ],
 )

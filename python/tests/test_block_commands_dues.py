@@ -185,7 +185,7 @@ def test_a_sum_that_is_not_that_of_its_blocks_is_found(plan_folder, name):
         ),
         ("years = 2\nminimum = { gold = 1 }", r"\[schedule.minimum\]: found gold, expected one of feed, total, copper"),
         ("years = 2\nminimum = { feed = 400 }", r"\[schedule.minimum\] feed: 400 is above the most of a year, 300"),
-        ("years = 2\nminimum = { feed = -1 }", r"\[schedule.minimum\] feed: -1 is below 0"),
+        ("years = 2\nminimum = { feed = -1 }", r"\[schedule.minimum\] feed: found -1, expected 0 or more"),
         ('[[schedule.limits]]\ncolumn = "cu"', r"\[schedule.limits 1\] max: is missing, and so is min"),
         (
             '[[schedule.limits]]\ncolumn = "cu"\nmax = 1\nof = "mill"',
@@ -195,7 +195,10 @@ def test_a_sum_that_is_not_that_of_its_blocks_is_found(plan_folder, name):
             '[[schedule.limits]]\ncolumn = "cu"\nmax = 1\nmin = 2',
             r"\[schedule.limits 1\] min: 2 is above the max of 1",
         ),
-        ('[[schedule.limits]]\ncolumn = "as t"\nmax = 1', r'\[schedule.limits 1\] name: "as t" is not one word'),
+        (
+            '[[schedule.limits]]\ncolumn = "as t"\nmax = 1',
+            r'\[schedule.limits 1\] name: found "as t", expected one word',
+        ),
         (
             '[[schedule.limits]]\ncolumn = "cu"\nmax = 1\n[[schedule.limits]]\ncolumn = "cu"\nmax = 2',
             r"\[schedule\] limits: two have one name",

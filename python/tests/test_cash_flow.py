@@ -221,14 +221,14 @@ def test_a_mine_that_never_pays_back_has_neither(tmp_path):
 @pytest.mark.parametrize(
     ("keys", "said"),
     [
-        ("tax_rate = 25", "tax_rate: found 25, expected a share below 1, such as 0.25 for 25 %"),
-        ("discount_rates = [8]", "discount_rates: found 8, expected rates per year, such as 0.08 for 8 %"),
-        ("discount_rates = [0.1, 0.1]", "discount_rates: found 2 rates, expected 20 at most, each once"),
+        ("tax_rate = 25", "tax_rate: found 25, expected 0 to below 1, such as 0.25 for 25 %"),
+        ("discount_rates = [8]", "discount_rates: found 8, expected 0 to 1, such as 0.08 for 8 %"),
+        ("discount_rates = [0.1, 0.1]", "discount_rates: found a rate twice, expected each once"),
         ("discount_rates = 0.1", r"discount_rates: must be a list of rates per year, such as \[0.05, 0.08, 0.10\]"),
         ('depreciation = "linear"', 'depreciation: expected "units_of_production" or straight line over years'),
         ("depreciation = { years = 0 }", "years: found 0, expected above 0"),
         ("depreciation = { year = 5 }", "years: is missing"),
-        ("closure_cost = -1", "closure_cost: -1 is below 0"),
+        ("closure_cost = -1", "closure_cost: found -1, expected 0 or more"),
         ("closure = 1", "closure: unknown key: did you mean closure_cost?"),
     ],
 )

@@ -40,7 +40,7 @@ def test_the_command_line(mine, capsys):
         (("price = 8000", 'price = "much"'), "[metals 1] price: 'much' is not a number"),
         (
             ("precedence_benches = 3", "precedence_benches = 0"),
-            "[slopes] precedence_benches: must be a whole number from 1 to 40",
+            "[slopes] precedence_benches: found 0, expected a whole number from 1 to 40",
         ),
         (("discount_rate = 0.1", "discount_rate = 0.1\nrates = 1"), "[shells] rates: unknown key"),
         (('domain = "region"', 'domain = "region"\ntopography = "nowhere.csv"'), "nowhere.csv"),

@@ -506,7 +506,7 @@ def test_a_folder_with_another_record_is_no_plan(solved):
 def test_the_command_line_refuses_in_one_sentence(plan_folder, capsys):
     path = plan_folder(rows(3, 3, 3), PROJECT, ("mining_cost = 2", "mining_cost = -2"))
     assert main(["prepare", str(path)]) == 1
-    assert capsys.readouterr().err == f"pitplan: {path}: [economics] mining_cost: may not be negative\n"
+    assert capsys.readouterr().err == f"pitplan: {path}:11: [economics] mining_cost: found -2, expected 0 or more\n"
 
 
 @pytest.mark.parametrize(

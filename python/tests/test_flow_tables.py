@@ -359,7 +359,7 @@ def test_a_minimum_that_nothing_meets_is_an_error(plan_folder, capsys):
 @pytest.mark.parametrize(
     ("words", "processes", "said"),
     [
-        ("[schedule]\nbins = 0\n", "", "[schedule] bins: must be a whole number from 1 to 50"),
+        ("[schedule]\nbins = 0\n", "", "[schedule] bins: found 0, expected a whole number from 1 to 50"),
         ("[schedule]\nstockpile = { cost = 1 }\n", "", "[schedule.stockpile] reclaim_cost: is missing"),
         (f"{TWO.format('a', 'a')}", "", "[schedule] stockpiles: found a twice, expected a name of its own for each"),
         (
@@ -375,7 +375,7 @@ def test_a_minimum_that_nothing_meets_is_an_error(plan_folder, capsys):
         (
             f"{TWO.format('a', 'b')}recovery = {{ copper = 1.1 }}\n",
             "",
-            "copper: found 1.1, expected the share that remains",
+            "copper: found 1.1, expected 0 to 1, such as 0.95 for 5 % less",
         ),
         (
             f"{TWO.format('a', 'b')}accepts = {{ class = '1' }}\n",

@@ -119,8 +119,11 @@ def test_where_none_is_found_in_time_the_others_stand(plan_folder, monkeypatch):
     ("words", "said"),
     [
         ("milp = true", "[schedule.milp] must be a section of its own"),
-        ("milp = { gap = 0.1 }", "[schedule.milp] seconds: must be a whole number from 1 to 604,800"),
-        ("milp = { gap = 1, seconds = 5 }", "[schedule.milp] gap: is a share of the bound"),
+        ("milp = { gap = 0.1 }", "[schedule.milp] seconds: is missing"),
+        (
+            "milp = { gap = 1, seconds = 5 }",
+            "[schedule.milp] gap: found 1, expected 0 to below 1, such as 0.01 for 1 %",
+        ),
         ("milp = { time = 5, seconds = 5 }", "[schedule.milp] time: unknown key"),
     ],
 )

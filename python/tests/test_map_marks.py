@@ -29,7 +29,7 @@ def scene(rules=FigureRules()):
     factor = np.zeros((4, 5, 6))
     factor[0, 2:5, 3:6] = 0.5
     factor[1, 3, 4] = 1
-    metal = pitplan.config.project.Metal("copper", "cu", "percent", 0, 0, 1)
+    metal = pitplan.config.project.Metal(name="copper", column="cu", unit="percent", price=0, recovery=1)
     return plans_sections.Scene(grid(), factor, np.ones((4, 5, 6), dtype=bool), np.ones((4, 5, 6)), metal, 1.0, rules)
 
 
@@ -284,7 +284,7 @@ def test_pushbacks_are_drawn_where_the_project_asks_for(project, with_blank_figu
     ("words", "said"),
     [
         ("levels = []", "[figures] levels: must be a list of one to 7 elevations in metres"),
-        ("levels = [1, 2, 3, 4, 5, 6, 7, 8]", "levels: must be a list of one to 7"),
+        ("levels = [1, 2, 3, 4, 5, 6, 7, 8]", "levels: found 8, expected 7 at most"),
         ("levels = 5", "levels: must be a list of one to 7"),
         ('levels = ["top"]', "levels: 'top' is not a number"),
         ('metal = "tin"', 'metal: found "tin", expected one of copper, gold'),

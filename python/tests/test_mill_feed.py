@@ -65,9 +65,9 @@ def test_amounts_are_exact_in_decimals(plan_folder):
 @pytest.mark.parametrize(
     ("text", "said"),
     [
-        ("mining_recovery = 1.01", "[economics] mining_recovery: must lie from 0 to 1"),
-        ("dilution = -0.1", "[economics] dilution: may not be negative"),
-        ("royalty = 5", "[economics] royalty: 5 is a share of the revenue, such as 0.03 for 3 %"),
+        ("mining_recovery = 1.01", "[economics] mining_recovery: found 1.01, expected 0 to 1"),
+        ("dilution = -0.1", "[economics] dilution: found -0.1, expected 0 or more"),
+        ("royalty = 5", "[economics] royalty: found 5, expected 0 to below 1, such as 0.03 for 3 %"),
         ("dilution = { S = 0.1 }", 'blocks.csv row 2 column rock: [economics] dilution names no rock type "R"'),
         (
             "mining_recovery = { domain = { 2 = 0.1 } }",

@@ -231,7 +231,7 @@ HAULAGE = (
 @pytest.mark.parametrize(
     ("text", "said"),
     [
-        ("mining_cost_factor = -1", r"\[periods 1\] mining_cost_factor: -1 is below 0"),
+        ("mining_cost_factor = -1", r"\[periods 1\] mining_cost_factor: found -1, expected 0 or more"),
         ('mining_cost_factor = "twice"', r"\[periods 1\] mining_cost_factor: .*is not a number"),
         ("mining_cost_factor = 1.1\n" + HAULAGE, r"\[\[periods\]\] 1 mining_cost_factor: \[haulage\] charges ore"),
     ],

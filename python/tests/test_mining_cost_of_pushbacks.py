@@ -112,7 +112,7 @@ def test_blocks_that_come_in_another_pushback_for_its_width_pay_there(plan_folde
             "count = 3\nmining_cost_added = [0, 1]",
             "has 2 amounts for 3 pushbacks, of the revenue factors 0.50, 0.70, 1.00",
         ),
-        ("count = 3\nmining_cost_added = [0, 1, -1]", r"\[pushbacks\] mining_cost_added: may not be negative"),
+        ("count = 3\nmining_cost_added = [0, 1, -1]", r"\[pushbacks\] mining_cost_added: found -1, expected 0 or more"),
         (
             "count = 3\nmining_cost_added = 1",
             r"\[pushbacks\] mining_cost_added: must be a list of the added cost per tonne of each pushback",

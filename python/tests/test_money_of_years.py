@@ -107,16 +107,19 @@ def test_shells_and_ore_keep_the_one_price(mine):
     [
         (
             ("mining_cost = 2\n", "mining_cost = 2\ncapex = [[0, 5]]\n"),
-            r"\[economics\] capex: years are whole, from 1 to 1,000",
+            r"\[economics\] capex: found 0, expected a whole number from 1 to 1,000",
         ),
-        (("mining_cost = 2\n", "mining_cost = 2\ncapex = [[1.5, 5]]\n"), r"\[economics\] capex: years are whole"),
-        (("mining_cost = 2\n", "mining_cost = 2\ncapex = [[1, -5]]\n"), "amounts may not be negative"),
+        (
+            ("mining_cost = 2\n", "mining_cost = 2\ncapex = [[1.5, 5]]\n"),
+            r"\[economics\] capex: found 1.5, expected a whole number",
+        ),
+        (("mining_cost = 2\n", "mining_cost = 2\ncapex = [[1, -5]]\n"), "capex: found -5, expected 0 or more"),
         (
             ("mining_cost = 2\n", "mining_cost = 2\nfixed_cost_per_year = -1\n"),
-            r"\[economics\] fixed_cost_per_year: -1 is below 0",
+            r"\[economics\] fixed_cost_per_year: found -1, expected 0 or more",
         ),
         (("price = 8000", "price = 8000\nprices = []"), r"\[metals 1\] prices: must be a list of prices, one a year"),
-        (("price = 8000", "price = 8000\nprices = [-1]"), r"\[metals 1\] prices: may not be negative"),
+        (("price = 8000", "price = 8000\nprices = [-1]"), r"\[metals 1\] prices: found -1, expected 0 or more"),
         (
             ("price = 8000", "price = 0\nprices = [0, 8000]"),
             r"\[metals 1\] price: must be above 0: it sets the cut-off",

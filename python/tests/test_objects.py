@@ -155,7 +155,7 @@ def test_a_factor_that_is_added_is_noted_once(project):
 
 REFUSED = {
     "unknown key": (lambda plan: plan.shells(factors=[1.0]), r"\[shells\] factors: unknown key"),
-    "share above 1": (lambda plan: plan.shells(discount_rate=8), r"\[shells\] discount_rate: 8 is above 1"),
+    "share above 1": (lambda plan: plan.shells(discount_rate=8), r"\[shells\] discount_rate: found 8, expected 0 to 1"),
     "two ways": (lambda plan: plan.shells().pushbacks(count=2, tonnes=1e6), r"\[pushbacks\] tonnes: give exactly one"),
     "no number": (
         lambda plan: plan.shells().pushbacks(count=2).schedule(mining_capacity="much"),
@@ -184,7 +184,7 @@ def test_a_wrong_column_or_section_is_refused():
     model = BlockModel.from_frame(table(), **COLUMNS)
     with pytest.raises(PlanError, match=r"project: econmics: unknown key: did you mean economics"):
         Plan.from_model(model, econmics=SECTIONS["economics"], **SECTIONS)
-    with pytest.raises(PlanError, match=r"project: \[metals 1\] recovery: must lie from 0 to 1|recovery"):
+    with pytest.raises(PlanError, match=r"project: \[metals 1\] recovery: found .*, expected 0 to 1"):
         Plan.from_model(model, **SECTIONS | {"metals": [SECTIONS["metals"][0] | {"recovery": 5}]})
 
 

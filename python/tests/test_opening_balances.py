@@ -242,7 +242,7 @@ def test_a_project_is_written_with_it(tmp_path):
     ("old", "new", "said"),
     [
         ("tonnes = 80, ", "", "[schedule.stockpiles 1.opening] tonnes: is missing"),
-        ("tonnes = 80", "tonnes = -1", "[schedule.stockpiles 1.opening] tonnes: -1 is below 0"),
+        ("tonnes = 80", "tonnes = -1", "[schedule.stockpiles 1.opening] tonnes: found -1, expected 0 or more"),
         ("tonnes = 80", "tonnes = 91", "opening: found 91 tonnes, expected the capacity of 90 at most"),
         ("cu = 0.7, ", "", "[schedule.stockpiles] clean opening: cu is missing: give the mean of what lies there"),
         ("arsenic = 20, ", "", "clean opening: arsenic is missing"),

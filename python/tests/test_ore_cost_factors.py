@@ -248,7 +248,7 @@ def test_a_sensitivity_changes_factors_and_the_costs_that_they_multiply(plan_fol
 
 
 @pytest.mark.parametrize("name", ["processing", "selling"])
-@pytest.mark.parametrize(("value", "said"), [("-1", "-1 is below 0"), ('"twice"', ".*is not a number")])
+@pytest.mark.parametrize(("value", "said"), [("-1", "found -1, expected 0 or more"), ('"twice"', ".*is not a number")])
 def test_what_is_wrong_is_named(plan_folder, name, value, said):
     with pytest.raises(PlanError, match=rf"\[periods 1\] {name}_cost_factor: {said}"):
         pitplan.load(plan_folder(column(), periods(f"{name}_cost_factor = {value}")))

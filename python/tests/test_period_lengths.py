@@ -203,7 +203,7 @@ def test_the_record_reads_back(plan_folder):
             r"\[periods 1\] period_months: found 5, expected 1, 2, 3, 4, 6, 12 or a multiple of 12",
         ),
         (["years = 3\nperiod_months = 24"], r"\[periods 1\] years: found 3, expected a multiple of 2"),
-        (["period_months = 0"], r"\[periods 1\] period_months: must be a whole number from 1 to 12,000"),
+        (["period_months = 0"], r"\[periods 1\] period_months: found 0, expected a whole number from 1 to 12,000"),
         (["years = 90\nperiod_months = 1"], r"\[periods 1\] period_months: found 1,080 periods in all, expected 1,000"),
     ],
 )

@@ -193,9 +193,9 @@ def test_the_record_reads_back(plan_folder):
 @pytest.mark.parametrize(
     ("texts", "said"),
     [
-        (["processing_capacity = -1"], r"\[periods 1\] processing_capacity: -1 is below 0"),
+        (["processing_capacity = -1"], r"\[periods 1\] processing_capacity: found -1, expected 0 or more"),
         (["processing_capacity = 0"], r"\[periods 1\] processing_capacity: found 0 in the last period"),
-        (["years = 0"], r"\[periods 1\] years: must be a whole number from 1 to 1,000"),
+        (["years = 0"], r"\[periods 1\] years: found 0, expected a whole number from 1 to 1,000"),
         (["years = 600", "years = 600"], r"\[periods 2\] years: found 1,200 in all periods, expected 1,000 at most"),
         (["mining_capacty = 3"], r"\[periods 1\] mining_capacty: unknown key: did you mean mining_capacity\?"),
         (["mining_capacity = 3"], r"\[\[periods\]\] 1 mining_capacity: \[shells\] mining_capacity is missing"),

@@ -201,7 +201,7 @@ def demand_plain_coordinates(figure):
 
 def test_plans_and_sections_have_coordinates_in_full(monkeypatch):
     grid, factor = at_a_zone()
-    metal = pitplan.config.project.Metal("copper", "cu", "percent", 0, 0, 1)
+    metal = pitplan.config.project.Metal(name="copper", column="cu", unit="percent", price=0, recovery=1)
     scene = plans_sections.Scene(grid, factor, np.ones(grid.shape, dtype=bool), np.ones(grid.shape), metal, 1.0)
     for draw in (plans_sections.write_plans, plans_sections.write_sections):
         figure = drawn_of(monkeypatch, plans_sections, lambda draw=draw: draw(scene, None))
@@ -282,7 +282,7 @@ SHELLS = pd.DataFrame(
 
 def scene():
     grid, factor = at_a_zone()
-    metal = pitplan.config.project.Metal("copper", "cu", "percent", 0, 0, 1)
+    metal = pitplan.config.project.Metal(name="copper", column="cu", unit="percent", price=0, recovery=1)
     return plans_sections.Scene(grid, factor, np.ones(grid.shape, dtype=bool), np.ones(grid.shape), metal, 1.0)
 
 

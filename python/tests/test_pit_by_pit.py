@@ -211,7 +211,7 @@ def test_a_wait_of_more_than_a_thousand_years_is_left_out():
         ("bench_lag = 1", r"\[shells.specified\] pushbacks: is missing"),
         (
             "pushbacks = [0.5]\nbench_lag = -1",
-            r"\[shells.specified\] bench_lag: must be a whole number from 0 to 1,000",
+            r"\[shells.specified\] bench_lag: found .*, expected a whole number from 0 to 1,000",
         ),
         ("pushbacks = [0.5]\nlag = 1", r"\[shells.specified\] lag: unknown key: rename it to bench_lag"),
         ("pushbacks = [0.5]\ncolour = 1", r"\[shells.specified\] colour: unknown key: remove it"),

@@ -225,9 +225,9 @@ def test_the_figure_shows_prices_and_npvs(plan_folder, tmp_path):
     ("old", "new", "said"),
     [
         ("speed = 0.4", "speed = 0", "speed: found 0, expected above 0"),
-        ("volatility = 0.25", "volatility = -1", "volatility: found -1, expected from 0 to 10"),
+        ("volatility = 0.25", "volatility = -1", "volatility: found -1, expected 0 to 10"),
         ("long_term = 9000", "long_term = -5", "long_term: found -5, expected above 0"),
-        ("count = 40", "count = 1", "count: must be a whole number from 2 to 10,000"),
+        ("count = 40", "count = 1", "count: found 1, expected a whole number from 2 to 10,000"),
         ("metals.copper", "metals.tin", r"metals: found tin, expected one of the \[\[metals\]\]: copper"),
         ("speed = 0.4\n", "", "speed: is missing"),
     ],

@@ -313,7 +313,7 @@ def test_pushbacks_and_schedules_keep_to_the_capacities(plan_folder):
             r"\[shells\] processing_capacity: give capacity of each of the \[\[processes\]\], not this",
         ),
         ([*WITH, ('name = "mill"', 'name = "leach"')], r"two \[\[processes\]\] have one name"),
-        ([*WITH, ('name = "mill"', 'name = "the mill"')], '"the mill" is not one word'),
+        ([*WITH, ('name = "mill"', 'name = "the mill"')], 'found "the mill", expected one word'),
         (
             [*WITH, ("{ copper = 0.4 }", "{ gold = 0.4 }")],
             r"\[\[processes\]\] leach recovery: found gold, expected one of the \[\[metals\]\]: copper",

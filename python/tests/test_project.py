@@ -7,7 +7,8 @@ from conftest import PROJECT, ROOT, rows
 
 import pitplan
 from pitplan import PlanError
-from pitplan.config.toml_section import Section
+from pitplan.config.keys import keys_of
+from pitplan.config.project import record_at
 
 EXAMPLE = ROOT / "examples" / "plan" / "project.toml"
 
@@ -44,7 +45,7 @@ def test_a_byte_order_mark_is_passed_over_and_another_encoding_is_refused(plan_f
         ("mining_cost = 2", "mining_cost = true", "[economics] mining_cost: True is not a number"),
         ("mining_cost = 2", "mining_cost = nan", "[economics] mining_cost: NaN is not a number"),
         ("mining_cost = 2", "mining_cost = 2026-11-27", "[economics] mining_cost: 2026-11-27 is not a number"),
-        ("mining_cost = 2", "mining_cost = -2", "[economics] mining_cost: may not be negative"),
+        ("mining_cost = 2", "mining_cost = -2", "[economics] mining_cost: found -2, expected 0 or more"),
         ("mining_cost = 2", "mining_cost = 1e300", "[economics] mining_cost: 1E+300 is beyond 10^18"),
         (
             "mining_cost = 2",
@@ -54,7 +55,7 @@ def test_a_byte_order_mark_is_passed_over_and_another_encoding_is_refused(plan_f
         (
             "mining_cost = 2",
             "mining_cost = 2\ndecimals = 7",
-            "[economics] decimals: must be a whole number from 0 to 6",
+            "[economics] decimals: found 7, expected a whole number from 0 to 6",
         ),
         (
             "mining_cost = 2",
@@ -81,18 +82,18 @@ def test_a_byte_order_mark_is_passed_over_and_another_encoding_is_refused(plan_f
             "mining_cost = 2\nmining_cost_by_elevation = [10, 1]",
             "[economics] mining_cost_by_elevation: must be a list of pairs [elevation, cost a tonne]",
         ),
-        ("recovery = 0.5", "recovery = 50", "[metals 1] recovery: must lie from 0 to 1"),
+        ("recovery = 0.5", "recovery = 50", "[metals 1] recovery: found 50, expected 0 to 1"),
         (
             'unit = "percent"',
             'unit = "ppm"',
             '[metals 1] unit: found "ppm", expected one of percent, fraction, gram_per_tonne',
         ),
         ("[10, 10, 10]", "[10, 10]", "[grid] size: must be a list of 3 numbers"),
-        ("[10, 10, 10]", "[10, 10, 0]", "[grid] size: a block's size is above 0"),
+        ("[10, 10, 10]", "[10, 10, 0]", "[grid] size: found 0, expected above 0"),
         (
             "precedence_benches = 3",
             "precedence_benches = 0",
-            "[slopes] precedence_benches: must be a whole number from 1 to 40",
+            "[slopes] precedence_benches: found 0, expected a whole number from 1 to 40",
         ),
         ('pattern = "1:5"', 'pattern = "1:7"', '[slopes.domains 1] pattern: found "1:7", expected one of 1:5, 1:9'),
         (
@@ -100,11 +101,11 @@ def test_a_byte_order_mark_is_passed_over_and_another_encoding_is_refused(plan_f
             "",
             "[slopes.domains 1] angle: give exactly one of angle, azimuths, bench, pattern and offsets",
         ),
-        ('pattern = "1:5"', "angle = 95", "[slopes.domains 1] angle: a slope angle must be from 1 to 90 degrees"),
+        ('pattern = "1:5"', "angle = 95", "[slopes.domains 1] angle: found 95, expected 1 to 90"),
         (
             'pattern = "1:5"',
             "azimuths = [[0, 40], [0, 50]]",
-            "[slopes.domains 1] azimuths: azimuths must be from 0 to below 360",
+            "[slopes.domains 1] azimuths: an azimuth occurs twice",
         ),
         (
             'pattern = "1:5"',
@@ -178,7 +179,7 @@ def test_a_byte_order_mark_is_passed_over_and_another_encoding_is_refused(plan_f
         (
             "discount_rate = 0.1",
             "discount_rate = 8",
-            "[shells] discount_rate: 8 is above 1: it is a yearly rate, such as 0.08 for 8 % a year",
+            "[shells] discount_rate: found 8, expected 0 to 1, such as 0.08 for 8 % a year",
         ),
         ("[0.5, 1.0, 1.5]", "[]", "[shells] revenue_factors: must be a list of revenue factors, or { from, to, step }"),
         (
@@ -201,7 +202,8 @@ def test_a_mistake_is_named_by_section_and_key(plan_folder, old, new, words):
     path = plan_folder(rows(2, 2, 2), text, (old, new))
     with pytest.raises(PlanError) as said:
         pitplan.load(path)
-    assert str(said.value).startswith(f"{path}: {words}")
+    # Behind the file is the line.
+    assert re.sub(r"(?<=\.toml):\d+(?=: )", "", str(said.value)).startswith(f"{path}: {words}")
 
 
 @pytest.mark.parametrize("item", ["0.5005", "1e9", "inf", "nan", "200_000", "100.001", "true", "'high'", "[]"])
@@ -212,7 +214,7 @@ def test_a_number_that_is_no_revenue_factor_is_refused(plan_folder, item):
 
 def test_broken_toml_is_named_by_its_line(plan_folder):
     path = plan_folder(rows(2, 2, 2), PROJECT, ("[economics]", "[money"))
-    with pytest.raises(PlanError, match=r"project.toml: .*\(at line 10, column 7\)"):
+    with pytest.raises(PlanError, match=r"project.toml:10: .*\(at line 10, column 7\)"):
         pitplan.load(path)
 
 
@@ -360,20 +362,13 @@ def test_a_factor_in_per_mille_is_refused_with_the_one_that_is_meant(plan_folder
         pitplan.load(plan_folder(rows(2, 2, 2), PROJECT, ("[0.5, 1.0, 1.5]", f"[{item}]")))
 
 
-def test_the_example_names_each_key_of_its_sections_and_no_other(monkeypatch):
+def test_the_example_names_each_key_of_its_sections_and_no_other():
     """Those that it does without stand behind a #."""
-    asked, finish = {}, Section.finish
-
-    def noting(section):
-        asked.setdefault(section.name.partition(" ")[0], set()).update(section.asked - {"domains"})
-        finish(section)
-
-    monkeypatch.setattr(Section, "finish", noting)
-    pitplan.load(EXAMPLE)
     named, section = {}, ""
     for line in EXAMPLE.read_text(encoding="utf-8").splitlines():
         head, key = re.match(r"(?:# )?\[+([\w.]+)\]", line), re.match(r"(?:# )?(\w+) = ", line)
         section = head[1] if head else section
         named.setdefault(section, set()).update({key[1]} if key else ())
     sections = ("table", "grid", "economics", "metals", "slopes", "slopes.domains", "shells")
-    assert {name: named[name] for name in sections} == {name: asked[name] for name in sections}
+    asked = {name: {*keys_of(record_at(name))} - {"domains"} for name in sections}
+    assert {name: named[name] for name in sections} == asked

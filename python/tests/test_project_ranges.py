@@ -1,4 +1,4 @@
-"""Ranges and choices of docs/reference/project-keys.md are those of the reader: values just within are accepted, values just beyond refused by key."""
+"""Ranges of keys, written here by hand: values just within are accepted, values just beyond refused by key."""
 
 import re
 from dataclasses import dataclass
@@ -8,12 +8,11 @@ from typing import Any, Callable
 import pytest
 import tomllib
 from conftest import ROOT
-from helpers.project_page import PAGE, entry, parts_of_page, several, whole
+from helpers.project_page import entry, several, whole
 
-from pitplan.config.figures import FORMATS
-from pitplan.config.project import Project
-from pitplan.config.sensitivity import NAMES
-from pitplan.config.toml_section import GREATEST, Section
+from pitplan.config.keys import keys_of
+from pitplan.config.kinds import GREATEST
+from pitplan.config.project import SECTIONS, Project
 from pitplan.errors import PlanError
 
 NUMBER = r"-?\d+(?:,\d{3})*(?:\.\d+)?(?:\^\d+)?(?: - 1)?"
@@ -128,14 +127,14 @@ RANGES = [
     Range("grid.tolerance", "0 or more"),
     Range("grid.azimuth", "-360 to 360"),
     Range("economics.mining_recovery", "0 to 1"),
-    Range("economics.royalty", "below 1"),
+    Range("economics.royalty", "0 to below 1"),
     Range("economics.decimals", "0 to 6", 1),
     Range("economics.capex", "1 to 1,000", 1, lambda year: [[alone(year), 5]]),
     Range("metals.recovery", "0 to 1"),
     Range("metals.recovery", "0 to 1", value=lambda share: {"R": [[0, 0], [1, alone(share)]]}),
     Range("metals.smelter.payable", "above 0 to 1"),
-    Range("metals.smelter.moisture", "below 1"),
-    Range("metals.smelter.price_participation.share", "below 1"),
+    Range("metals.smelter.moisture", "0 to below 1"),
+    Range("metals.smelter.price_participation.share", "0 to below 1"),
     Range("metals.smelter.concentrate_grade", "above 0"),
     Range("metals.smelter.penalties.recovery", "above 0 to 1"),
     Range("metals.smelter.penalties.per", "above 0"),
@@ -155,7 +154,7 @@ RANGES = [
     Range("shells.discount_rate", "0 to 1"),
     Range("shells.processing_capacity", "1 or more"),
     Range("shells.mining_capacity", "1 or more"),
-    Range("shells.specified", "up to 1,000", 1, lambda lag: {"pushbacks": [0.5], "bench_lag": int(lag)}),
+    Range("shells.specified", "0 to 1,000", 1, lambda lag: {"pushbacks": [0.5], "bench_lag": int(lag)}),
     Range("periods.years", "1 to 1,000", 1),
     Range("periods.processing_capacity", "0 or more", prepare=go_on),
     Range("periods.mining_capacity", "0 or more", prepare=go_on),
@@ -173,7 +172,7 @@ RANGES = [
     Range("schedule.ramp_up", "0 to 1", value=lambda share: [alone(share), 1]),
     Range("schedule.ramp_up", "above 0", value=lambda share: [1, alone(share)]),
     Range("schedule.vertical_advance_rate", "above 0"),
-    Range("schedule.bench_lag", "up to 1,000", 1),
+    Range("schedule.bench_lag", "0 to 1,000", 1),
     Range("schedule.years", "1 to 200", 1),
     Range("schedule.milp", "0 to below 1", value=lambda gap: {"gap": alone(gap), "seconds": 5}),
     Range("schedule.milp", "1 to 604,800", 1, lambda seconds: {"gap": 0, "seconds": int(seconds)}),
@@ -182,7 +181,7 @@ RANGES = [
     Range("schedule.stockpiles.capacity", "1 or more"),
     Range("cash_flow.discount_rates", "0 to 1", value=listed),
     Range("cash_flow.discount_rates", "20 at most", 1, many("0.1")),
-    Range("cash_flow.tax_rate", "below 1"),
+    Range("cash_flow.tax_rate", "0 to below 1"),
     Range("cash_flow.depreciation", "above 0", value=lambda years: {"years": alone(years)}),
     Range("sensitivity.changes", "above -1 to 10", value=listed),
     Range("sensitivity.changes", "20 at most", 1, many("0.1")),
@@ -209,54 +208,48 @@ def test_values_within_a_range_of_the_page_are_accepted_and_others_refused(range
             range_.project(number)
 
 
-# Ranges of the page that are not of one key: of all numbers and of revenue factors, tested by tests of their own; and of columns of the table.
-OTHERS = [("", "at most 10^18"), ("", "0 or more"), ("", "0 to 100")]
-OTHERS += [("constraints.must_mine", "above 0"), ("constraints.exclude", "above 0")]
+def declared():
+    """The keys of all sections, by section and key."""
+    found = {}
+
+    def add(section, record):
+        for key, it in keys_of(record).items():
+            found[section, key] = it
+            if it.kind.record is not None:
+                add(f"{section}.{key}", it.kind.record)
+
+    for name, it in SECTIONS.items():
+        if it.kind.record is not None:
+            add(name, it.kind.record)
+    return found
 
 
-def places():
-    """Each row and each line of the page with its section and the keys that it names; those of the first column of a row."""
-    yield from (("", set(), line) for line in PAGE.partition("\n## ")[0].splitlines())
-    for section, text in parts_of_page().items():
-        for line in text.splitlines():
-            row = re.match(r"\| (`[^|]*) \|", line)
-            yield section, set(re.findall(r"\w+", " ".join(re.findall(r"`([^`]+)`", row[1] if row else line)))), line
+DECLARED = declared()
 
 
-def is_of(range_, section, keys):
-    """Whether a key of the tests lies in a section of the page, and is among the keys, or within one of them."""
-    within = range_.key.removeprefix(f"{section}.").split(".") if range_.key.startswith(f"{section}.") else []
-    return bool(keys & {*within})
-
-
-def test_each_range_of_the_page_is_tested():
-    found, untested = set(), []
-    for section, keys, line in places():
-        for phrase in re.findall(RANGE, line):
-            tested = [it for it in RANGES if it.phrase == phrase and is_of(it, section, keys)]
-            found.update((it.key, it.phrase) for it in tested)
-            others = [it for it in OTHERS if it[1] == phrase and it[0].rpartition(".")[0] == section]
-            if not tested and not others:
-                untested.append(f"[{section}] {phrase}: {line}")
-    assert untested == []
-    missing = {(it.key, it.phrase) for it in RANGES} - found
-    # The page has these once for all revenue factors, and for recoveries of metals and processes.
-    assert missing == {("shells.revenue_factors", "0 to 100"), ("processes.recovery.copper", "0 to 1")}
+def test_each_declared_range_is_tested():
+    """The phrases of RANGES are written by hand."""
+    number = rf"(?:above |below |at most )?{NUMBER}(?: (?:to|and)(?: below)? {NUMBER}| or more| at most)"
+    phrase = re.compile(rf"(?:{number}|(?:above|below) {NUMBER})")
+    due = {(section, key, it) for (section, key), known in DECLARED.items() for it in phrase.findall(known.kind.range)}
+    tested = {(it.key.replace(".copper", ""), it.phrase) for it in RANGES}
+    # Of a table on one line the test gives the whole.
+    missing = [it for it in due if not {(f"{it[0]}.{it[1]}", it[2]), (it[0], it[2])} & tested]
+    assert len(due) > 50 and sorted(missing) == []
 
 
 def asked():
-    """The keys that the reader asks for, by section and key, each with the text of a project that has the section."""
+    """The keys of the projects of the tests, by section and key, each with the text of a project that has the section."""
     found: dict[tuple[str, str], str] = {}
-    has = Section.has
     for text in (whole(), several()):
-
-        def noted(self, key):
-            found.setdefault((re.sub(r" \d+", "", self.name), key), text)
-            return has(self, key)
-
-        with pytest.MonkeyPatch.context() as patch:
-            patch.setattr(Section, "has", noted)
-            Project.from_dict(tomllib.loads(text), ROOT)
+        data = tomllib.loads(text)
+        for section, key in DECLARED:
+            held = data
+            for part in section.split("."):
+                held = held.get(part) if isinstance(held, dict) else None
+                held = held[0] if isinstance(held, list) and held else held
+            if isinstance(held, dict):
+                found.setdefault((section, key), text)
     return found
 
 
@@ -298,8 +291,7 @@ def test_revenue_factors_have_three_decimals_and_are_at_most_100(number):
 
 
 def test_months_of_periods_are_those_of_the_page():
-    row = next(line for _, keys, line in places() if keys == {"period_months"})
-    assert "1, 2, 3, 4, 6, 12 or a multiple of 12" in row
+    assert "1, 2, 3, 4, 6, 12 or a multiple of 12" in DECLARED["periods", "period_months"].meaning
     data = tomllib.loads(several())
     for months in range(1, 40):
         data["periods"] = [{"period_months": months}]
@@ -310,55 +302,10 @@ def test_months_of_periods_are_those_of_the_page():
                 Project.from_dict(data, ROOT)
 
 
-# Keys whose choices the page has in the row of another key of the section.
-ELSEWHERE = {"as": "empty", "applies": "price_participation", "unit": "rock_percent", "exclude": "areas"}
+CHOICES = {it: key.kind.options for it, key in DECLARED.items() if key.kind.options}
 
 
-def choices():
-    """The choices of the reader, by section and key, of the projects of the tests and of some further keys."""
-    found: dict[tuple[str, str], tuple[str, ...]] = {}
-    choice = Section.choice
-
-    def noted(self, key, options, default):
-        found[re.sub(r" \d+", "", self.name), key] = options
-        return choice(self, key, options, default)
-
-    more = whole().replace("[table]\n", '[table]\ndecimal = "."\nnulls = { cu = { values = [-1], as = "zero" } }\n')
-    more = more.replace("price = 8000", 'price = 8000\nprice_per = "t"').replace(
-        "[figures]", '[figures]\nmetal = "copper"'
-    )
-    more = more.replace('file = "blocks.csv"', 'file = "blocks.csv"\nrock_percent = { column = "r" }')
-    with pytest.MonkeyPatch.context() as patch:
-        patch.setattr(Section, "choice", noted)
-        for text in (more, several(), whole().replace(missing_rock(), "")):
-            Project.from_dict(tomllib.loads(text), ROOT)
-    return {it: options for it, options in found.items() if it != ("figures", "metal")}
-
-
-def missing_rock():
-    return next(line for line in whole().splitlines() if line.startswith("missing_blocks"))
-
-
-CHOICES = choices()
-
-
-def line_of(section, key):
-    """The line of the page that has the choices of a key."""
-    if section == "classes":
-        return parts_of_page()["classes"]
-    key = ELSEWHERE.get(key, key) if (section, key) != ("metals", "unit") else key
-    found = [line for name, _, line in places() if f"{section}.".startswith(f"{name}.")]
-    return next(line for line in found if line.startswith("| ") and f"`{key}`" in line.split("|")[1])
-
-
-@pytest.mark.parametrize("section, key", CHOICES, ids=[".".join(it) for it in CHOICES])
-def test_choices_of_the_page_are_those_of_the_reader(section, key):
-    line, options = line_of(section, key), CHOICES[section, key]
-    assert [it for it in options if f'"{it}"' not in line and not re.search(rf"\b{re.escape(it)}\b", line)] == []
-    assert {*re.findall(r'"([^"]+)"', line)} - {"..", "dip", *options} == set()
-
-
-def test_other_words_than_the_choices_are_refused():
+def test_words_other_than_the_choices_are_refused():
     keys = {it: text for it, text in asked().items() if it in CHOICES}
     assert len(keys) > 8
     for (section, key), text in keys.items():
@@ -366,8 +313,3 @@ def test_other_words_than_the_choices_are_refused():
         entry(data, section)[key] = "neither"
         with pytest.raises(PlanError, match=rf'{key}: found "neither", expected one of {CHOICES[section, key][0]}'):
             Project.from_dict(data, ROOT)
-
-
-def test_formats_and_parameters_of_the_page_are_those_of_the_reader():
-    for (section, key), options in {("figures", "formats"): FORMATS, ("sensitivity", "parameters"): NAMES}.items():
-        assert re.findall(r"`\"?(\w+)\"?`", line_of(section, key).split("|")[2]) == list(options)

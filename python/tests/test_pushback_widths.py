@@ -218,8 +218,8 @@ def test_random_pushbacks_are_wide_closed_and_nested(tmp_path_factory, seed, ask
 @pytest.mark.parametrize(
     ("words", "said"),
     [
-        ("count = 2\nmin_mining_width = 0", "[pushbacks] min_mining_width: must be above 0 metres"),
-        ("count = 2\nmin_bottom_width = -5", "[pushbacks] min_bottom_width: must be above 0 metres"),
+        ("count = 2\nmin_mining_width = 0", "[pushbacks] min_mining_width: found 0, expected above 0"),
+        ("count = 2\nmin_bottom_width = -5", "[pushbacks] min_bottom_width: found -5, expected above 0"),
         ('count = 2\nmin_mining_width = "40"', "[pushbacks] min_mining_width: '40' is not a number"),
     ],
 )

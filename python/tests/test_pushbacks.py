@@ -188,15 +188,15 @@ def test_an_empty_pit_is_refused(plan_folder, capsys):
     [
         ("", "[pushbacks] count: give exactly one of count, tonnes, revenue_factors"),
         ("count = 2\ntonnes = 3", "[pushbacks] tonnes: give exactly one of count, tonnes, revenue_factors"),
-        ("count = 0", "[pushbacks] count: must be a whole number from 1 to 100"),
-        ("tonnes = 0", "[pushbacks] tonnes: must be above 0 tonnes"),
+        ("count = 0", "[pushbacks] count: found 0, expected a whole number from 1 to 100"),
+        ("tonnes = 0", "[pushbacks] tonnes: found 0, expected above 0"),
         (
             "tonnes = 1",
             "[pushbacks] tonnes: the pit of 600 t would have 600 pushbacks of 1 t, expected at most 100",
         ),
         (
             "revenue_factors = [0.0, 0.5]",
-            "[pushbacks] revenue_factors: found 0, expected 0.001 or more for each pushback",
+            "[pushbacks] revenue_factors: found 0, expected 0.001 or more",
         ),
         ("revenue_factors = [500]", "did you mean 0.50?"),
         (

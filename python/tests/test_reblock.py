@@ -123,7 +123,7 @@ def test_sub_blocks_by_hand(plan_folder):
         ([("reblock = [2, 2, 1]", "reblock = [2, 1.5, 1]")], r"\[table\] reblock: must be whole numbers"),
         (
             [("reblock = [2, 2, 1]", "reblock = { size = [20, 20, 0], corner = [0, 0, 0] }")],
-            r"\[table.reblock\] size: a block's size is above 0",
+            r"\[table.reblock\] size: found 0, expected above 0",
         ),
         (
             [("reblock = [2, 2, 1]", "reblock = { size = [20, 20, 10], corner = [5, 0, 0] }")],

@@ -107,10 +107,10 @@ def test_as_numpy_has_it_but_for_a_millionth(named, grades, dilution):
     [
         ("[[0.2, 0.5], [0.6, 0.4]]", "falls as the grade rises"),
         ("[[0.2, 0.5], [0.2, 0.6]]", "a grade occurs twice"),
-        ("[[0.2, 1.5]]", "grades may not be negative, and recoveries must lie from 0 to 1"),
-        ("[[-0.2, 0.5]]", "grades may not be negative, and recoveries must lie from 0 to 1"),
+        ("[[0.2, 1.5]]", "found 1.5, expected 0 to 1"),
+        ("[[-0.2, 0.5]]", "found -0.2, expected 0 or more"),
         ("{ R = [[0.2]] }", r"must be a list of pairs \[grade, recovery\]"),
-        ("{ R = 1.2 }", "must lie from 0 to 1"),
+        ("{ R = 1.2 }", "found 1.2, expected 0 to 1"),
     ],
 )
 def test_what_is_wrong_is_named(plan_folder, recovery, said):

@@ -6,7 +6,7 @@ import pytest
 from conftest import PROJECT, ROOT
 
 from pitplan import PlanError, load
-from pitplan.config.renamed import RENAMED
+from pitplan.config.keys import RENAMED
 
 PAGE = (ROOT / "docs" / "UPGRADING.md").read_text(encoding="utf-8")
 
@@ -17,7 +17,7 @@ PAGE = (ROOT / "docs" / "UPGRADING.md").read_text(encoding="utf-8")
         (
             "[economics]",
             "[money]",
-            "project.toml: economics: is missing: rename money, as an earlier release called it",
+            r"project.toml:\d+: economics: is missing: rename money, as an earlier release called it",
         ),
         ("rock_type =", "rock =", r"\[table\] rock: unknown key: rename it to rock_type, as it is called now"),
         ("discount_rate =", "rate =", r"\[shells\] discount_rate: is missing: rename rate, as an earlier release"),
@@ -180,7 +180,7 @@ def followed(text, said):
     found = [match.groups() for match in (re.search(form, said) for form in RENAMES) if match]
     assert found, said
     old, new = found[0] if "unknown key" in said else found[0][::-1]
-    section = re.match(r".*?project\.toml: \[(\w+)", said)
+    section = re.match(r".*?project\.toml(?::\d+)?: \[(\w+)", said)
     parts = re.split(r"(?m)^(?=\[)", text)
     # The key or a section within that section; otherwise a section of the top level.
     named = rf"\b{old}(?= =|\])" if section else rf"(?<=\[){old}\b"

@@ -54,17 +54,18 @@ def test_assumptions_by_hand(project):
     expected = {
         ("Prices", "price of copper"): "4.1 AUD/lb",
         ("Prices", "selling cost of copper"): "0.3 AUD/lb",
-        ("Prices", "royalty"): "2.5 % of revenue",
+        ("Prices", "royalty"): "2.5 % of gross revenue",
         ("Prices", "discount rate"): "10 % a year, discounted from the end of each year",
-        ("Costs", "mining cost"): "2 AUD/t",
-        ("Costs", "mining cost by depth"): "0.05 AUD/t more per bench below 30 m",
+        ("Costs", "mining cost"): "2 AUD/t mined",
+        ("Costs", "mining cost added per bench"): "0.05 AUD/t mined",
+        ("Costs", "mining cost reference"): "30 m",
         ("Costs", "processing cost"): "10 AUD/t of mill feed",
         ("Costs", "capital"): "5,000,000 AUD at the start of year 1, 250,000 AUD at the start of year 3",
         ("Recoveries", "copper"): "50 %",
         ("Mining", "mining recovery"): "95 %",
         ("Mining", "dilution"): "0 % at zero grade",
         ("Mining", "minimum mining width"): "40 m",
-        ("Mining", "vertical advance rate"): "6 benches a year and pushback",
+        ("Mining", "vertical advance rate"): "6 benches/year and pushback",
         ("Capacities", "mining"): "any",
         ("Capacities", "processing"): "100 t a year",
         ("Capacities", "ramp-up"): "50 %, 100 % of the processing capacity, by year",
@@ -151,9 +152,9 @@ def test_tax_closure_and_price_paths_are_assumptions(project):
     more += "[price_paths.metals.copper]\nlong_term = 7800\nspeed = 0.35\nvolatility = 0.24\n"
     found = said(project(more=more))
     expected = {
-        ("Costs", "closure cost"): "4,000,000 USD in the last year",
-        ("Costs", "tax"): "27 % of the taxable income, losses carried forward",
-        ("Costs", "depreciation of capital"): "straight line over 8 years",
+        ("Costs", "closure cost"): "4,000,000 USD",
+        ("Costs", "tax rate"): "27 % of taxable income",
+        ("Costs", "depreciation of capital"): "straight line over 8 years; losses are carried forward",
         ("Prices", "price paths of copper"): "7,800 in the long run, speed 0.35 per year, volatility 24 %",
     }
     assert {key: found.get(key) for key in expected} == expected

@@ -186,7 +186,7 @@ def test_a_model_that_does_not_fit_is_named_by_file_and_row(plan_folder, bend, w
             r"\[scenarios\]: found gold, expected one of the \[\[metals\]\]: copper",
         ),
         (PROJECT + "[scenarios]\ncolumns = {}\n", r"\[scenarios\] columns: name the columns of at least one metal"),
-        (PRICES.replace("12_000", "-1"), r"\[scenarios.prices 2\] copper: -1 is below 0"),
+        (PRICES.replace("12_000", "-1"), r"\[scenarios.prices 2\] copper: found -1, expected 0 or more"),
     ],
 )
 def test_scenarios_that_cannot_be_are_refused(plan_folder, text, words):

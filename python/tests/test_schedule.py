@@ -16,8 +16,9 @@ from hypothesis import given, strategies as st
 
 import pitplan
 from pitplan import PlanError
+from pitplan.config import keys
 from pitplan.config.project import of_data
-from pitplan.config.shells import read_shells
+from pitplan.config.shells import ShellRules
 from pitplan.config.toml_section import Section
 from pitplan.pits import shell_tables
 from pitplan.results.folder import read_folder
@@ -256,7 +257,7 @@ def test_years_discounted_as_spreadsheets_do(discounting, before):
 def test_cash_is_discounted_from_the_end_of_its_year_by_default():
     """As the function NPV of spreadsheets does it."""
     data = {"revenue_factors": [1], "discount_rate": Decimal("0.1"), "processing_capacity": 100}
-    assert read_shells(Section("project.toml", "shells", data), ()).discounting == "end_of_year"
+    assert keys.read(ShellRules, Section("project.toml", "shells", data)).discounting == "end_of_year"
 
 
 def test_the_worst_case_can_be_worth_more_than_the_best():

@@ -25,7 +25,7 @@ from pitplan.scheduling.bench_sequencing import Limits
 from pitplan.scheduling.flow.flows import none_of
 from pitplan.scheduling.flow.programme import FlowOptimum
 
-METAL = Metal("copper", "cu", "percent", 8000, 0, 0.5)
+METAL = Metal(name="copper", column="cu", unit="percent", price=8000, recovery=0.5)
 
 
 @pytest.fixture

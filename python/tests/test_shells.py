@@ -12,7 +12,8 @@ from helpers.shells import BOX, CLOSED, SMALL, best_by_trying, grades, project_o
 from hypothesis import given, strategies as st
 
 import pitplan
-from pitplan.config.project import read_slopes
+from pitplan.config import keys
+from pitplan.config.slopes import Slopes
 from pitplan.config.toml_section import Section
 from pitplan.pits import shell_tables
 
@@ -60,7 +61,7 @@ def test_trimmed_needs_give_the_same_shells(seed, walls, cutoff):
     table["cu"] = np.where(rng.random(len(table)) < 0.06, rng.random(len(table)).round(3) * 8, 0.0)
     project = project_of(Path("."), cutoff=cutoff)
     wall = {"angle": Decimal(walls)} if walls.isdigit() else {"pattern": walls}
-    slopes = read_slopes(Section("test", "slopes", {"precedence_benches": 3, "domains": [wall]}))
+    slopes = keys.read(Slopes, Section("test", "slopes", {"precedence_benches": 3, "domains": [wall]}))
     plan = pitplan.Plan.from_project(replace(project, slopes=slopes), table=table)
     trimmed = plan.shells().solution
     assert plan.used.sum() < plan.grid.count

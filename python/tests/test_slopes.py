@@ -159,7 +159,7 @@ def test_angles_between_azimuths_go_by_the_cotangent():
 
 
 def test_never_steeper_than_asked():
-    wall = Wall(None, None, ((0.0, 48.0), (90.0, 42.0), (180.0, 48.0), (270.0, 45.0)))
+    wall = Wall(azimuths=((0.0, 48.0), (90.0, 42.0), (180.0, 48.0), (270.0, 45.0)))
     free = slope_patterns.pattern_of(wall, FLAT, Slopes(6, False, (wall,)))
     bound = slope_patterns.pattern_of(wall, FLAT, Slopes(6, True, (wall,)))
     assert free.errors.max() > 0.5 and free.widened == 1
@@ -171,7 +171,7 @@ def test_never_steeper_than_asked():
 WALL = st.one_of(
     st.tuples(st.tuples(st.just(0.0), st.integers(25, 75).map(float))),
     st.tuples(*[st.integers(35, 60).map(float)] * 4).map(lambda angles: tuple(zip((0.0, 90.0, 180.0, 270.0), angles))),
-).map(lambda angles: Wall(None, None, angles))
+).map(lambda angles: Wall(azimuths=angles))
 
 
 @examples(8)
@@ -194,7 +194,7 @@ def test_levels_left_out_by_hand():
     Of the corners (1/10, 0) and (1/15, 1/15) the line lies 0.0894 from the block, which is 84.9 degrees and so 0.6 too
     steep; with (2/23, 1/23) between them the lines lie 0.0958 and 0.0941 from it, 84.5 and 84.6 degrees.
     """
-    wall = Wall(None, None, ((0.0, math.degrees(math.atan(10))),))
+    wall = Wall(azimuths=((0.0, math.degrees(math.atan(10))),))
     pattern = slope_patterns.pattern_of(wall, CUBE, Slopes(None, False, (wall,)))
     assert pattern.levels == 23 and pattern.errors.max() == pytest.approx(0.34, abs=0.005)
     few = slope_patterns.pattern_of(wall, CUBE, Slopes(22, False, (wall,)))
@@ -203,7 +203,7 @@ def test_levels_left_out_by_hand():
 
 def test_forty_levels_are_the_end_and_the_walls_say_what_came_out():
     """Blocks of 100 x 100 x 1 m: 45 degrees lead out by 0.4 blocks in 40 levels, so nothing but the column is dug."""
-    wall = Wall(None, None, ((0.0, 45.0),))
+    wall = Wall(azimuths=((0.0, 45.0),))
     pattern = slope_patterns.pattern_of(wall, (100.0, 100.0, 1.0), Slopes(None, False, (wall,)))
     assert pattern.levels == 40 and pattern.offsets == ((0, 0, 1),)
     words = (
@@ -213,7 +213,7 @@ def test_forty_levels_are_the_end_and_the_walls_say_what_came_out():
 
 
 def test_never_steeper_widens_the_cone_of_the_levels_that_are_chosen():
-    wall = Wall(None, None, ((0.0, 45.0),))
+    wall = Wall(azimuths=((0.0, 45.0),))
     free, bound = (slope_patterns.pattern_of(wall, FLAT, Slopes(None, never, (wall,))) for never in (False, True))
     assert bound.levels == free.levels and bound.errors.max() <= 1e-6 < free.errors.max()
 
@@ -310,7 +310,7 @@ def test_walls_for_regions_alone_need_a_region_column(plan_folder):
 
 
 def test_a_list_that_cannot_hold_a_flat_wall_is_refused():
-    wall = Wall(None, None, ((0.0, 1.0),))
+    wall = Wall(azimuths=((0.0, 1.0),))
     with pytest.raises(
         PlanError, match="with 1 benches of these blocks no slope is flat enough: increase precedence_benches"
     ):
@@ -403,7 +403,7 @@ WANTED = (
 )
 def test_a_block_has_at_most_250_precedences_by_default(angle, benches, precedences, error, wanted):
     """One bench more would have more than 250, by the count of the audit too. The note has the error and what would keep half a degree."""
-    wall = Wall(None, None, ((0.0, float(angle)),))
+    wall = Wall(azimuths=((0.0, float(angle)),))
     pattern = slope_patterns.pattern_of(wall, FLAT, Slopes(None, False, (wall,)))
     assert (pattern.levels, len(pattern.offsets)) == (benches, precedences)
     assert pattern.errors.max() == pytest.approx(error, abs=0.05) and f"slope error +{error}" in pattern.sentence()

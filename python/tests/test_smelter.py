@@ -223,7 +223,9 @@ def test_terms_of_copper_in_pounds():
         freight=Decimal(60),
         price_participation=Participation(Decimal("3.5"), Decimal("0.1")),
     )
-    metal = Metal("copper", "cu", "percent", Decimal(4), Decimal(0), Decimal(1), price_per="lb", smelter=terms)
+    metal = Metal(
+        name="copper", column="cu", unit="percent", price=Decimal(4), recovery=Decimal(1), price_per="lb", smelter=terms
+    )
     pounds = 250 / 0.45359237
     charges = {name: float(amount) * 0.26 for name, amount in smelter_terms.charges(metal, metal.price).items()}
     expected = {"treatment": 80, "refining": pounds * 0.08, "participation": pounds * 0.05, "freight": 60 / 0.92}
@@ -313,7 +315,7 @@ def test_npv_is_rebuilt_from_the_sheet_down_to_prices(tmp_path, with_workbooks):
 @pytest.mark.parametrize(
     ("old", "new", "said"),
     [
-        ("payable = 0.965", "payable = 96.5", "payable: found 96.5, expected a share above 0 and at most 1"),
+        ("payable = 0.965", "payable = 96.5", "payable: found 96.5, expected above 0 to 1, such as 0.965 for 96.5 %"),
         ("concentrate_grade = 26\n", "", "concentrate_grade: is missing: treatment_charge depends on the grade"),
         (
             "concentrate_grade = 26\n",
@@ -321,9 +323,9 @@ def test_npv_is_rebuilt_from_the_sheet_down_to_prices(tmp_path, with_workbooks):
             "concentrate_grade: found 260, expected .* at most 100",
         ),
         ("minimum_deduction = 1\ntreat", "minimum_deduction = 26\ntreat", "minimum_deduction: found 26, expected less"),
-        ("moisture = 0.2", "moisture = 8", "moisture: found 8, expected a share below 1"),
-        ("share = 0.1", "share = 10", "share: found 10, expected a share below 1"),
-        ("treatment_charge = 80", "treatment_charge = -80", "treatment_charge: -80 is below 0"),
+        ("moisture = 0.2", "moisture = 8", "moisture: found 8, expected 0 to below 1"),
+        ("share = 0.1", "share = 10", "share: found 10, expected 0 to below 1"),
+        ("treatment_charge = 80", "treatment_charge = -80", "treatment_charge: found -80, expected 0 or more"),
         ("treatment_charge", "treatment_charges", "treatment_charges: unknown key: did you mean treatment_charge"),
         ("steps = [[2000, 3], [3000, 5]]", "steps = [[3000, 3], [2000, 5]]", "steps: the grades must rise"),
         ("per = 1000", "per = 0", "per: found 0, expected above 0"),

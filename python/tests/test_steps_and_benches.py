@@ -103,12 +103,12 @@ def test_benches_are_as_their_overall_angle(plan_folder):
         ("offsets = [[0, 0.5, 1]]", "offsets: must be a list of offsets"),
         ("offsets = [[0, 0, 0]]", "offsets: go up by 1 to 40 blocks, and by at most 200 to a side"),
         ("offsets = [[201, 0, 1]]", "offsets: go up by 1 to 40 blocks, and by at most 200 to a side"),
-        ("bench = { height = 0, face_angle = 70, berm_width = 5 }", "height: must be above 0 metres"),
+        ("bench = { height = 0, face_angle = 70, berm_width = 5 }", "height: found 0, expected above 0"),
         (
             "bench = { height = 10, face_angle = 95, berm_width = 5 }",
-            "face_angle: must be from 1 to 90 degrees",
+            "face_angle: found 95, expected 1 to 90",
         ),
-        ("bench = { height = 10, face_angle = 70, berm_width = -5 }", "berm_width: -5 is below 0"),
+        ("bench = { height = 10, face_angle = 70, berm_width = -5 }", "berm_width: found -5, expected 0 or more"),
     ],
 )
 def test_what_is_wrong_is_named(plan_folder, text, said):

@@ -1,5 +1,6 @@
 """Projects whose text no project could have: each is refused by one line, and before anything is computed with it."""
 
+import re
 import time
 
 import pytest
@@ -12,9 +13,9 @@ RECOVERY = "recovery = 0.5"
 
 @pytest.fixture
 def refused(tmp_path):
-    """The sentence by which a project's text is refused, without the file's name; within a second."""
+    """The sentence by which a project's text is refused, without the file's name; within a second. `line` is what it names."""
 
-    def said(text):
+    def said(text, line=None):
         path = tmp_path / "project.toml"
         path.write_text(text, encoding="utf-8")
         began = time.process_time()
@@ -22,7 +23,9 @@ def refused(tmp_path):
             load(path)
         assert time.process_time() - began < 1
         place, _, sentence = str(error.value).partition(": ")
-        assert place == str(path) and len(sentence.splitlines()) == 1 and len(sentence) < 300
+        named = re.fullmatch(re.escape(str(path)) + r"(?::(\d+))?", place)
+        assert named and len(sentence.splitlines()) == 1 and len(sentence) < 300
+        assert line in (None, int(named[1] or 0))
         return sentence
 
     return said
@@ -61,8 +64,8 @@ def test_an_absurd_factor(refused, number):
 
 def test_whole_numbers_of_thousands_of_digits(refused):
     for digits in ("1" * 4301, "1_" * 50_000 + "1"):
-        sentence = refused(PROJECT.replace(RECOVERY, f"recovery = {digits}"))
-        assert sentence == "a whole number of more than 4,300 digits (at line 18): amounts end at 10^18"
+        sentence = refused(PROJECT.replace(RECOVERY, f"recovery = {digits}"), 18)
+        assert sentence == "a whole number of more than 4,300 digits: amounts end at 10^18"
     for digits in ("1" * 4300, "0x" + "f" * 5000):
         sentence = refused(PROJECT.replace(RECOVERY, f"recovery = {digits}"))
         assert sentence == "[metals 1] recovery: a whole number of more than 54 digits is beyond 10^18"
@@ -80,8 +83,8 @@ def test_lists_and_tables_within_each_other(refused, brackets, count):
 @pytest.mark.parametrize("part", ["a", '"a b"', "'.'"])
 def test_a_key_of_many_parts(refused, text, part):
     for many, more in ((100_000, "."), (60, " . ")):
-        sentence = refused("\n" + text.format(more.join([part] * many)) + "\n" + PROJECT)
-        assert sentence == "a key of more than 50 parts (at line 2): a project's keys have three at most"
+        sentence = refused("\n" + text.format(more.join([part] * many)) + "\n" + PROJECT, 2)
+        assert sentence == "a key of more than 50 parts: a project's keys have three at most"
 
 
 def test_texts_with_many_points_are_no_keys(tmp_path):
@@ -150,8 +153,8 @@ def test_a_name_of_a_file_that_is_none():
     ],
 )
 def test_what_is_written_twice_is_named_with_both_lines(refused, added, said):
-    assert refused(PROJECT + added) == said
+    assert refused(PROJECT + added, int(re.search(r"and (\d+)", said)[1])) == said
 
 
 def test_another_mistake_keeps_the_words_of_the_parser(refused):
-    assert refused(PROJECT + "rate = \n") == "Invalid value (at line 27, column 8)"
+    assert refused(PROJECT + "rate = \n", 27) == "Invalid value (at line 27, column 8)"

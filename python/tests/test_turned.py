@@ -110,7 +110,7 @@ def test_an_azimuth_that_is_not_that_of_the_centres_is_refused_with_both(plan_fo
         said = f"azimuth is {azimuth} degrees, and the centres lie on a grid whose north has azimuth {found}$"
         with pytest.raises(PlanError, match=said):
             pitplan.Plan.from_project(plan_folder(table, PROJECT, given(azimuth)))
-    with pytest.raises(PlanError, match=r"\[grid\] azimuth: 361 is not an angle from -360 to 360 degrees"):
+    with pytest.raises(PlanError, match=r"\[grid\] azimuth: found 361, expected -360 to 360"):
         pitplan.Plan.from_project(plan_folder(rows(3, 3, 2), PROJECT, given(361)))
 
 

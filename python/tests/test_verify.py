@@ -485,7 +485,7 @@ def test_rows_without_rock_are_no_blocks_that_are_left_standing(plan_folder):
 
 def test_walls_between_azimuths_by_hand():
     """60 degrees to the east and 30 to the west: what they step back for a metre up is linear between, also over the north."""
-    wall = Wall(None, None, ((90.0, 60.0), (270.0, 30.0)))
+    wall = Wall(azimuths=((90.0, 60.0), (270.0, 30.0)))
     steep, flat = 1 / np.sqrt(3), np.sqrt(3)
     expected = [
         (steep + flat) / 2,
@@ -500,12 +500,12 @@ def test_walls_between_azimuths_by_hand():
 
 def test_high_walls_by_geometry():
     """Over one level walls of 45 degrees are the block above and the four beside it, so that they are steeper at the diagonals."""
-    wall = Wall(None, None, ((0.0, 45.0),))
+    wall = Wall(azimuths=((0.0, 45.0),))
     diagonal = np.degrees(np.arctan(np.sqrt(2)))
     assert high_walls(wall, (10.0, 10.0, 10.0), 1)[[0, 45, 90, 225]] == pytest.approx([45, diagonal, 45, diagonal])
     assert high_walls(wall, (20.0, 10.0, 20.0), 1)[[0, 90, 180]] == pytest.approx([45, 45, 45])
     # Steeper than a block is wide: no cell beside the block is within.
-    assert set(high_walls(Wall(None, None, ((0.0, 80.0),)), (10.0, 10.0, 10.0), 1)) == {90.0}
+    assert set(high_walls(Wall(azimuths=((0.0, 80.0),)), (10.0, 10.0, 10.0), 1)) == {90.0}
 
 
 def test_needs_that_steeper_walls_on_the_way_do_not_lead_to_are_found(plan_folder, monkeypatch):

@@ -266,7 +266,7 @@ def test_the_shells_of_pushbacks_take_the_place_of_a_count(served, client):
         ({"factors": ""}, 422, "Shell: found '', expected a revenue factor such as 0.80"),
         ({"factors": "0.5,1.0"}, 422, "Shell: found ''"),
         ({"factors": "x"}, 422, "found 'x'"),
-        ({"factors": "0.77"}, 400, f"{NAME}: [shells] selected: 0.77 is not among the revenue_factors"),
+        ({"factors": "0.77"}, 400, ": [shells] selected: 0.77 is not among the revenue_factors"),
         ({"factors": "0.5", "seen": "x"}, 400, "has changed since this page was opened"),
         ({"use": "pushbacks", "factors": ""}, 422, "Pushbacks: found 0 shells, expected 1 to 100"),
     ],

@@ -233,7 +233,7 @@ def test_a_project_is_edited_checked_and_saved(driver, server, root):
     wait(driver, lambda it: words_of(it, "wrong"))
     wrong = words_of(driver, "wrong")
     number = 1 + next(n for n, it in enumerate(before.splitlines()) if it.startswith("mining_cost"))
-    assert wrong.startswith(f"Line {number}: project.toml: [economics] mining_cost: ")
+    assert wrong.startswith(f"project.toml:{number}: [economics] mining_cost: ")
     wait(driver, lambda it: selected(it).startswith("mining_cost = -"))
     driver.find_element(ID, "save").click()
     wait(driver, lambda it: it.current_url.endswith("/project/save#editor") and words_of(it, "wrong") == wrong)

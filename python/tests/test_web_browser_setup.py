@@ -79,7 +79,7 @@ def test_periods_are_typed_pasted_and_saved(driver, server):
     assert not may_leave(driver)
     assert len(driver.find_elements(CSS, "#periods tbody tr")) == 2
     cell.send_keys(DOWN)
-    assert focused(driver) == "Period 2, Years, duration"
+    assert focused(driver) == "Period 2, Years, years"
     driver.switch_to.active_element.send_keys("1", ENTER, UP, RIGHT)
     assert focused(driver).startswith("Period 1, Mining capacity") or focused(driver).startswith("Period 2, Mining")
     paste(driver, cell, "years\tprices.copper\tcapex\r\n2\t8000\t1,250,000.5\r\n1\t8400\t\r\n3\t\t10\r\n")

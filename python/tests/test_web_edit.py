@@ -7,11 +7,13 @@ import pytest
 import tomllib
 from conftest import ROOT
 from helpers.browser_application import OWN, PORT, client_of, entered
+from helpers.project_page import several
 from helpers.pushbacks import UPRIGHT, pillars
 
 from pitplan import PlanError
 from pitplan.cli import main
-from pitplan.config import toml_lines
+from pitplan.config import toml_lines, toml_text
+from pitplan.config.project import of_data
 from pitplan.web import project_text
 from pitplan.web.security import Access
 
@@ -185,7 +187,7 @@ def test_a_wrong_text_is_refused_with_its_line_in_the_words_of_the_command_line(
     assert main(["check", NAME]) == 1
     printed = capsys.readouterr().err.strip().removeprefix("pitplan: ")
     assert why in printed
-    assert said(answer.text) == (f"Line {number}: {printed}" if number else printed)
+    assert said(answer.text) == printed and printed.startswith(f"{NAME}:{number}: ")
     assert ("data-line" in answer.text) == (number is not None)
     assert number is None or f'data-line="{number}"' in answer.text
 
@@ -194,7 +196,7 @@ def test_a_project_with_an_error_can_be_opened_and_repaired(path, client):
     path.write_text(COMMENTED.replace("[economics]", "[economics"))
     assert f'href="/project?name={NAME}" class="bad"' in client.get("/").text
     page = client.get("/project", params={"name": NAME})
-    assert page.status_code == 200 and said(page.text).startswith(f"Line {line('[economics]')}: {NAME}: ")
+    assert page.status_code == 200 and said(page.text).startswith(f"{NAME}:{line('[economics]')}: ")
     assert send(client, "save", COMMENTED).status_code == 303 and path.read_text() == COMMENTED
 
 
@@ -315,47 +317,46 @@ def test_the_line_of_a_key_is_that_of_the_nearest_that_there_is(name, number):
     assert toml_lines.line_of(TRICKY, name) == number
 
 
-MINE = """[[processes]]
-name = "mill"
-recovery = { copper = 0.5 }
+# A project, changes of it that are errors across sections, and how the line begins that the error names.
+SEVERAL = (
+    several()
+    + """
 [[processes]]
 name = "leach"
+cost = 1
+capacity = 10
+recovery = { copper = 0.4 }
 [[periods]]
 years = 1
-[[periods]]
-prices = { tin = 1 }
-[schedule.feed]
-as_ppm = { max = 1 }
+[schedule]
+max_metal_per_year = { copper = 5 }
 [[schedule.limits]]
-name = "arsenic"
-of = "x"
-[[metals]]
-[[metals]]
+name = "acid"
+column = "cu"
+max = 9
 [[dumps]]
 name = "north"
 """
-
-
-@pytest.mark.parametrize(
-    ("why", "number"),
-    [
-        ("p.toml: [[processes]] leach recovery: found tin, expected one of the [[metals]]: copper", 4),
-        ("p.toml: [[processes]] mill recovery: found tin, expected one of the [[metals]]: copper", 3),
-        ("p.toml: [[periods]] 2 prices: found tin, expected one of copper", 9),
-        ("p.toml: [[periods]] 2 minimum: [schedule] years is missing: the minimum applies", 8),
-        ("p.toml: [[dumps]] north: is the name of another source", 17),
-        ("p.toml: [schedule.limits] arsenic: of: found x, expected one of total, feed", 12),
-        ("p.toml: feed as_ppm: limits the share of OX, and [table] rock_type names no column", 10),
-        ("p.toml: two [[metals]] have one name", 15),
-        ("p.toml: [schedule.feed] is of one process: set [processes.feed] below each", 10),
-        ("p.toml: [metals] is written twice, lines 15 and 16: put the keys below the first", 16),
-        ("p.toml: [sensitivity] varies haulage, and there is no section [haulage]", None),
-    ],
 )
-def test_errors_across_sections_have_a_line(why, number):
-    assert toml_lines.line_of_error(MINE, why) == number
+ACROSS = [
+    ("recovery = { copper = 0.4 }", "recovery = { tin = 0.4 }", "recovery = { tin"),
+    ("years = 1", "years = 1\nprices = { tin = 1 }", "prices = { tin"),
+    ("years = 1", "years = 1\n[[periods]]\nminimum = { feed = 1 }", "minimum = { feed"),
+    ('name = "north"', 'name = "mill"', 'name = "mill"'),
+    ("max_metal_per_year = { copper = 5 }", "max_metal_per_year = { tin = 5 }", "max_metal_per_year"),
+    ("max = 9", 'max = 9\nof = "x"', 'of = "x"'),
+    ("[schedule]", "[schedule]\nprocessing_capacity = 5", "processing_capacity"),
+    ("[[dumps]]", "[sensitivity]\nparameters = ['haulage']\n[[dumps]]", "[sensitivity]"),
+    ("[[dumps]]", "[schedule.feed]\ncu = { max = 1 }\n[[dumps]]", "[schedule.feed]"),
+]
 
 
-@pytest.mark.parametrize("text", ["", "[", "x", "x =", "x = [", 'x = """', "=", "[[a]", 'x = "', "\0"])
-def test_texts_that_are_no_toml_have_lines_all_the_same(text):
-    assert toml_lines.line_of_error(text, "p.toml: [a] x: is missing") in (None, 1)
+@pytest.mark.parametrize(("old", "new", "begins"), ACROSS, ids=[it[2] for it in ACROSS])
+def test_errors_across_sections_have_a_line(old, new, begins):
+    before, found, after = SEVERAL.rpartition(old)
+    assert found
+    text = before + new + after
+    with pytest.raises(PlanError) as error:
+        of_data(toml_text.parsed(text, "p.toml"), ROOT / "p.toml", "p.toml", text)
+    number = text[: len(before) + new.index(begins)].count("\n") + 1
+    assert str(error.value).startswith(f"p.toml:{number}: ") and error.value.line == number

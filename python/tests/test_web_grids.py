@@ -12,7 +12,8 @@ from helpers.browser_application import OWN, PORT, entered
 from helpers.pushbacks import pillars
 
 from pitplan.config.project import load
-from pitplan.web import grids, project_text, toml_edit
+from pitplan.web import grids, project_text
+from pitplan.web.draft import Draft
 from pitplan.web.grid_columns import KINDS
 from pitplan.web.grids import Row, grids_of
 from pitplan.web.named_process import with_named_process
@@ -175,7 +176,7 @@ def test_cells_change_in_their_places(path, client):
 def test_keys_are_added_and_removed(path, client):
     answer = send(client, "metals", r1_price_per="lb", r1_selling_cost="3")
     assert answer.status_code == 303
-    assert path.read_text() == TEXT.replace("# per tonne\n", '# per tonne\nprice_per = "lb"\nselling_cost = 3\n')
+    assert path.read_text() == TEXT.replace("# per tonne\n", '# per tonne\nselling_cost = 3\nprice_per = "lb"\n')
     assert send(client, "metals", r1_price_per="", r1_selling_cost="").status_code == 303 and path.read_text() == TEXT
     assert send(client, "processes", r1_feed__cu__max="").status_code == 303
     assert path.read_text() == TEXT.replace("[processes.feed]\ncu = { max = 3 }      # head grade\n", "")
@@ -184,7 +185,7 @@ def test_keys_are_added_and_removed(path, client):
 def test_rows_are_added_at_the_end_and_removed_with_their_sections(path, client):
     new = {"r3_name": "stockwork", "r3_cost": "7", "r3_capacity": "50", "r3_recovery__copper": "0.6"}
     assert send(client, "processes", **new, r3_accepts__rock_type="R, S").status_code == 303
-    block = '[[processes]]\nname = "stockwork"\ncost = 7\ncapacity = 50\nrecovery = { copper = 0.6 }\naccepts = { rock_type = ["R", "S"] }\n\n'
+    block = '[[processes]]\nname = "stockwork"\ncost = 7\nrecovery = { copper = 0.6 }\ncapacity = 50\naccepts = { rock_type = ["R", "S"] }\n\n'
     assert path.read_text() == TEXT.replace("[slopes]\n", f"{block}[slopes]\n")
     page = page_of(client)
     form = {
@@ -250,13 +251,14 @@ def test_rules_of_classes_that_are_wrong(path, client, cells, why):
     assert answer.status_code == 422 and why in wrong(answer.text, "classes") and path.read_text() == CLASSED
 
 
-def test_rules_in_another_form_are_left_to_the_text(path):
+def test_rules_in_another_form_are_changed_there(path):
     text = CLASSED.replace("[table]", 'classes = { inf = "ore" }\n[table]')
     path.write_text(text)
     grid = grids_of(text, load(path))["classes"]
     assert [row.cells for row in grid.rows] == [("inf", "ore")]
-    with pytest.raises(WrongForm, match="in a way that this grid cannot change"):
-        grids.changed(text, grid, replace(grid, rows=[Row(0, ("inf", "ore")), Row(None, ("x", "ore"))]), NAME)
+    after = replace(grid, rows=[Row(0, ("inf", "ore")), Row(None, ("x", "waste"))])
+    expected = text.replace('{ inf = "ore" }', '{ inf = "ore", x = "waste" }')
+    assert grids.changed(text, grid, after, NAME) == expected
 
 
 # ---- refused
@@ -267,9 +269,9 @@ def test_rules_in_another_form_are_left_to_the_text(path):
     [
         ("processes", {"r1_capacity": "x"}, "Processes, row 1, Capacity: found 'x', expected a number such as 12.5"),
         ("processes", {"r1_capacity": "1,000"}, "and no separators of thousands"),
-        ("processes", {"r1_capacity": "0"}, f"{NAME}: [processes 1] capacity: 0 is below 1"),
-        ("processes", {"r3_name": "third"}, f"{NAME}: [processes 3] recovery: is missing"),
-        ("metals", {"r1_unit": "pct"}, f'{NAME}: [metals 1] unit: found "pct", expected one of percent'),
+        ("processes", {"r1_capacity": "0"}, f"{NAME}:32: [processes 1] capacity: found 0, expected 1 or more"),
+        ("processes", {"r3_name": "third"}, ": [processes 3] cost: is missing"),
+        ("metals", {"r1_unit": "pct"}, ': [metals 1] unit: found "pct", expected one of percent'),
         (
             "slopes",
             {"r1_azimuths": "0 48"},
@@ -402,12 +404,12 @@ def test_a_process_without_a_name_gets_one_and_the_plan_is_the_same(path, client
     assert process.recovery == {it.name: it.recovery for it in before.metals}
     assert [(it.column, it.max) for it in process.feed] == [("cu", 3)] and "cost = { R = 1_0 }" in path.read_text()
     with pytest.raises(WrongForm, match="names them already"):
-        with_named_process(path.read_text(), "mill", NAME)
+        with_named_process(path.read_text(), "mill")
 
 
 def test_a_process_needs_a_name_that_names_columns(path, client):
     path.write_text(UNNAMED)
-    for name, why in (("", "Name of the process: found nothing"), ("two words", "is not one word of letters")):
+    for name, why in (("", "Name of the process: found nothing"), ("two words", "expected one word of letters")):
         form = {"project": NAME, "seen": project_text.hash_of(path), "name": name}
         answer = client.post("/project/name-process", data=form, headers=OWN)
         assert answer.status_code == 422 and why in wrong(answer.text, "processes") and path.read_text() == UNNAMED
@@ -440,14 +442,16 @@ def test_a_write_between_the_check_and_the_rename_is_kept(path, monkeypatch):
         ("[a]", ("x",), "1", "[a]\nx = 1\n"),
         ("[a]\ny = [\n 1, # one\n]", ("x",), "1", "[a]\ny = [\n 1, # one\n]\nx = 1\n"),
         ("[a]\nb = {}\n", ("b", "x"), "1", "[a]\nb = { x = 1 }\n"),
-        ("[a]\n[a.b]\n# none\n", ("b", "x"), "1", "[a]\n[a.b]\nx = 1\n# none\n"),
+        ("[a]\n[a.b]\n# none\n", ("b", "x"), "1", "[a]\n[a.b]\n# none\nx = 1\n"),
         ("[a]\nb.c = 1\n", ("b", "x"), "2", "[a]\nb.c = 1\nb.x = 2\n"),
         ("[a]\n", ("Cu %", "x"), "2", '[a]\n"Cu %" = { x = 2 }\n'),
         ('[a]\nb = { "Cu %" = { x = "}" } }\n', ("b", "Cu %", "x"), "2", '[a]\nb = { "Cu %" = { x = 2 } }\n'),
     ],
 )
 def test_a_key_is_set_where_its_table_is(text, path, value, expected):
-    assert toml_edit.with_key(text, "a", path, value) == expected
+    draft = Draft(text)
+    draft.set(("a", *path), value)
+    assert draft.text == expected
 
 
 @pytest.mark.parametrize(
@@ -456,7 +460,7 @@ def test_a_key_is_set_where_its_table_is(text, path, value, expected):
         ("[a]\nx = 1 # one\ny = 2\n", ("x",), "[a]\ny = 2\n"),
         ("[a]\nx = [\n1]", ("x",), "[a]\n"),
         ("[a]\nb = { x = 1, y = 2 }\n", ("b", "x"), "[a]\nb = { y = 2 }\n"),
-        ("[a]\nb = { x = 1, y = 2 } # c\n", ("b", "y"), "[a]\nb = { x = 1 } # c\n"),
+        ("[a]\nb = { x = 1, y = 2 } # c\n", ("b", "y"), "[a]\nb = { x = 1 }        # c\n"),
         ("[a]\nb = { c = { x = 1 } }\nd = 1\n", ("b", "c", "x"), "[a]\nd = 1\n"),
         ("[a]\n[a.b]\nx = 1\n[c]\n", ("b", "x"), "[a]\n[c]\n"),
         ("[a]\n[a.b]\nx = 1\n[a.b.c]\n", ("b", "x"), "[a]\n[a.b]\n[a.b.c]\n"),
@@ -464,4 +468,6 @@ def test_a_key_is_set_where_its_table_is(text, path, value, expected):
     ],
 )
 def test_a_key_is_removed_with_what_is_empty_then(text, path, expected):
-    assert toml_edit.without_key(text, "a", path) == expected
+    draft = Draft(text)
+    draft.remove(("a", *path))
+    assert draft.text == expected

@@ -57,12 +57,12 @@ processing_capacity = 100
 FIELDS = [
     ("metals 1.price", "Price of copper", "AUD/t", "9000.50"),
     ("metals 2.price", "Price of gold", "AUD/oz", "2000"),
-    ("metals 1.recovery", "Recovery of copper", "share, 0 to 1", "0.9"),
+    ("metals 1.recovery", "Recovery of copper", "share", "0.9"),
     ("economics.mining_cost", "Mining cost", "AUD/t mined", "2.5"),
     ("economics.royalty", "Royalty", "share of gross revenue", "0.02"),
     ("shells.discount_rate", "Discount rate", "share per year", "8e-2"),
     ("shells.processing_capacity", "Processing capacity", "t of mill feed/year", "100"),
-    ("slopes.domains 1.angle", "Slope angle", "degrees, overall", "45"),
+    ("slopes.domains 1.angle", "Overall slope angle", "degrees", "45"),
 ]
 
 
@@ -109,7 +109,10 @@ def test_the_form_has_the_numbers_with_labels_and_units(path, client):
     assert found == FIELDS
     page, form = page_of(client), form_in(page_of(client))
     left_out = {it.name: "" for it in fields if not it.entry.end and not it.is_of_schedule}
-    assert "value:shells.mining_capacity" in left_out and len(left_out) == 3
+    assert {"value:shells.mining_capacity", "value:economics.dilution"} < left_out.keys()
+    units = {it.entry.name: it.unit for it in fields}
+    assert units["economics.royalty_per_tonne"] == "AUD/t of mill feed; empty: 0"
+    assert units["shells.mining_capacity"] == "t mined/year; empty: waste takes no time"
     written = {f"value:{it[0]}": it[3] for it in FIELDS}
     assert form == {"project": NAME, "seen": form["seen"], "form": "values", **written, **left_out}
     for name, label, unit, _ in FIELDS:
@@ -161,7 +164,7 @@ def test_what_is_no_number_is_refused_with_its_field_and_shown_again(path, clien
 def test_a_number_that_no_project_has_is_refused_in_the_words_of_the_command_line(path, client):
     answer = send(client, mining_cost="-1")
     assert answer.status_code == 422 and path.read_text() == TEXT
-    assert wrong(answer.text).startswith(f"{NAME}: [economics] mining_cost: ")
+    assert wrong(answer.text).startswith(f"{NAME}:10: [economics] mining_cost: ")
     assert form_in(answer.text)["value:economics.mining_cost"] == "-1"
     assert send(client, answer.text, mining_cost="3").status_code == 303 and "mining_cost = 3 " in path.read_text()
 
@@ -234,7 +237,7 @@ def test_a_key_that_is_left_out_is_added_and_removed_again(file):
         name = "/" + field.entry.name.replace(".", "/")
         assert found == before | {name: Decimal("0.125")}
         (entry,) = [it for it in values_form.entries(added) if it.name == field.entry.name]
-        again = [values_form.Field(entry, "", "", "0.125")]
+        again = [values_form.Field(entry, "", "", "0.125", is_optional=True)]
         assert tomllib.loads(changed(added, again, typed(again, {field.name: ""})), parse_float=Decimal).items() >= (
             tomllib.loads(text, parse_float=Decimal).items()
         )
@@ -252,8 +255,8 @@ def test_the_form_of_the_schedule_adds_its_sections(path, client):
 
 
 def test_a_number_is_refused_with_its_label():
-    entry = values_form.Entry("economics.mining_cost", 1, 14, 15)
-    field = values_form.Field(entry, "Mining cost", "USD/t", "2")
+    text = "[economics]\nmining_cost = 2\n"
+    field = values_form.Field(values_form.Entry("economics.mining_cost", 2, 26, 27), "Mining cost", "USD/t", "2")
     with pytest.raises(WrongForm, match="Mining cost: found '2,5', expected a number such as 2: write decimals with"):
-        changed("mining_cost = 2", [field], typed([field], {field.name: " 2,5 "}))
-    assert changed("mining_cost = 2", [field], typed([field], {field.name: " 2.5 "})) == "mining_cost = 2.5"
+        changed(text, [field], typed([field], {field.name: " 2,5 "}))
+    assert changed(text, [field], typed([field], {field.name: " 2.5 "})) == text.replace("2", "2.5")

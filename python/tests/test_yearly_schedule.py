@@ -83,21 +83,21 @@ def test_the_rule_keeps_each_limit(plan_folder, words, cash):
 @pytest.mark.parametrize(
     ("words", "said"),
     [
-        ("processing_capacity = 0", "[schedule] processing_capacity: 0 is below 1"),
-        ("vertical_advance_rate = 0", "[schedule] vertical_advance_rate: must be above 0 benches per year"),
-        ("bench_lag = -1", "[schedule] bench_lag: must be a whole number from 0 to 1,000"),
+        ("processing_capacity = 0", "[schedule] processing_capacity: found 0, expected 1 or more"),
+        ("vertical_advance_rate = 0", "[schedule] vertical_advance_rate: found 0, expected above 0"),
+        ("bench_lag = -1", "[schedule] bench_lag: found -1, expected a whole number from 0 to 1,000"),
         ("ramp_up = 0.5", "[schedule] ramp_up: must be a list of shares of processing_capacity"),
-        ("ramp_up = [0.5, 1.2]", "[schedule] ramp_up: shares must be from 0 to 1"),
+        ("ramp_up = [0.5, 1.2]", "[schedule] ramp_up: found 1.2, expected 0 to 1"),
         (
             "ramp_up = [0.5, 0]",
-            "[schedule] ramp_up: shares must be from 0 to 1, and the last, which applies to all later years, above 0",
+            "[schedule] ramp_up: found 0 as the last share, which applies to all later years: expected above 0",
         ),
-        ("max_metal_per_year = { copper = 0 }", "[schedule.max_metal_per_year] copper: must be above 0"),
+        ("max_metal_per_year = { copper = 0 }", "[schedule.max_metal_per_year] copper: found 0, expected above 0"),
         (
             "max_metal_per_year = { tin = 1 }",
             "[schedule] max_metal_per_year: found tin, expected one of the [[metals]]: copper",
         ),
-        ("years = 0", "[schedule] years: must be a whole number from 1 to 200"),
+        ("years = 0", "[schedule] years: found 0, expected a whole number from 1 to 200"),
         ("bench_lags = 3", "[schedule] bench_lags: unknown key: did you mean bench_lag"),
     ],
 )

@@ -8,9 +8,12 @@ from typing import Any, Mapping, Optional, Union
 
 import pandas as pd
 
+from pitplan.config.agreement import demand_table
+from pitplan.config.keys import read
 from pitplan.config.python_values import as_toml
-from pitplan.config.table import read_grid, read_table
+from pitplan.config.table import GridRules, TableColumns
 from pitplan.config.toml_section import Section
+from pitplan.config.toml_text import Source
 
 # The keys that belong to the grid; all others belong to the table.
 OF_GRID = ("size", "tolerance", "azimuth")
@@ -82,6 +85,7 @@ def of_keys(frame: Optional[pd.DataFrame], file: str, keys: Mapping[str, Any]) -
     given = as_toml(keys, SOURCE)
     table = {"file": file} | {key: value for key, value in given.items() if key not in OF_GRID}
     grid = {key: value for key, value in given.items() if key in OF_GRID}
-    read_table(Section(SOURCE, "table", table), Path("."))
-    read_grid(Section(SOURCE, "grid", grid))
+    source = Source(SOURCE, {"table": table, "grid": grid})
+    demand_table(read(TableColumns, Section(source, "table", table)), source)
+    read(GridRules, Section(source, "grid", grid))
     return BlockModel(frame, table, grid)

@@ -11,6 +11,9 @@ from typing import Optional
 
 import numpy as np
 
+from pitplan.config.keys import is_empty, keys_of, sentence
+from pitplan.config.project import record_at
+from pitplan.config.project_writer import shown
 from pitplan.config.table_rules import MISSING, ZERO
 from pitplan.core.atomic_files import staged_file
 from pitplan.core.layout import figure_of_model
@@ -116,6 +119,7 @@ def text_of(model: Model, out: Path) -> str:
 
     environment = Environment(loader=FileSystemLoader(TEMPLATES), keep_trailing_newline=True)
     environment.filters["quoted"] = quoted
+    environment.globals["others"] = others
     size, size_why = (None, "") if has_several_sizes(model) else size_of(model)
     ore = processing_capacity(model)
     words = {
@@ -136,6 +140,17 @@ def text_of(model: Model, out: Path) -> str:
         "ore_why": "by Taylor's rule for the blocks that pay at these prices; set your own",
     }
     return environment.get_template("project.toml").render(words)
+
+
+def others(section: str, given: list[str]) -> str:
+    """Returns the optional keys of a section as comments, each with what it is; without `given` ones and lists of sections."""
+    lines = []
+    for key, it in keys_of(record_at(section)).items():
+        if key not in given and it.kind.record is None and not it.is_seldom:
+            value = ".." if is_empty(it.default) or it.is_required else shown(it.kind.write(it.default, Path(".")))
+            said = sentence(it).replace("`", "")
+            lines.append(f"{f'# {key} = {value}':<32} # {said}\n")
+    return "".join(lines)
 
 
 def file_name(file: Path, out: Path) -> str:

@@ -7,10 +7,11 @@ from dataclasses import dataclass
 from pathlib import Path
 from typing import Iterator
 
+from ..config.project import settable
 from .parser import Parser, parser
 
 # What completes an argument: paths by the name that help gives to it, words, or nothing.
-FILE, FOLDER, PROJECT, WORDS, NOTHING = "file", "folder", "project", "words", "nothing"
+FILE, FOLDER, PROJECT, WORDS, KEYS, NOTHING = "file", "folder", "project", "words", "keys", "nothing"
 PATHS = {"FILE": FILE, "TABLE": FILE, "PLACE": FILE, "FOLDER": FOLDER, "TARGET": FOLDER, "PROJECT": PROJECT}
 
 
@@ -25,7 +26,7 @@ class Argument:
     help : str
         What it is.
     kind : str
-        FILE, FOLDER, PROJECT (a file that ends in .toml), WORDS or NOTHING.
+        FILE, FOLDER, PROJECT (a file that ends in .toml), WORDS, KEYS (those of a project) or NOTHING.
     words : tuple of str
         Those that it may be, if it has WORDS.
     repeats : bool
@@ -71,7 +72,10 @@ class Subcommand:
 def script(shell: str) -> str:
     """The script of a shell: bash, zsh or fish."""
     top = parser()
-    return {"bash": of_bash, "zsh": of_zsh, "fish": of_fish}[shell](subcommands_of(top), options_of(top))
+    keys = " ".join(f"{path}=" for path in settable())
+    return {"bash": of_bash, "zsh": of_zsh, "fish": of_fish}[shell](subcommands_of(top), options_of(top)).replace(
+        "SETTABLE", keys
+    )
 
 
 def subcommands_of(top: Parser) -> list[Subcommand]:
@@ -121,7 +125,7 @@ def argument_of(action: argparse.Action) -> Argument:
     repeats = action.nargs in ("+", "*")
     if action.choices is not None:
         return Argument(name, help_of(action), WORDS, tuple(action.choices), repeats)
-    kind = PATHS[name] if action.type is Path else NOTHING
+    kind = PATHS[name] if action.type is Path else KEYS if name == "KEY=VALUE" else NOTHING
     return Argument(name, help_of(action), kind, (), repeats, action.nargs == "?")
 
 
@@ -142,6 +146,11 @@ _pitplan_paths() {
     folder) mapfile -t COMPREPLY < <(compgen -d -- "$word") ;;
     project) mapfile -t COMPREPLY < <(compgen -f -X '!*.toml' -- "$word"; compgen -d -- "$word") ;;
     esac
+}
+
+_pitplan_keys() {
+    compopt -o nospace 2> /dev/null
+    _pitplan_words "SETTABLE"
 }
 
 _pitplan() {
@@ -204,11 +213,17 @@ def of_bash(subcommands: list[Subcommand], top: tuple[Option, ...]) -> str:
 def bash_action(argument: Argument) -> str:
     if argument.kind == WORDS:
         return f'_pitplan_words "{" ".join(argument.words)}" && return'
+    if argument.kind == KEYS:
+        return "_pitplan_keys && return"
     return "return" if argument.kind == NOTHING else f"_pitplan_paths {argument.kind} && return"
 
 
 ZSH = """#compdef pitplan
 # Completion of pitplan for zsh, written by `pitplan completion zsh`.
+
+_pitplan_keys() {
+    compadd -S '' -- SETTABLE
+}
 
 _pitplan() {
     local context state state_descr line
@@ -267,7 +282,13 @@ def zsh_option(option: Option) -> str:
 
 def zsh_value(argument: Argument) -> str:
     """The name of a value and what completes it; a space completes nothing."""
-    action = {FILE: "_files", FOLDER: "_files -/", PROJECT: '_files -g "*.toml"', NOTHING: " "}.get(argument.kind)
+    action = {
+        FILE: "_files",
+        FOLDER: "_files -/",
+        PROJECT: '_files -g "*.toml"',
+        KEYS: "_pitplan_keys",
+        NOTHING: " ",
+    }.get(argument.kind)
     return quoted(f"{colons(argument.name)}:{action or '(' + ' '.join(argument.words) + ')'}")
 
 
@@ -282,6 +303,9 @@ def quoted(text: str) -> str:
 
 FISH = """# Completion of pitplan for fish, written by `pitplan completion fish`.
 complete -c pitplan -f
+function __pitplan_keys
+    string split " " "SETTABLE"
+end
 """
 
 
@@ -312,9 +336,12 @@ def fish_lines(sub: Subcommand) -> Iterator[str]:
 def fish_value(argument: Argument) -> str:
     """The words of a value, or paths."""
     suffix = "(__fish_complete_suffix .toml)"
-    words = {FOLDER: "(__fish_complete_directories)", PROJECT: suffix, WORDS: " ".join(argument.words)}.get(
-        argument.kind
-    )
+    words = {
+        FOLDER: "(__fish_complete_directories)",
+        PROJECT: suffix,
+        KEYS: "(__pitplan_keys)",
+        WORDS: " ".join(argument.words),
+    }.get(argument.kind)
     return " -F" if argument.kind == FILE else f" -fa {fish_quoted(words)}" if words else " -f"
 
 

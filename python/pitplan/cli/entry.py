@@ -16,7 +16,7 @@ from ..errors import MissingPackage, PlanError, PlanWarning
 from .parser import parser
 
 # The subcommands that require Python alone.
-PLAIN = ("convert", "completion", "doctor")
+PLAIN = ("convert", "doctor")
 # Packages of Python that all others require, with those of Debian.
 REQUIRED = {it.module: it.package for it in LIBRARIES if not it.purpose}
 

@@ -110,7 +110,7 @@ def parser() -> Parser:
     )
     top.add_argument("--version", action="version", version=f"pitplan {__version__}", help="print the version and exit")
     subs = Subparsers(top)
-    subs.group("set up", add_init, add_check, add_completion, add_doctor)
+    subs.group("set up", add_init, add_check, add_schema, add_completion, add_doctor)
     subs.group("plan", add_prepare, add_shells, add_pit, add_pushbacks, add_schedule)
     subs.group("studies", add_sensitivity, add_compare, add_scenarios, add_gather, add_scenario)
     subs.group("outputs", add_report, add_view, add_export, add_audit, add_verify)
@@ -157,6 +157,11 @@ def add_check(subs: Subparsers) -> None:
     add_project(sub)
     add_set(sub)
     add_quiet(sub)
+
+
+def add_schema(subs: Subparsers) -> None:
+    more = "Name the file in the first line of a project, #:schema project.schema.json, and editors complete and check its keys."
+    subs.add("schema", "print the JSON Schema of a project", subcommands.schema, more)
 
 
 def add_completion(subs: Subparsers) -> None:

@@ -312,6 +312,15 @@ def serve(options: Namespace) -> int:
     return 0
 
 
+def schema(options: Namespace) -> int:
+    import json
+
+    from pitplan.config.project import schema as of_project
+
+    print(json.dumps(of_project(), indent=1, default=float))
+    return 0
+
+
 def completion(options: Namespace) -> int:
     from .completions import script
 

@@ -2,12 +2,13 @@
 
 from __future__ import annotations
 
-from collections.abc import Iterator
 from dataclasses import dataclass
-from typing import Optional
+from pathlib import Path
+from typing import Any, Optional
 
 from .codes import CLASS, CODES, DOMAIN, ROCK_TYPE
-from .feed_grades import read_range
+from .feed_grades import RANGE, read_range
+from .kinds import Kind, codes, read_codes
 from .toml_section import Section
 
 
@@ -44,23 +45,24 @@ class Accepts:
         return {ROCK_TYPE: self.rock_type, DOMAIN: self.domain, CLASS: self.resource_class}
 
 
-def read_accepts(section: Section) -> Accepts:
-    """Reads a section. Raises PlanError, with the key, if it has a mistake."""
-    codes = {key: read_codes(section, key) for key in CODES if section.has(key)}
-    grades = tuple(read_grades(section))
-    section.finish()
-    return Accepts(codes.get(ROCK_TYPE, ()), codes.get(DOMAIN, ()), codes.get(CLASS, ()), grades)
+def read_accepts(section: Section, key: str, _: Any) -> Accepts:
+    inner = section.section(key)
+    # A block without a resource class has the code "".
+    named = {name: read_codes(inner, name, it, may_be_empty=True) for name, it in inner.data.items() if name in CODES}
+    grades = [
+        GradeRange(column, *read_range(inner, column, "{ min = 0.1 }")) for column in inner.data if column not in CODES
+    ]
+    return Accepts(named.get(ROCK_TYPE, ()), named.get(DOMAIN, ()), named.get(CLASS, ()), tuple(grades))
 
 
-def read_codes(section: Section, key: str) -> tuple[str, ...]:
-    """Returns one code or a list of them, as texts."""
-    value = section.get(key)
-    items = value if isinstance(value, list) else [value]
-    if not items or any(isinstance(item, bool) or not isinstance(item, (str, int)) for item in items):
-        raise section.wrong(key, f'found {value!r}, expected codes, such as ["OX", "MIX"]')
-    return tuple(map(str, items))
+def write_accepts(accepts: Accepts, _: Path) -> dict[str, Any]:
+    named = {key: [*values] for key, values in accepts.codes.items() if values}
+    return named | {it.column: {"min": it.min, "max": it.max} for it in accepts.grades}
 
 
-def read_grades(section: Section) -> Iterator[GradeRange]:
-    for column in [name for name in section.data if name not in CODES]:
-        yield GradeRange(column, *read_range(section, column, "{ min = 0.1 }"))
+ACCEPTS = Kind(
+    read_accepts,
+    {"type": "object", "properties": dict.fromkeys(CODES, codes.schema), "additionalProperties": RANGE},
+    write=write_accepts,
+)
+ACCEPTED = "blocks by `rock_type`, `domain`, `class` (code or list) and by in-situ grade `{ min = .., max = .. }`"

@@ -6,79 +6,65 @@ from dataclasses import dataclass
 from decimal import Decimal
 from typing import Any, Optional
 
+from .keys import key
+from .kinds import Kind, listed, number
 from .toml_section import Section
 
 UNITS_OF_PRODUCTION = "units_of_production"
 MOST_RATES = 20
+RATES = listed(number(0, 1, example="0.08 for 8 %"), "of rates per year, such as [0.05, 0.08, 0.10]", MOST_RATES)
+
+
+def read_rates(section: Section, name: str, value: Any) -> tuple[Decimal, ...]:
+    """Rates that rise."""
+    rates = tuple(sorted(RATES.read(section, name, value)))
+    if len(set(rates)) < len(rates):
+        raise section.wrong(name, "found a rate twice, expected each once")
+    return rates
+
+
+def read_depreciation(section: Section, name: str, value: Any) -> Optional[Decimal]:
+    """The years of straight-line depreciation; None for units of production."""
+    if value == UNITS_OF_PRODUCTION:
+        return None
+    if not isinstance(value, dict):
+        raise section.wrong(name, f'expected "{UNITS_OF_PRODUCTION}" or straight line over years, as {{ years = 8 }}')
+    inner = section.section(name)
+    years: Decimal = number(above=0).read(inner, "years", inner.get("years"))
+    inner.finish()
+    return years
+
+
+STRAIGHT_LINE = {
+    "type": "object",
+    "properties": {"years": number(above=0).schema},
+    "required": ["years"],
+    "additionalProperties": False,
+}
 
 
 @dataclass(frozen=True)
 class CashFlowRules:
-    """What the cash flow by line has beyond the money of schedules.
+    """What the cash flow by line has beyond the money of schedules."""
 
-    Attributes
-    ----------
-    discount_rates : tuple of Decimal
-        Rates per year of the NPVs, ascending, next to that of `[shells]`.
-    closure_cost : Decimal
-        Spent in the last period, in the currency.
-    tax_rate : Decimal
-        Share of the taxable income.
-    depreciation_years : Decimal, optional
-        Years of straight-line depreciation of capex; None: depreciation in proportion to the mill feed.
-    """
-
-    discount_rates: tuple[Decimal, ...] = ()
-    closure_cost: Decimal = Decimal(0)
-    tax_rate: Decimal = Decimal(0)
-    depreciation_years: Optional[Decimal] = None
-
-    def as_toml(self) -> dict[str, Any]:
-        """The keys and values of the section; empty if all are the defaults."""
-        years = self.depreciation_years
-        found = {
-            "discount_rates": self.discount_rates or None,
-            "closure_cost": self.closure_cost or None,
-            "tax_rate": self.tax_rate or None,
-            "depreciation": None if years is None else {"years": years},
-        }
-        return {key: value for key, value in found.items() if value is not None}
-
-
-def read_cash_flow(section: Section) -> CashFlowRules:
-    """Reads the section. Raises PlanError, with the key, if one is wrong."""
-    rules = CashFlowRules(
-        discount_rates=read_rates(section),
-        closure_cost=section.number("closure_cost", Decimal(0), least=0),
-        tax_rate=section.number("tax_rate", Decimal(0), least=0),
-        depreciation_years=read_depreciation(section),
+    discount_rates: tuple[Decimal, ...] = key(
+        Kind(read_rates, RATES.schema, f"{RATES.range}, {MOST_RATES} at most"),
+        "list of rates next to that of `[shells]`",
+        (),
+        "share per year",
     )
-    section.finish()
-    if rules.tax_rate >= 1:
-        raise section.wrong("tax_rate", f"found {rules.tax_rate}, expected a share below 1, such as 0.25 for 25 %")
-    return rules
-
-
-def read_rates(section: Section) -> tuple[Decimal, ...]:
-    rates = tuple(sorted(section.amounts("discount_rates", "of rates per year, such as [0.05, 0.08, 0.10]")))
-    for rate in rates:
-        if rate > 1:
-            raise section.wrong("discount_rates", f"found {rate}, expected rates per year, such as 0.08 for 8 %")
-    if len(set(rates)) < len(rates) or len(rates) > MOST_RATES:
-        raise section.wrong("discount_rates", f"found {len(rates)} rates, expected {MOST_RATES} at most, each once")
-    return rates
-
-
-def read_depreciation(section: Section) -> Optional[Decimal]:
-    """The years of straight-line depreciation; None for units of production."""
-    key = "depreciation"
-    if not section.has(key) or section.data[key] == UNITS_OF_PRODUCTION:
-        return None
-    if not isinstance(section.data[key], dict):
-        raise section.wrong(key, f'expected "{UNITS_OF_PRODUCTION}" or straight line over years, as {{ years = 8 }}')
-    inner = section.section(key)
-    years = inner.number("years")
-    inner.finish()
-    if years <= 0:
-        raise inner.wrong("years", f"found {years}, expected above 0")
-    return years
+    closure_cost: Decimal = key(number(0), "closure cost in the last year", Decimal(0), "{currency}", is_quiet=True)
+    tax_rate: Decimal = key(
+        number(0, below=1, example="0.25 for 25 %"), "tax rate", Decimal(0), "share of taxable income", is_quiet=True
+    )
+    depreciation_years: Optional[Decimal] = key(
+        Kind(
+            read_depreciation,
+            {"anyOf": [{"const": UNITS_OF_PRODUCTION}, STRAIGHT_LINE]},
+            write=lambda years, _: {"years": years},
+        ),
+        'of capex: `"units_of_production"` (by mill feed), or `{ years = 8 }` (straight line; above 0)',
+        None,
+        otherwise='`"units_of_production"`',
+        name="depreciation",
+    )

@@ -4,7 +4,7 @@ from __future__ import annotations
 
 from dataclasses import dataclass, field
 
-from .toml_section import Section
+from .kinds import Kind, by_name, choice
 
 # As other blocks; never processed, and reported as mineralised waste if it would pay; or an error.
 ORE, WASTE, REFUSE = TREATMENTS = "ore", "waste", "refuse"
@@ -29,7 +29,8 @@ class ClassRules:
         return code.lower() not in WASTE_NAMES
 
 
-def read_classes(section: Section) -> ClassRules:
-    given = {code: section.choice(code, TREATMENTS, None) for code in section.data}
-    section.finish()
-    return ClassRules(given)
+CLASSES = Kind(
+    lambda section, name, value: ClassRules(by_name(choice(*TREATMENTS)).read(section, name, value)),
+    by_name(choice(*TREATMENTS)).schema,
+    write=lambda rules, _: rules.given,
+)

@@ -4,9 +4,11 @@ from __future__ import annotations
 
 from dataclasses import dataclass
 from pathlib import Path
-from typing import Optional
+from typing import Any, Optional, Union
 
-from .survey import SurveyFile, read_survey
+from .keys import key, tables
+from .kinds import Kind, choice, text
+from .survey import SurveyFile, read_survey, survey, write_survey
 from .toml_section import Section
 
 # The original ground is the tops of the blocks.
@@ -15,54 +17,52 @@ BLOCKS = "blocks"
 SIDES = ("inside", "outside")
 
 
+def read_ground(section: Section, name: str, value: Any) -> Union[str, SurveyFile]:
+    return BLOCKS if value == BLOCKS else read_survey(section, name, value)
+
+
+def write_ground(ground: Union[str, SurveyFile], folder: Path) -> Any:
+    if isinstance(ground, str):
+        return ground
+    written = write_survey(ground, folder)
+    # A file of that name, which is not the word.
+    return f"./{BLOCKS}" if written == BLOCKS else written
+
+
 @dataclass(frozen=True)
 class Area:
     """Polygons on the map, by a table of the corners x and y of one in order, or of a drawing or a map, of which the inside or the outside
-    may not be dug."""
+    may not be mined."""
 
-    polygon: SurveyFile
-    exclude: str
+    polygon: SurveyFile = key(survey(has_heights=False), "survey file of the polygons")
+    exclude: str = key(choice(*SIDES), "side of the polygons that may not be mined", label="May not be mined")
 
 
 @dataclass(frozen=True)
 class ConstraintRules:
-    """What must be dug, and what may not be.
+    """What must be mined, and what may not be."""
 
-    must_mine   a column of the table: blocks with a number above 0 are in every shell
-    exclude     a column of the table: blocks with a number above 0 are in no shell
-    as_mined    heights of the as-mined surface: blocks keep the tonnes below it, and mined blocks are in every shell
-    topography  heights of the original ground, by which the table's tonnes are cut already; None: [table] topography, or the blocks' tops
-    by_blocks   whether the original ground of the as-mined surface is the blocks' tops, since they are whole
-    areas    what may not be dug on the map
-    """
-
-    must_mine: Optional[str]
-    exclude: Optional[str]
-    as_mined: Optional[SurveyFile]
-    areas: tuple[Area, ...]
-    topography: Optional[SurveyFile] = None
-    by_blocks: bool = False
-
-
-def read_constraints(section: Section, folder: Path) -> ConstraintRules:
-    rules = ConstraintRules(
-        must_mine=section.optional_text("must_mine"),
-        exclude=section.optional_text("exclude"),
-        as_mined=read_survey(section, "as_mined", folder) if section.has("as_mined") else None,
-        areas=tuple(read_area(area, folder) for area in section.sections("areas")) if section.has("areas") else (),
-        by_blocks=section.has("topography") and section.get("topography") == BLOCKS,
-        topography=read_survey(section, "topography", folder)
-        if section.has("topography") and section.get("topography") != BLOCKS
-        else None,
+    must_mine: Optional[str] = key(text, "column: blocks with a number above 0 are in every shell", None)
+    exclude: Optional[str] = key(text, "column: blocks with a number above 0 are in no shell", None)
+    as_mined: Optional[SurveyFile] = key(survey(), "survey file: tonnes above it are gone", None)
+    original: Union[None, str, SurveyFile] = key(
+        Kind(read_ground, survey().schema, write=write_ground),
+        'original ground: survey file or `"blocks"`; requires `as_mined`',
+        None,
+        otherwise="that of `[table]`",
+        name="topography",
+        since="0.2.0",
     )
-    if (rules.topography or rules.by_blocks) and not rules.as_mined:
-        raise section.wrong("topography", "requires as_mined, whose original ground it is")
-    section.finish()
-    return rules
+    areas: tuple[Area, ...] = key(
+        tables(Area), 'list of `{ polygon = .., exclude = .. }`: survey file, and `"inside"` or `"outside"`', ()
+    )
 
+    @property
+    def topography(self) -> Optional[SurveyFile]:
+        """Heights of the original ground, by which the table's tonnes are cut already; None: [table] topography, or the blocks' tops."""
+        return self.original if isinstance(self.original, SurveyFile) else None
 
-def read_area(section: Section, folder: Path) -> Area:
-    polygon = read_survey(section, "polygon", folder, heights=False)
-    area = Area(polygon, section.choice("exclude", SIDES, None))
-    section.finish()
-    return area
+    @property
+    def by_blocks(self) -> bool:
+        """Whether the original ground of the as-mined surface is the blocks' tops, since they are whole."""
+        return self.original == BLOCKS

@@ -2,14 +2,16 @@
 
 from __future__ import annotations
 
-import re
 from dataclasses import dataclass, replace
 from decimal import ROUND_HALF_EVEN, Decimal
+from pathlib import Path
 from typing import Any, Optional, Union
 
-from .acceptance import Accepts, read_accepts
-from .feed_grades import FeedGrade, read_feed
-from .smelter import ALL, Smelter, read_smelter
+from .acceptance import ACCEPTED, ACCEPTS, Accepts
+from .feed_grades import FEED, FeedGrade
+from .keys import RENAMED, key, table
+from .kinds import Kind, amount, by_name, by_rock, choice, coordinate, line, listed, number, pairs, text, whole, word
+from .smelter import Smelter
 from .toml_section import Section
 
 # A price or a cost: one for every rock, or one for each rock by its code.
@@ -32,16 +34,17 @@ GRAMS = {
 }
 # A price that is converted from one unit to another is rounded half to even, to this number of decimals.
 PRICE_PLACES = Decimal(1).scaleb(-12)
+ZERO, ONE = Decimal(0), Decimal(1)
 
 
 @dataclass(frozen=True)
 class ByDomain:
-    """A number for each region, by its code."""
+    """A number for each domain, by its code."""
 
     values: dict[str, Decimal]
 
 
-# One for every block, or for each rock or each region.
+# One for every block, or for each rock type or each domain.
 ByCode = Union[Decimal, dict[str, Decimal], ByDomain]
 
 
@@ -56,27 +59,107 @@ class Curve:
 Recovery = Union[Decimal, Curve]
 
 
-@dataclass(frozen=True)
+def by_code(item: Kind) -> Kind:
+    """A number for all blocks, by rock type, or as `{ domain = { CODE = number } }` by domain."""
+    of_rock, of_domain = by_rock(item), by_name(item)
+
+    def read(section: Section, name: str, value: Any) -> ByCode:
+        if not isinstance(value, dict) or not any(isinstance(it, dict) for it in value.values()):
+            return of_rock.read(section, name, value)  # type: ignore[no-any-return]
+        inner = section.section(name)
+        by_domain = inner.get("domain", RENAMED)
+        inner.finish()
+        return ByDomain(of_domain.read(inner, "domain", by_domain))
+
+    def write(value: ByCode, folder: Path) -> Any:
+        return {"domain": value.values} if isinstance(value, ByDomain) else value
+
+    domains = {"type": "object", "properties": {"domain": of_domain.schema}, "required": ["domain"]}
+    return Kind(read, {"anyOf": [*of_rock.schema["anyOf"], domains]}, f"{of_rock.range} or domain", write)
+
+
+def read_recovery(section: Section, name: str, value: Any) -> Recovery:
+    """A share, or pairs of grade and share."""
+    if not isinstance(value, list):
+        return SHARE.read(section, name, value)  # type: ignore[no-any-return]
+    points = tuple(sorted(GRADES_AND_SHARES.read(section, name, value)))
+    grades, recoveries = zip(*points)
+    if len(set(grades)) < len(grades):
+        raise section.wrong(name, "a grade occurs twice")
+    if list(recoveries) != sorted(recoveries):
+        raise section.wrong(name, "falls as the grade rises")
+    return Curve(points)
+
+
+def read_elevations(section: Section, name: str, value: Any) -> tuple[tuple[Decimal, Decimal], ...]:
+    """Pairs of an elevation and an added cost, by rising elevation."""
+    found = tuple(sorted(ELEVATIONS.read(section, name, value)))
+    if len({elevation for elevation, _ in found}) < len(found):
+        raise section.wrong(name, "an elevation occurs twice")
+    return found
+
+
+SHARE = number(0, 1)
+GRADES_AND_SHARES = pairs(number(0), SHARE, "grade, recovery")
+RECOVERY = Kind(
+    read_recovery,
+    {"anyOf": [SHARE.schema, GRADES_AND_SHARES.schema]},
+    SHARE.range,
+    lambda value, _: value.points if isinstance(value, Curve) else value,
+)
+ELEVATIONS = pairs(number(None), number(0), "elevation, cost a tonne")
+CAPEX = pairs(whole(1, MOST_YEARS), number(0), "year, amount")
+
+
+@dataclass(frozen=True, kw_only=True)
 class Metal:
-    """A metal that is sold: its grade column, price and selling cost.
+    """A metal that is sold."""
 
-    price_per   the unit of price, selling cost and prices: t, kg, g, lb or oz (troy); none: t, or g if the grade is in grams a tonne
-    recovery    the share that is recovered of what comes to the mill, less the fixed tail; one, or by rock
-    tail_grade  the grade, in the column's unit, of what is lost of each tonne that comes to the mill, whatever it holds
-    prices      of each year from the first, in years and schedules, the last one staying; none: the price, as in the worth of blocks
-    smelter     what a smelter pays and charges, in place of the selling cost, for the metal of all processes or of some
-    """
-
-    name: str
-    column: str
-    unit: str
-    price: Decimal
-    selling_cost: Decimal
-    recovery: Union[Recovery, dict[str, Recovery]]
-    tail_grade: ByRock = Decimal(0)
-    prices: tuple[Decimal, ...] = ()
-    price_per: Optional[str] = None
-    smelter: Optional[Smelter] = None
+    name: str = key(text, "name of the metal", label="Metal")
+    column: str = key(text, "column of its grades", label="Grade column")
+    unit: str = key(choice(*GRADE_UNITS), "unit of the column", label="Unit of grade")
+    price: Decimal = key(number(0), "base price; it sets the cut-off", unit="{currency}/{per}")
+    selling_cost: Decimal = key(
+        number(0),
+        "selling cost",
+        ZERO,
+        "{currency}/{per}",
+        is_quiet=lambda it: it.smelter and not it.smelter.is_of_some,
+    )
+    recovery: Union[Recovery, dict[str, Recovery]] = key(
+        by_rock(RECOVERY),
+        "recovery, or pairs [head grade, recovery] that rise",
+        of_processes="the recoveries",
+        in_python=ZERO,
+        unit="share",
+    )
+    tail_grade: ByRock = key(
+        by_rock(number(0)),
+        "constant tail, lost before the recovery",
+        ZERO,
+        "{grade}",
+        of_processes="the recoveries",
+        is_seldom=True,
+    )
+    prices: tuple[Decimal, ...] = key(
+        listed(number(0), "of prices, one a year, such as [8000, 8200]; the last one stays"),
+        "prices by year, in cash flow, NPV and schedules; the last one continues",
+        (),
+        "{currency}/{per}",
+        otherwise="`price`",
+        label="Prices by year",
+    )
+    price_per: Optional[str] = key(
+        choice(*GRAMS),
+        "unit of the metal in prices and selling costs",
+        None,
+        otherwise="`t`; `g` for grades in g/t",
+        label="Unit of price",
+        since="0.2.0",
+    )
+    smelter: Optional[Smelter] = key(
+        table(Smelter), "[smelter terms](#metalssmelter), in place of `selling_cost`", None, since="0.2.0"
+    )
 
     def sold_by(self, process: str) -> Metal:
         """The metal as a process sells it, by name: by the smelter terms, or at the selling cost if these do not apply to it."""
@@ -104,213 +187,80 @@ class Metal:
         return METAL_UNITS[self.unit]
 
 
-@dataclass(frozen=True)
+@dataclass(frozen=True, kw_only=True)
 class Process:
-    """One of several ways to treat ore: what it costs a tonne, the recovery of each metal that it recovers, the tonnes that it takes in a year,
-    the limits on its head grades, and the blocks that it accepts."""
+    """One of several ways to treat ore."""
 
-    name: str
-    cost: ByRock
-    recovery: dict[str, Union[Recovery, dict[str, Recovery]]]
-    capacity: float
-    feed: tuple[FeedGrade, ...] = ()
-    accepts: Accepts = Accepts()
+    name: str = key(word, "name of the process", label="Process")
+    cost: ByRock = key(by_rock(number(0)), "processing cost", unit="{currency}/t of mill feed")
+    recovery: dict[str, Union[Recovery, dict[str, Recovery]]] = key(
+        by_name(by_rock(RECOVERY)), "by metal, each as in `[[metals]]`", unit="share"
+    )
+    capacity: float = key(amount(1), "capacity", unit="t of mill feed/year")
+    feed: tuple[FeedGrade, ...] = key(
+        FEED, "limits of the feed in schedules, [below](#limits-of-the-feed)", (), since="0.2.0"
+    )
+    accepts: Accepts = key(ACCEPTS, ACCEPTED, Accepts(), otherwise="all", since="0.2.0")
+
+    def __post_init__(self) -> None:
+        object.__setattr__(self, "feed", tuple(replace(it, process=self.name) for it in self.feed))
 
 
-@dataclass(frozen=True)
+@dataclass(frozen=True, kw_only=True)
 class Economics:
-    """Costs a tonne, how many decimals of the currency are kept, and whether the cut-off moves with the price.
+    """Costs, and what of a block reaches the mill."""
 
-    mining_cost_per_bench     more a tonne for each level below the one that holds the reference
-    mining_cost_reference     an elevation in metres; None: the top of the model
-    mining_cost_by_elevation  pairs of an elevation in metres and what mining costs more there, a tonne; rising
-    mining_recovery           the share of a block's tonnes that comes to the mill, where it is ore
-    dilution                  tonnes of grade 0 that come with each of these
-    royalty                   a share of the revenue
-    royalty_per_tonne         of what comes to the mill
-    fixed_cost_per_year       in years and schedules alone
-    capex                   pairs of a year, from 1, and what is spent at its start, in years and schedules alone
-    mcaf                      a column of the table: mining cost adjustment factors, by which the mining cost of a block is multiplied
-    pcaf                      likewise processing cost adjustment factors, of the cost of each process a tonne of feed
-    """
-
-    currency: str
-    mining_cost: ByRock
-    mining_cost_per_bench: Decimal
-    mining_cost_reference: Optional[Decimal]
-    mining_cost_by_elevation: tuple[tuple[Decimal, Decimal], ...]
-    processing_cost: ByRock
-    decimals: int
-    cutoff: str
-    mining_recovery: ByCode = Decimal(1)
-    dilution: ByCode = Decimal(0)
-    royalty: Decimal = Decimal(0)
-    royalty_per_tonne: Decimal = Decimal(0)
-    fixed_cost_per_year: Decimal = Decimal(0)
-    capex: tuple[tuple[int, Decimal], ...] = ()
-    mcaf: Optional[str] = None
-    pcaf: Optional[str] = None
+    currency: str = key(line, "name of the currency", "USD")
+    mining_cost: ByRock = key(by_rock(number(0)), "mining cost", unit="{currency}/t mined")
+    mining_cost_per_bench: Decimal = key(
+        number(0),
+        "added for each bench below the reference",
+        ZERO,
+        "{currency}/t mined",
+        label="Mining cost added per bench",
+        is_quiet=lambda it: it.mining_cost_reference is None,
+    )
+    mining_cost_reference: Optional[Decimal] = key(
+        coordinate,
+        "elevation of the reference bench: its toe, or any below its crest; requires `mining_cost_per_bench`",
+        None,
+        "m",
+        otherwise="top bench of the model",
+        is_seldom=True,
+    )
+    mining_cost_by_elevation: tuple[tuple[Decimal, Decimal], ...] = key(
+        Kind(read_elevations, ELEVATIONS.schema), "pairs [elevation, added cost], in place of these two", ()
+    )
+    processing_cost: ByRock = key(
+        by_rock(number(0)), "processing cost", of_processes="the cost", in_python=ZERO, unit="{currency}/t of mill feed"
+    )
+    decimals: int = key(whole(0, 6), "decimals of the currency", 6, is_seldom=True)
+    cutoff: str = key(
+        choice(PER_REVENUE_FACTOR, AT_BASE_PRICE),
+        "when ore and waste are separated: at each revenue factor, or once at the base price",
+        PER_REVENUE_FACTOR,
+    )
+    mining_recovery: ByCode = key(by_code(SHARE), "share of the ore that reaches the mill", ONE, "share")
+    dilution: ByCode = key(by_code(number(0)), "tonnes at zero grade per tonne of ore", ZERO, "t per t of ore")
+    royalty: Decimal = key(number(0, below=1, example="0.03 for 3 %"), "royalty", ZERO, "share of gross revenue")
+    royalty_per_tonne: Decimal = key(number(0), "royalty per tonne", ZERO, "{currency}/t of mill feed")
+    fixed_cost_per_year: Decimal = key(
+        number(0),
+        "period cost: in cash flow, NPV and schedules, not in block values",
+        ZERO,
+        "{currency}/year",
+        label="Fixed cost",
+    )
+    capex: tuple[tuple[int, Decimal], ...] = key(
+        Kind(lambda *it: tuple(sorted(CAPEX.read(*it))), CAPEX.schema, f"year 1 to {MOST_YEARS:,}"),
+        "pairs [year, amount at its start]; likewise",
+        (),
+        "{currency}",
+    )
+    mcaf: Optional[str] = key(text, "column of mining cost adjustment factors", None, since="0.2.0")
+    pcaf: Optional[str] = key(text, "column of processing cost adjustment factors", None, since="0.2.0")
 
     @property
     def factor_columns(self) -> tuple[str, ...]:
         """The columns of cost adjustment factors, each once."""
         return tuple(dict.fromkeys(name for name in (self.mcaf, self.pcaf) if name))
-
-
-def read_economics(section: Section, has_processes: bool = False) -> Economics:
-    if has_processes and section.has("processing_cost"):
-        raise section.wrong("processing_cost", "give the cost of each of the [[processes]], not this")
-    money = Economics(
-        currency=section.text("currency", "USD"),
-        mining_cost=section.by_rock("mining_cost"),
-        mining_cost_per_bench=section.number("mining_cost_per_bench", Decimal(0), least=0),
-        mining_cost_reference=read_reference(section),
-        mining_cost_by_elevation=read_by_elevation(section),
-        processing_cost=Decimal(0) if has_processes else section.by_rock("processing_cost"),
-        decimals=section.whole("decimals", 6, 0, 6),
-        cutoff=section.choice("cutoff", (PER_REVENUE_FACTOR, AT_BASE_PRICE), PER_REVENUE_FACTOR),
-        mining_recovery=read_by_code(section, "mining_recovery", Decimal(1), most=1),
-        dilution=read_by_code(section, "dilution", Decimal(0)),
-        royalty=section.number("royalty", Decimal(0), least=0),
-        royalty_per_tonne=section.number("royalty_per_tonne", Decimal(0), least=0),
-        fixed_cost_per_year=section.number("fixed_cost_per_year", Decimal(0), least=0),
-        capex=read_capex(section),
-        mcaf=section.optional_text("mcaf"),
-        pcaf=section.optional_text("pcaf"),
-    )
-    section.finish()
-    if money.mining_cost_reference is not None and not section.has("mining_cost_per_bench"):
-        raise section.wrong("mining_cost_reference", "requires mining_cost_per_bench, which is missing")
-    if money.mining_cost_by_elevation and section.has("mining_cost_per_bench"):
-        raise section.wrong("mining_cost_by_elevation", "give it or mining_cost_per_bench, not both")
-    if money.royalty >= 1:
-        raise section.wrong("royalty", f"{money.royalty} is a share of the revenue, such as 0.03 for 3 %")
-    return money
-
-
-def read_reference(section: Section) -> Optional[Decimal]:
-    """The elevation from which on levels cost more, in metres; None where none is named."""
-    key = "mining_cost_reference"
-    return section.as_coordinate(key, section.get(key)) if section.has(key) else None
-
-
-def read_by_code(section: Section, key: str, default: Decimal, most: Optional[int] = None) -> ByCode:
-    """A number for all blocks, by rock, or as `{ domain = { CODE = number } }` by domain."""
-    if not section.has(key):
-        return default
-    value = section.get(key)
-    if not isinstance(value, dict) or not any(isinstance(it, dict) for it in value.values()):
-        return section.by_rock(key, most)
-    inner = section.section(key)
-    by_region = inner.by_rock("domain", most)
-    inner.finish()
-    assert isinstance(by_region, dict)
-    return ByDomain(by_region)
-
-
-def read_by_elevation(section: Section) -> tuple[tuple[Decimal, Decimal], ...]:
-    """Pairs of elevation and added cost, by rising elevation."""
-    if not section.has("mining_cost_by_elevation"):
-        return ()
-    pairs = sorted(section.pairs("mining_cost_by_elevation", "elevation, cost a tonne"))
-    if any(cost < 0 for _, cost in pairs):
-        raise section.wrong("mining_cost_by_elevation", "costs may not be negative")
-    if len({elevation for elevation, _ in pairs}) < len(pairs):
-        raise section.wrong("mining_cost_by_elevation", "an elevation occurs twice")
-    return tuple(pairs)
-
-
-def read_capex(section: Section) -> tuple[tuple[int, Decimal], ...]:
-    """Pairs of a year and an amount, by rising year."""
-    if not section.has("capex"):
-        return ()
-    pairs = sorted(section.pairs("capex", "year, amount"))
-    if any(year != int(year) or not 1 <= year <= MOST_YEARS or amount < 0 for year, amount in pairs):
-        raise section.wrong("capex", f"years are whole, from 1 to {MOST_YEARS:,}, and amounts may not be negative")
-    return tuple((int(year), amount) for year, amount in pairs)
-
-
-def read_metal(section: Section, processes: tuple[Process, ...] = ()) -> Metal:
-    for key in ("recovery", "tail_grade") if processes else ():
-        if section.has(key):
-            raise section.wrong(key, "give the recoveries of each of the [[processes]], not this")
-    unit = section.choice("unit", tuple(GRADE_UNITS), None)
-    metal = Metal(
-        name=section.text("name"),
-        column=section.text("column"),
-        unit=unit,
-        price=section.number("price", least=0),
-        selling_cost=section.number("selling_cost", Decimal(0), least=0),
-        recovery=Decimal(0) if processes else read_recovery(section, "recovery"),
-        tail_grade=section.by_rock("tail_grade") if section.has("tail_grade") else Decimal(0),
-        prices=section.amounts("prices", "of prices, one a year, such as [8000, 8200]; the last one stays"),
-        price_per=section.choice("price_per", tuple(GRAMS), None) if section.has("price_per") else None,
-        smelter=read_smelter(section.section("smelter"), unit) if section.has("smelter") else None,
-    )
-    section.finish()
-    metal = with_terms_of_all(metal, processes)
-    demand_one_sale(section, metal)
-    # A block without revenue at the price as given costs nothing to process.
-    if not metal.price and any(metal.prices):
-        raise section.wrong("price", "must be above 0: it sets the cut-off; yearly prices affect only the cash flow")
-    return metal
-
-
-def with_terms_of_all(metal: Metal, processes: tuple[Process, ...]) -> Metal:
-    """Returns the metal with smelter terms of all processes if they name each process that recovers it."""
-    recovering = sorted(it.name for it in processes if it.recovery.get(metal.name))
-    if metal.smelter is None or not metal.smelter.is_of_some or sorted(metal.smelter.processes) != recovering:
-        return metal
-    return replace(metal, smelter=replace(metal.smelter, processes=ALL))
-
-
-def demand_one_sale(section: Section, metal: Metal) -> None:
-    """Refuses a selling cost next to smelter terms that apply to all processes, and terms of some processes without one."""
-    if metal.smelter is None or metal.smelter.is_of_some == section.has("selling_cost"):
-        return
-    if metal.smelter.is_of_some:
-        raise section.wrong("selling_cost", "is missing: [metals.smelter] names processes, and the others sell at it")
-    why = "give it or [metals.smelter], not both: the smelter takes all of the metal, and its terms have all charges"
-    raise section.wrong("selling_cost", why)
-
-
-def read_process(section: Section) -> Process:
-    name = section.text("name")
-    if not re.fullmatch(r"\w[\w-]*", name):
-        raise section.wrong("name", f'"{name}" is not one word of letters, digits, _ and -, as columns are named by it')
-    by_metal = section.section("recovery")
-    process = Process(
-        name=name,
-        cost=section.by_rock("cost"),
-        recovery={metal: read_recovery(by_metal, metal) for metal in by_metal.data},
-        capacity=float(section.number("capacity", least=1)),
-        feed=read_feed(section.section("feed"), name) if section.has("feed") else (),
-        accepts=read_accepts(section.section("accepts")) if section.has("accepts") else Accepts(),
-    )
-    section.finish()
-    return process
-
-
-def read_recovery(section: Section, key: str) -> Union[Recovery, dict[str, Recovery]]:
-    """A share, or pairs of grade and share; one, or by rock."""
-    value = section.get(key)
-    if isinstance(value, dict):
-        return {rock: as_recovery(section, key, of_rock) for rock, of_rock in value.items()}
-    return as_recovery(section, key, value)
-
-
-def as_recovery(section: Section, key: str, value: Any) -> Recovery:
-    if not isinstance(value, list):
-        recovery = section.as_number(key, value)
-        if not 0 <= recovery <= 1:
-            raise section.wrong(key, "must lie from 0 to 1")
-        return recovery
-    points = tuple(sorted(section.as_pairs(key, value, "grade, recovery")))
-    grades, recoveries = zip(*points)
-    if grades[0] < 0 or min(recoveries) < 0 or max(recoveries) > 1:
-        raise section.wrong(key, "grades may not be negative, and recoveries must lie from 0 to 1")
-    if len(set(grades)) < len(grades):
-        raise section.wrong(key, "a grade occurs twice")
-    if list(recoveries) != sorted(recoveries):
-        raise section.wrong(key, "falls as the grade rises")
-    return Curve(points)

@@ -4,11 +4,36 @@ from __future__ import annotations
 
 from dataclasses import dataclass
 from decimal import Decimal
+from typing import Any
 
+from .keys import key
+from .kinds import Kind, coordinate, number, numbers
 from .toml_section import Section
 
 KINDS = ("ore", "waste")
 STEEPEST = Decimal("0.5")
+ZERO = Decimal(0)
+
+
+def read_kinds(section: Section, name: str, value: Any) -> dict[str, Decimal]:
+    """A number for ore and waste: one, or `{ ore = .., waste = .. }`."""
+    one = number(0).read
+    if not isinstance(value, dict):
+        cost: Decimal = one(section, name, value)
+        return dict.fromkeys(KINDS, cost)
+    inner = section.section(name)
+    found: dict[str, Decimal] = {kind: one(inner, kind, inner.get(kind)) for kind in KINDS}
+    inner.finish()
+    return found
+
+
+OF_KIND = {
+    "type": "object",
+    "properties": dict.fromkeys(KINDS, number(0).schema),
+    "required": [*KINDS],
+    "additionalProperties": False,
+}
+BY_KIND = Kind(read_kinds, {"anyOf": [number(0).schema, OF_KIND]})
 
 
 @dataclass(frozen=True)
@@ -21,41 +46,25 @@ class Road:
 
 @dataclass(frozen=True)
 class Haulage:
-    """Roads to one exit of the pit.
+    """Roads to one exit of the pit."""
 
-    pit_exit      the planner's x, y, z in metres of the place where the road leaves the pit
-    ramp_gradient metres that a ramp rises for each metre in plan
-    ore       from the exit to the mill; `waste` to the dump
-    """
+    pit_exit: tuple[Decimal, Decimal, Decimal] = key(
+        numbers(3, coordinate, "numbers, x, y and z"), "x, y and z of the place where the road leaves the pit", unit="m"
+    )
+    ramp_gradient: Decimal = key(number(above=0, most=STEEPEST, example="0.1 for 10 %"), "rise per metre in plan")
+    cost: dict[str, Decimal] = key(
+        BY_KIND, "cost of haulage, one way; or `{ ore = .., waste = .. }`", unit="{currency}/t and km"
+    )
+    ex_pit_distance: dict[str, Decimal] = key(
+        BY_KIND, "road beyond the exit; or `{ ore = .., waste = .. }`", dict.fromkeys(KINDS, ZERO), "m", otherwise="0"
+    )
 
-    pit_exit: tuple[Decimal, Decimal, Decimal]
-    ramp_gradient: Decimal
-    ore: Road
-    waste: Road
+    @property
+    def ore(self) -> Road:
+        """From the exit to the mill."""
+        return Road(self.cost["ore"], self.ex_pit_distance["ore"])
 
-
-def read_haulage(section: Section) -> Haulage:
-    """Raises PlanError, with the key, where one is missing or wrong."""
-    place = section.get("pit_exit")
-    if not isinstance(place, list) or len(place) != 3:
-        raise section.wrong("pit_exit", "must be a list of 3 numbers, x, y and z")
-    x, y, z = (section.as_coordinate("pit_exit", item) for item in place)
-    costs, beyond = (of_kinds(section, key, required) for key, required in (("cost", True), ("ex_pit_distance", False)))
-    gradient = section.number("ramp_gradient")
-    section.finish()
-    if not 0 < gradient <= STEEPEST:
-        raise section.wrong("ramp_gradient", f"found {gradient}, expected above 0 and at most {STEEPEST} (0.1 = 10 %)")
-    ore, waste = (Road(costs[kind], beyond[kind]) for kind in KINDS)
-    return Haulage((x, y, z), gradient, ore, waste)
-
-
-def of_kinds(section: Section, key: str, required: bool) -> dict[str, Decimal]:
-    """A number for ore and waste: one, or `{ ore = .., waste = .. }`; 0 where it is not required and not there."""
-    if not required and not section.has(key):
-        return dict.fromkeys(KINDS, Decimal(0))
-    if not isinstance(section.get(key), dict):
-        return dict.fromkeys(KINDS, section.number(key, least=0))
-    inner = section.section(key)
-    found = {kind: inner.number(kind, least=0) for kind in KINDS}
-    inner.finish()
-    return found
+    @property
+    def waste(self) -> Road:
+        """From the exit to the dump."""
+        return Road(self.cost["waste"], self.ex_pit_distance["waste"])

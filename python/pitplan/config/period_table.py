@@ -54,7 +54,7 @@ def entry_of(fields: dict[Any, Any], path: Path, row: int) -> dict[str, Any]:
     for column, text in fields.items():
         if not text.strip():
             continue
-        value, place = number_of(text.strip(), f"{path} row {row} column {column}"), found
+        value, place = (number_of(text.strip(), f"{path} row {row} column {column}"), found)
         *keys, last = keys_of(column.strip())
         for key in keys:
             place = place.setdefault(key, {})

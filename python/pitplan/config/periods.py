@@ -10,15 +10,16 @@ from dataclasses import dataclass, field
 from decimal import Decimal
 from functools import cached_property
 from pathlib import Path
-from typing import Optional, TypeVar
+from typing import Any, Optional, TypeVar
 
 import numpy as np
 from numpy.typing import NDArray
 
-from .codes import CODES
 from .economics import MOST_YEARS
-from .feed_grades import FeedGrade, read_feed
-from .stockpiles import PlaceLimit, read_limits
+from .feed_grades import FEED_BY_PROCESS, FeedGrade
+from .keys import key
+from .kinds import Kind, amount, by_name, number, whole
+from .stockpiles import LIMITS, PlaceLimit
 from .toml_section import Section
 
 Value = TypeVar("Value")
@@ -28,51 +29,80 @@ MONTHS = 12
 PARTS = (1, 2, 3, 4, 6)
 
 
+def read_months(section: Section, name: str, value: Any) -> int:
+    """The months of a period: a part of a year, or whole years."""
+    months: int = MONTHS_OF_PERIOD.read(section, name, value)
+    if months % MONTHS and months not in PARTS:
+        parts = ", ".join(map(str, PARTS))
+        raise section.wrong(name, f"found {months}, expected {parts}, 12 or a multiple of 12")
+    return months
+
+
+MONTHS_OF_PERIOD = whole(1, MOST_YEARS * MONTHS)
+
+
 @dataclass(frozen=True)
 class Period:
-    """An entry of `[[periods]]`. What it leaves out is as in the other sections.
+    """An entry of `[[periods]]`. What it leaves out is as in the other sections."""
 
-    Attributes
-    ----------
-    years : int
-        How many years it lasts.
-    period_months : int
-        The length of a period in months: a part of a year, or whole years.
-    mining_capacity, processing_capacity : float, optional
-        Tonnes per year; the latter of a project that names no processes.
-    capacity : dict of str to float
-        Tonnes per year of processes, by name.
-    minimum : dict of str to float
-        Per year, by the names of `[schedule.minimum]`.
-    feed : tuple of FeedGrade
-        Limits on head grades; a side that is None is as in the other sections.
-    stockpiles, dumps : tuple of PlaceLimit
-        Tonnes that lie on stockpiles at the end of each of its periods, and tonnes per year that dumps take.
-    prices : dict of str to Decimal
-        By metal, in the unit of its `price`.
-    mining_cost_factor, processing_cost_factor, selling_cost_factor : Decimal, optional
-        By which the mining cost of what is mined in its periods, the processing cost of what is processed in them, and the selling cost of what it
-        recovers are multiplied.
-    fixed_cost_per_year : Decimal, optional
-    capex : Decimal
-        Spent at the start of its first period.
-    """
+    years: int = key(
+        whole(1, MOST_YEARS),
+        f"how many years the entry lasts, {MOST_YEARS:,} in all",
+        0,
+        "years",
+        otherwise="those of one period",
+    )
+    period_months: int = key(
+        Kind(
+            read_months, {"anyOf": [{"enum": [*PARTS]}, {"type": "integer", "multipleOf": MONTHS, "minimum": MONTHS}]}
+        ),
+        "length of a period: 1, 2, 3, 4, 6, 12 or a multiple of 12",
+        MONTHS,
+        "months",
+        label="Length of a period",
+        is_quiet=True,
+        is_seldom=True,
+    )
+    mining_capacity: Optional[float] = key(
+        amount(), "mining capacity; requires that of `[shells]`", None, "t mined/year", otherwise=""
+    )
+    processing_capacity: Optional[float] = key(
+        amount(), "processing capacity, without `[[processes]]`", None, "t of mill feed/year", otherwise=""
+    )
+    capacity: dict[str, float] = key(
+        by_name(amount()), "the same by process: `{ mill = 6e6 }`", {}, "t of mill feed/year", otherwise=""
+    )
+    minimum: dict[str, float] = key(
+        by_name(amount()), "with the names of `[schedule] minimum`; schedules only", {}, "per year", otherwise=""
+    )
+    feed: tuple[FeedGrade, ...] = key(
+        FEED_BY_PROCESS, "[limits of the feed](#limits-of-the-feed); with `[[processes]]` by process", (), otherwise=""
+    )
+    stockpiles: tuple[PlaceLimit, ...] = key(
+        LIMITS, "`{ low_grade = { min = .., max = .. } }`", (), "t of feed at the end", otherwise=""
+    )
+    dumps: tuple[PlaceLimit, ...] = key(
+        LIMITS, "`{ north = { min = .., max = .. } }`", (), "t of waste/year", otherwise=""
+    )
+    prices: dict[str, Decimal] = key(
+        by_name(number(0)), "by metal, in the unit of its price", {}, "{currency}/{per}", label="Price", otherwise=""
+    )
+    mining_cost_factor: Optional[Decimal] = key(
+        number(0), "factor of the mining cost", None, "times the cost", otherwise="1", is_seldom=True
+    )
+    processing_cost_factor: Optional[Decimal] = key(
+        number(0), "factor of the processing cost", None, "times the cost", otherwise="1", is_seldom=True
+    )
+    selling_cost_factor: Optional[Decimal] = key(
+        number(0), "factor of the selling cost", None, "times the cost", otherwise="1", is_seldom=True
+    )
+    fixed_cost_per_year: Optional[Decimal] = key(
+        number(0), "while the mine runs", None, "{currency}/year", label="Fixed cost", otherwise=""
+    )
+    capex: Decimal = key(number(0), "at the start of its first period", Decimal(0), "{currency}", is_quiet=True)
 
-    years: int = 1
-    period_months: int = MONTHS
-    mining_capacity: Optional[float] = None
-    processing_capacity: Optional[float] = None
-    capacity: dict[str, float] = field(default_factory=dict)
-    minimum: dict[str, float] = field(default_factory=dict)
-    feed: tuple[FeedGrade, ...] = ()
-    stockpiles: tuple[PlaceLimit, ...] = ()
-    dumps: tuple[PlaceLimit, ...] = ()
-    prices: dict[str, Decimal] = field(default_factory=dict)
-    mining_cost_factor: Optional[Decimal] = None
-    processing_cost_factor: Optional[Decimal] = None
-    selling_cost_factor: Optional[Decimal] = None
-    fixed_cost_per_year: Optional[Decimal] = None
-    capex: Decimal = Decimal(0)
+    def __post_init__(self) -> None:
+        object.__setattr__(self, "years", self.years or -(-self.period_months // MONTHS))
 
     @property
     def count(self) -> int:
@@ -120,18 +150,18 @@ class Calendar:
         return self.periods[-1].length if self.periods else 1.0
 
     def lengths(self, count: int) -> NDArray[np.float64]:
-        """Returns the length of each period in years, shape (count,)."""
+        """Returns the length of each period in years, shape (count)."""
         if not self.periods:
             return np.ones(count)
         found = np.array([it.length for it in self.listed])
         return np.asarray(found[np.minimum(np.arange(count), len(found) - 1)])
 
     def ends(self, count: int) -> NDArray[np.float64]:
-        """Returns the end of each period in years, shape (count,)."""
+        """Returns the end of each period in years, shape (count)."""
         return np.asarray(np.round(np.cumsum(self.lengths(count)) * MONTHS) / MONTHS)
 
     def starts(self, count: int) -> NDArray[np.float64]:
-        """Returns the start of each period in years, shape (count,)."""
+        """Returns the start of each period in years, shape (count)."""
         return np.concatenate([[0.0], self.ends(count)[:-1]])[:count]
 
     def time(self, place: float) -> float:
@@ -171,84 +201,3 @@ class Calendar:
             found += [(number, period.capex)] if period.capex else []
             number += period.count
         return tuple(found)
-
-
-def read_periods(sections: list[Section]) -> Calendar:
-    found = Calendar(tuple(read_period(section) for section in sections))
-    years = sum(it.years for it in found.periods)
-    if years > MOST_YEARS:
-        raise sections[-1].wrong("years", f"found {years:,} in all periods, expected {MOST_YEARS:,} at most")
-    if len(found.listed) > MOST_YEARS:
-        raise sections[-1].wrong(
-            "period_months", f"found {len(found.listed):,} periods in all, expected {MOST_YEARS:,} at most"
-        )
-    last, section = found.periods[-1], sections[-1]
-    closed = [name for name in ("mining_capacity", "processing_capacity") if getattr(last, name) == 0]
-    closed += [f"capacity {name}" for name, amount in last.capacity.items() if amount == 0]
-    if closed:
-        raise section.wrong(
-            closed[0], "found 0 in the last period, which continues to the end: expected a capacity above 0"
-        )
-    return found
-
-
-def read_period(section: Section) -> Period:
-    def tonnes(key: str) -> Optional[float]:
-        return float(section.number(key, least=0)) if section.has(key) else None
-
-    def money(key: str) -> Optional[Decimal]:
-        return section.number(key, least=0) if section.has(key) else None
-
-    def by_name(key: str) -> dict[str, float]:
-        inner = section.section(key, optional=True)
-        return {name: float(inner.number(name, least=0)) for name in inner.data}
-
-    prices = section.section("prices", optional=True)
-    years, months = read_length(section)
-    period = Period(
-        years=years,
-        period_months=months,
-        mining_capacity=tonnes("mining_capacity"),
-        processing_capacity=tonnes("processing_capacity"),
-        capacity=by_name("capacity"),
-        minimum=by_name("minimum"),
-        feed=read_feeds(section.section("feed")) if section.has("feed") else (),
-        stockpiles=read_limits(section.section("stockpiles")) if section.has("stockpiles") else (),
-        dumps=read_limits(section.section("dumps")) if section.has("dumps") else (),
-        prices={name: prices.number(name, least=0) for name in prices.data},
-        mining_cost_factor=money("mining_cost_factor"),
-        processing_cost_factor=money("processing_cost_factor"),
-        selling_cost_factor=money("selling_cost_factor"),
-        fixed_cost_per_year=money("fixed_cost_per_year"),
-        capex=section.number("capex", Decimal(0), least=0),
-    )
-    section.finish()
-    return period
-
-
-def read_feeds(section: Section) -> tuple[FeedGrade, ...]:
-    """Reads limits on head grades by column, or by process and column."""
-    found: list[FeedGrade] = []
-    for name, value in section.data.items():
-        is_process = (
-            name not in CODES and isinstance(value, dict) and all(isinstance(it, dict) for it in value.values())
-        )
-        is_process = is_process and bool(value)
-        inner = section.section(name) if is_process else Section(section.file, section.name, {name: value})
-        found += read_feed(inner, name if is_process else "")
-        section.get(name)
-    section.finish()
-    return tuple(found)
-
-
-def read_length(section: Section) -> tuple[int, int]:
-    """Returns the years of an entry, by default those of one period, and the months of each period."""
-    months = section.whole("period_months", MONTHS, 1, MOST_YEARS * MONTHS)
-    if months % MONTHS and months not in PARTS:
-        parts = ", ".join(map(str, PARTS))
-        raise section.wrong("period_months", f"found {months}, expected {parts}, 12 or a multiple of 12")
-    years = section.whole("years", -(-months // MONTHS), 1, MOST_YEARS)
-    if years * MONTHS % months:
-        whole = months // MONTHS
-        raise section.wrong("years", f"found {years}, expected a multiple of {whole}, as each period has {whole} years")
-    return years, months

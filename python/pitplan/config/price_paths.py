@@ -2,10 +2,13 @@
 
 from __future__ import annotations
 
-from dataclasses import dataclass, field
+from dataclasses import dataclass
 from decimal import Decimal
-from typing import Any
+from pathlib import Path
+from typing import Any, Mapping
 
+from .keys import key, read, schema, write
+from .kinds import Kind, number, whole
 from .toml_section import Section
 
 COUNT, MOST_PATHS, MOST_SEED = 1000, 10_000, 2**31 - 1
@@ -13,60 +16,49 @@ COUNT, MOST_PATHS, MOST_SEED = 1000, 10_000, 2**31 - 1
 
 @dataclass(frozen=True)
 class PricePath:
-    """The price of a metal as the one-factor model of Schwartz has it: its logarithm is pulled to that of a long-term price.
+    """The price of a metal as the one-factor model of Schwartz has it: its logarithm is pulled to that of a long-term price."""
 
-    long_term   the median of the price in the long run, in the unit of the metal's `price`, at which it starts
-    speed       of reversion, per year: the log of price and long-term price move together by this share of their distance
-    volatility  of the logarithm of the price, per square root of a year
-    """
+    long_term: Decimal = key(
+        number(above=0, most=10**12),
+        "median of the price in the long run, at which it starts",
+        unit="{currency}/{per}",
+    )
+    speed: Decimal = key(
+        number(above=0, most=100),
+        "speed of reversion: the log of the price moves by this share of its distance",
+        unit="per year",
+    )
+    volatility: Decimal = key(
+        number(0, 10, example="0.25"), "volatility of the log of the price", unit="per square root of a year"
+    )
 
-    long_term: Decimal
-    speed: Decimal
-    volatility: Decimal
+
+def read_paths(section: Section, name: str, _: Any) -> dict[str, PricePath]:
+    inner, metals = section.section(name), section.source.metals
+    for metal in inner.data:
+        if metal not in metals:
+            raise section.wrong(name, f"found {metal}, expected one of the [[metals]]: {', '.join(metals)}")
+    if not inner.data:
+        raise section.wrong(name, "names no metal: expected such as [price_paths.metals.copper]")
+    return {metal: read(PricePath, inner.section(metal)) for metal in inner.data}
+
+
+def write_paths(paths: Mapping[str, PricePath], folder: Path) -> dict[str, Any]:
+    return {metal: write(it, folder) for metal, it in paths.items()}
+
+
+PATHS = Kind(
+    read_paths,
+    {"type": "object", "additionalProperties": schema(PricePath), "minProperties": 1},
+    write=write_paths,
+    record=PricePath,
+)
 
 
 @dataclass(frozen=True)
 class PricePaths:
-    """Paths of the prices of some metals, each independent of the others.
+    """Paths of the prices of some metals, each independent of the others; the other metals keep their price."""
 
-    metals  by name; the other metals keep their price
-    count   how many paths
-    seed    of the random numbers: the same seed gives the same paths
-    """
-
-    metals: dict[str, PricePath] = field(default_factory=dict)
-    count: int = COUNT
-    seed: int = 1
-
-    @property
-    def as_toml(self) -> dict[str, Any]:
-        """The section, by its keys."""
-        return {"count": self.count, "seed": self.seed, "metals": {name: vars(it) for name, it in self.metals.items()}}
-
-
-def read_price_paths(section: Section, metals: tuple[str, ...]) -> PricePaths:
-    """Reads the section; `metals` are the names of the project's. Raises PlanError, with the key, if one is wrong."""
-    some = section.section("metals")
-    paths = PricePaths(
-        {name: read_path(some.section(name)) for name in some.data},
-        section.whole("count", COUNT, 2, MOST_PATHS),
-        section.whole("seed", 1, 0, MOST_SEED),
-    )
-    section.finish()
-    for name in paths.metals:
-        if name not in metals:
-            raise section.wrong("metals", f"found {name}, expected one of the [[metals]]: {', '.join(metals)}")
-    if not paths.metals:
-        raise section.wrong("metals", "names no metal: expected such as [price_paths.metals.copper]")
-    return paths
-
-
-def read_path(section: Section) -> PricePath:
-    found = PricePath(*(section.number(name) for name in ("long_term", "speed", "volatility")))
-    section.finish()
-    for name, value, most in (("long_term", found.long_term, 10**12), ("speed", found.speed, 100)):
-        if not 0 < value <= most:
-            raise section.wrong(name, f"found {value}, expected above 0 and at most {most:,}")
-    if not 0 <= found.volatility <= 10:
-        raise section.wrong("volatility", f"found {found.volatility}, expected from 0 to 10, such as 0.25")
-    return found
+    count: int = key(whole(2, MOST_PATHS), "number of paths", COUNT)
+    seed: int = key(whole(0, MOST_SEED), "seed of the random numbers; the same seed gives the same paths", 1)
+    metals: dict[str, PricePath] = key(PATHS, "by metal its price path, below", in_python={})

@@ -6,63 +6,106 @@ import os
 from dataclasses import dataclass, replace
 from decimal import Decimal
 from pathlib import Path
-from typing import Any, Iterable, Mapping, Optional, Union
+from typing import Any, Iterable, Iterator, Mapping, Optional, Union
 
+from pitplan.core.revenue_factors import BASE_PRICE
 from pitplan.errors import PlanError
 
-from . import period_table, toml_text
-from .agreement import demand_agreement
-from .cash_flow import CashFlowRules, read_cash_flow
-from .classes import ClassRules, read_classes
-from .constraints import ConstraintRules, read_constraints
-from .dumps import Dump, read_dumps
-from .economics import Economics, Metal, Process, read_economics, read_metal, read_process
+from . import keys, kinds, period_table, toml_text
+from .agreement import demand_agreement, demand_calendar
+from .cash_flow import CashFlowRules
+from .classes import CLASSES, ClassRules
+from .constraints import ConstraintRules
+from .dumps import Dump
+from .economics import Economics, Metal, Process
 from .feed_grades import FeedGrade
-from .figures import FigureRules, read_figures
-from .haulage import Haulage, read_haulage
-from .overrides import overridden
-from .periods import Calendar, read_periods
-from .price_paths import PricePaths, read_price_paths
-from .pushbacks import PushbackRules, read_pushbacks
+from .figures import FigureRules
+from .haulage import Haulage
+from .keys import Key, key, tables
+from .kinds import Kind
+from .overrides import LISTS, overridden
+from .periods import Calendar, Period
+from .price_paths import PricePaths
+from .pushbacks import PushbackRules
 from .python_values import as_toml
-from .scenarios import Scenarios, read_scenarios
-from .schedule import ScheduleRules, read_schedule
-from .sensitivity import SensitivityRules, read_sensitivity
-from .shells import ShellRules, read_shells
-from .slopes import Slopes, read_slopes
-from .table import GridRules, TableColumns, read_grid, read_table
+from .scenarios import Scenarios
+from .schedule import ScheduleRules
+from .sensitivity import SensitivityRules
+from .shells import ShellRules
+from .slopes import Slopes
+from .smelter import ALL
+from .table import GridRules, TableColumns
 from .toml_section import Section
+from .toml_text import Source
+
+# The folder of results if the project names none.
+OUTPUT = "plan"
 
 
 @dataclass(frozen=True)
+class Output:
+    """`[output]`."""
+
+    folder: str = key(kinds.text, "output folder of commands without `--out`", OUTPUT)
+
+
+def read_output(section: Section, name: str, _: Any) -> Path:
+    return section.source.folder / keys.read(Output, section.section(name)).folder
+
+
+def write_shells(shells: ShellRules, folder: Path) -> dict[str, Any]:
+    """The base price, 1.0, is left out if it was added: a reader adds it."""
+    left = {BASE_PRICE} if shells.base_price_added else set()
+    given = tuple(factor for factor in shells.revenue_factors if factor not in left)
+    return keys.write(replace(shells, revenue_factors=given), folder)
+
+
+OF_OUTPUT = Kind(
+    read_output, keys.schema(Output), write=lambda path, folder: {"folder": kinds.place(path, folder)}, record=Output
+)
+OF_SHELLS = replace(keys.table(ShellRules), write=write_shells)
+
+
+@dataclass(frozen=True, kw_only=True)
 class Project:
     """All that `project.toml` says.
 
-    solver  what it does not: which finds the pits, "library" or "program"; None: the library, where there is one
+    Attributes
+    ----------
+    path : Path
+        The file.
+    folder : Path
+        Of the results.
+    solver : str, optional
+        What the file does not say: which finds the pits, "library" or "program"; None: the library if there is one.
     """
 
     path: Path
-    title: str
-    table: TableColumns
-    grid: GridRules
-    economics: Economics
-    metals: tuple[Metal, ...]
-    slopes: Slopes
-    shells: ShellRules
-    folder: Path
-    scenarios: Optional[Scenarios] = None
-    constraints: Optional[ConstraintRules] = None
-    pushbacks: Optional[PushbackRules] = None
-    schedule: Optional[ScheduleRules] = None
-    processes: tuple[Process, ...] = ()
-    sensitivity: Optional[SensitivityRules] = None
-    figures: Optional[FigureRules] = None
-    haulage: Optional[Haulage] = None
+    title: str = key(kinds.line, "one line of plain text, for reports", "", otherwise="the folder's name")
+    folder: Path = key(OF_OUTPUT, "results", Path(OUTPUT), name="output")
+    table: TableColumns = key(keys.table(TableColumns), "the block model", in_python=None)
+    grid: GridRules = key(keys.table(GridRules), "the grid of its blocks", GridRules())
+    economics: Economics = key(keys.table(Economics), "costs and cut-off", in_python=None)
+    classes: ClassRules = key(CLASSES, "treatment of resource classes", ClassRules(), is_quiet=True, since="0.2.0")
+    metals: tuple[Metal, ...] = key(tables(Metal), "metals that are sold", in_python=())
+    processes: tuple[Process, ...] = key(tables(Process), "processes", ())
+    slopes: Slopes = key(keys.table(Slopes), "slopes by domain", in_python=None)
+    shells: ShellRules = key(OF_SHELLS, "nested shells and discounting", in_python=None)
+    haulage: Optional[Haulage] = key(keys.table(Haulage), "haulage to one exit", None, since="0.2.0")
+    constraints: Optional[ConstraintRules] = key(
+        keys.table(ConstraintRules), "what must be mined, and what may not", None
+    )
+    pushbacks: Optional[PushbackRules] = key(keys.table(PushbackRules), "pushbacks", None)
+    schedule: Optional[ScheduleRules] = key(keys.table(ScheduleRules), "limits of schedules", None)
+    dumps: tuple[Dump, ...] = key(tables(Dump), "waste dumps", (), since="0.2.0")
+    cash_flow: CashFlowRules = key(
+        keys.table(CashFlowRules), "taxes and rates of the cash flow", CashFlowRules(), is_quiet=True, since="0.2.0"
+    )
+    price_paths: Optional[PricePaths] = key(keys.table(PricePaths), "mean-reverting prices", None, since="0.2.0")
+    sensitivity: Optional[SensitivityRules] = key(keys.table(SensitivityRules), "parameters that vary", None)
+    scenarios: Optional[Scenarios] = key(keys.table(Scenarios), "simulated models and price decks", None)
+    figures: Optional[FigureRules] = key(keys.table(FigureRules), "what plans and sections show", None)
     solver: Optional[str] = None
-    classes: ClassRules = ClassRules()
-    cash_flow: CashFlowRules = CashFlowRules()
-    dumps: tuple[Dump, ...] = ()
-    price_paths: Optional[PricePaths] = None
 
     @property
     def by_process(self) -> tuple[Project, ...]:
@@ -187,6 +230,42 @@ class Project:
         )
 
 
+PERIODS = Key(
+    Kind(kinds.path_of, {"anyOf": [kinds.TEXT, {"type": "array", "items": keys.schema(Period)}]}, record=Period),
+    "a [table of periods](#periods-in-a-table), in place of `[[periods]]`",
+    None,
+    since="0.2.0",
+)
+# The sections and keys at the top of a file.
+SECTIONS: Mapping[str, Key] = {**keys.keys_of(Project), "periods": replace(PERIODS, name="periods", label="Periods")}
+
+
+def record_at(path: str) -> type:
+    """The record of a section by its path, such as `schedule.stockpiles`."""
+    first, *others = path.split(".")
+    record = SECTIONS[first].kind.record
+    for name in others:
+        record = keys.keys_of(record)[name].kind.record if record else None
+    assert record is not None, path
+    return record
+
+
+def schema() -> dict[str, Any]:
+    """The JSON Schema of a project.toml, by which editors complete and check keys."""
+    found = keys.schema(Project)
+    found["properties"]["periods"] = {**PERIODS.kind.schema, "description": PERIODS.meaning}
+    found["required"] = [name for name in found["required"] if name != "title"]
+    return {"$schema": "http://json-schema.org/draft-07/schema#", "title": "A project of pitplan", **found}
+
+
+def settable() -> Iterator[str]:
+    """Yields the paths of keys that `--set` takes; entries of lists by their first number."""
+    for name, it in SECTIONS.items():
+        held = f"{name}.1" if name in LISTS else name
+        record = it.kind.record
+        yield from (f"{held}.{key}" for key in keys.keys_of(record)) if record else (name,)
+
+
 def load(path: Union[str, Path], original: Optional[Path] = None, overrides: Iterable[str] = ()) -> Project:
     """Reads a project.
 
@@ -205,8 +284,11 @@ def load(path: Union[str, Path], original: Optional[Path] = None, overrides: Ite
         If something is missing or wrong, with the file, the section and the key.
     """
     path, overrides = Path(path), list(overrides)
-    data = overridden(toml_text.read(path), overrides)
-    return of_data(data, original or path, f"{path} with --set {' '.join(overrides)}" if overrides else None)
+    text = toml_text.text_of(path)
+    data = toml_text.parsed(text, str(path))
+    if not overrides:
+        return of_data(data, original or path, text=text)
+    return of_data(overridden(data, overrides), original or path, f"{path} with --set {' '.join(overrides)}")
 
 
 def inputs_beside(folder: Path) -> tuple[Path, ...]:
@@ -239,57 +321,44 @@ def validated(project: Project) -> Project:
     return replace(found, shells=shells, folder=project.folder, solver=project.solver)
 
 
-def of_data(data: dict[str, Any], path: Path, source: Optional[str] = None) -> Project:
-    """The project of a TOML file's sections. Paths in it are relative to that of the file; errors name `source`, by default the file."""
-    top = Section(source or str(path), "", data)
-    output = top.section("output", optional=True)
-    processes = tuple(read_process(section) for section in top.sections("processes")) if top.has("processes") else ()
-    project = Project(
-        path=path,
-        title=read_title(top, path.parent.name or "plan"),
-        table=read_table(top.section("table"), path.parent),
-        grid=read_grid(top.section("grid", optional=True)),
-        economics=read_economics(top.section("economics"), bool(processes)),
-        metals=tuple(read_metal(section, processes) for section in top.sections("metals")),
-        slopes=read_slopes(top.section("slopes")),
-        shells=replace(read_shells(top.section("shells"), processes), calendar=read_calendar(top, path.parent)),
-        folder=path.parent / output.text("folder", "plan"),
-        scenarios=read_scenarios(top.section("scenarios"), path.parent) if top.has("scenarios") else None,
-        constraints=read_constraints(top.section("constraints"), path.parent) if top.has("constraints") else None,
-        pushbacks=read_pushbacks(top.section("pushbacks")) if top.has("pushbacks") else None,
-        schedule=read_schedule(top.section("schedule")) if top.has("schedule") else None,
-        processes=processes,
-        haulage=read_haulage(top.section("haulage")) if top.has("haulage") else None,
-        classes=read_classes(top.section("classes", optional=True)),
-        cash_flow=read_cash_flow(top.section("cash_flow", optional=True)),
-        dumps=read_dumps(top.sections("dumps")) if top.has("dumps") else (),
-    )
-    metals = tuple(metal.name for metal in project.metals)
-    if top.has("sensitivity"):
-        project = replace(project, sensitivity=read_sensitivity(top.section("sensitivity"), metals))
-    if top.has("figures"):
-        project = replace(project, figures=read_figures(top.section("figures"), metals))
-    if top.has("price_paths"):
-        project = replace(project, price_paths=read_price_paths(top.section("price_paths"), metals))
-    output.finish()
-    top.finish()
-    demand_agreement(project)
+def of_data(data: dict[str, Any], path: Path, source: Optional[str] = None, text: str = "") -> Project:
+    """The project of a TOML file's sections. Paths in it are relative to that of the file.
+
+    Errors name `source`, by default the file, and the lines of its text, if it is given.
+    """
+    of = Source(source or str(path), data, path.parent, text)
+    top = Section(of, "", data)
+    calendar = read_calendar(top)
+    project = keys.read(Project, top, path=path, folder=path.parent / OUTPUT, title=path.parent.name or "plan")
+    shells, processes = project.shells, project.processes
+    if processes:
+        capacities, names = tuple(it.capacity for it in processes), tuple(it.name for it in processes)
+        shells = replace(shells, processing_capacity=sum(capacities), per_process=capacities, names=names)
+    given = shells.revenue_factors
+    factors = tuple(sorted({*given, BASE_PRICE}))
+    shells = replace(shells, revenue_factors=factors, base_price_added=BASE_PRICE not in given, calendar=calendar)
+    metals = tuple(with_terms_of_all(metal, processes) for metal in project.metals)
+    project = replace(project, shells=shells, metals=metals)
+    demand_agreement(project, of)
     return project
 
 
-def read_calendar(top: Section, folder: Path) -> Calendar:
+def read_calendar(top: Section) -> Calendar:
     """Reads `[[periods]]`, or the table that `periods` names."""
     if not top.has("periods"):
         return Calendar()
-    if not isinstance(top.get("periods"), str):
-        return read_periods(top.sections("periods"))
-    file = top.input("periods", folder)
-    return replace(read_periods(period_table.sections_of(file)), file=file)
+    path = None
+    if isinstance(top.get("periods"), str):
+        path = kinds.path_of(top, "periods", top.get("periods"))
+    sections = top.sections("periods") if path is None else period_table.sections_of(path)
+    periods = tuple(keys.read(Period, it) for it in sections)
+    demand_calendar(periods, sections)
+    return Calendar(periods, path)
 
 
-def read_title(top: Section, default: str) -> str:
-    """A title of one line, since the program's model has it in one."""
-    title = top.text("title", default)
-    if not title.isprintable():
-        raise top.wrong("title", "must be one line of plain text")
-    return title
+def with_terms_of_all(metal: Metal, processes: tuple[Process, ...]) -> Metal:
+    """Returns the metal with smelter terms of all processes if they name each process that recovers it."""
+    recovering = sorted(it.name for it in processes if it.recovery.get(metal.name))
+    if metal.smelter is None or not metal.smelter.is_of_some or sorted(metal.smelter.processes) != recovering:
+        return metal
+    return replace(metal, smelter=replace(metal.smelter, processes=ALL))

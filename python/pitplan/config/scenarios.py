@@ -5,40 +5,55 @@ from __future__ import annotations
 from dataclasses import dataclass
 from decimal import Decimal
 from pathlib import Path
-from typing import Optional
+from typing import Any, Optional
 
+from . import kinds
+from .keys import key
+from .kinds import Kind, by_name, codes, number
 from .toml_section import Section
+
+
+def read_columns(section: Section, name: str, value: Any) -> dict[str, tuple[str, ...]]:
+    found: dict[str, tuple[str, ...]] = by_name(codes).read(section, name, value)
+    if not found:
+        raise section.wrong(name, "name the columns of at least one metal")
+    return found
+
+
+def read_decks(section: Section, name: str, _: Any) -> tuple[dict[str, Decimal], ...]:
+    price = number(0)
+    return tuple(
+        {metal: price.read(it, metal, value) for metal, value in it.data.items()} for it in section.sections(name)
+    )
+
+
+DECK = by_name(number(0)).schema
 
 
 @dataclass(frozen=True)
 class Scenarios:
-    """Simulated models of the grades, and sets of prices to solve each of them with.
+    """Simulated models of the grades, in a folder of tables or in columns, and price decks to solve each of them with."""
 
-    folder   the models' tables, or None where they are columns
-    columns  for each metal the columns of the table that hold its grades, one a model; or one name with a * in it
-    prices   for each set the prices of some metals; the others keep theirs
-    """
-
-    folder: Optional[Path]
-    columns: dict[str, tuple[str, ...]]
-    prices: tuple[dict[str, Decimal], ...]
-
-
-def read_scenarios(section: Section, folder: Path) -> Scenarios:
-    given = section.given(("realisations", "columns"))
-    if len(given) != 1:
-        raise section.wrong("realisations", "give exactly one of realisations, a folder, and columns, by metal")
-    columns: dict[str, tuple[str, ...]] = {}
-    if given == ["columns"]:
-        by_metal = section.section("columns")
-        columns = {metal: by_metal.names(metal) or () for metal in by_metal.data}
-        if not columns:
-            raise section.wrong("columns", "name the columns of at least one metal")
-    priced = section.sections("prices") if section.has("prices") else []
-    scenarios = Scenarios(
-        folder=section.input("realisations", folder, is_folder=True) if given == ["realisations"] else None,
-        columns=columns,
-        prices=tuple({name: one.number(name, least=0) for name in one.data} for one in priced) or ({},),
+    folder: Optional[Path] = key(
+        kinds.folder,
+        "folder with one [table per realisation](../FORMATS.md#table-of-a-realisation-read)",
+        None,
+        name="realisations",
+        otherwise="",
     )
-    section.finish()
-    return scenarios
+    columns: dict[str, tuple[str, ...]] = key(
+        Kind(read_columns, by_name(codes).schema),
+        "in place of it: by metal the columns of the block model, a list or a name with `*`",
+        {},
+        otherwise="",
+    )
+    prices: tuple[dict[str, Decimal], ...] = key(
+        Kind(
+            read_decks,
+            {"type": "array", "items": DECK, "minItems": 1},
+            write=lambda decks, _: [{**it} for it in decks if it] or None,
+        ),
+        "list of price decks, each by metal; the other metals keep their price",
+        ({},),
+        otherwise="the base prices",
+    )

@@ -4,15 +4,14 @@ from __future__ import annotations
 
 from dataclasses import dataclass
 from decimal import Decimal
+from typing import Any
 
-from .hill import HillAxis, read_hill
+from .hill import HillAxis
+from .keys import key, tables
+from .kinds import CODE, Kind, codes, items_of, number
+from .parameters import NAMES, read_parameter
 from .toml_section import Section
 
-NAMES = ("price", "mining_cost", "processing_cost", "selling_cost", "recovery", "slopes", "capacity", "haulage")
-# Those that may be one metal's alone, as "price copper".
-OF_METALS = ("price", "selling_cost", "recovery")
-# Sections whose keys may be varied by their path, as processes.mill.cost.
-SECTIONS = ("economics", "metals", "processes", "slopes", "shells", "periods", "haulage", "dumps")
 # Of the pit's rock.
 SKIN = Decimal("0.05")
 # The largest share of the pit's tonnes that a shell adds in a case.
@@ -21,80 +20,25 @@ SHARES = (Decimal("-0.2"), Decimal("-0.1"), Decimal("0.1"), Decimal("0.2"))
 MOST_SHARES = 20
 
 
-@dataclass(frozen=True)
-class SensitivityRules:
-    """Shares by which a number is more or less than the project says, rising, without 0; which numbers are varied, each by itself;
-    pairs that are varied together; the share of the pit's rock that its skin has at least; the share that a shell of a case adds at most,
-    unless a thousandth of the revenue factor adds more; and the axes of the hill of value, if there are any. Without names those are varied that
-    the project gives."""
-
-    changes: tuple[Decimal, ...] = SHARES
-    parameters: tuple[str, ...] = ()
-    pairs: tuple[tuple[str, str], ...] = ()
-    skin: Decimal = SKIN
-    largest_increment: Decimal = INCREMENT
-    hill: tuple[HillAxis, ...] = ()
+def read_changes(section: Section, name: str, value: Any) -> tuple[Decimal, ...]:
+    items = items_of(section, name, value, f"of up to {MOST_SHARES} shares, such as [-0.1, 0.1] for 10 % less and more")
+    shares = tuple(sorted(CHANGE.read(section, name, item) for item in items))
+    if 0 in shares or len(set(shares)) < len(shares) or len(shares) > MOST_SHARES:
+        raise section.wrong(name, f"expected up to {MOST_SHARES} shares, not 0, and all different")
+    return shares
 
 
-def read_sensitivity(section: Section, metals: tuple[str, ...]) -> SensitivityRules:
-    """The section's rules; `metals` are the names that may follow one. Raises PlanError, with the key, where one is wrong."""
-    rules = SensitivityRules(
-        changes=read_shares(section),
-        parameters=tuple(named(section, "parameters", name, metals) for name in section.names("parameters") or ()),
-        pairs=read_pairs(section, metals),
-        skin=read_skin(section),
-        largest_increment=read_increment(section),
-        hill=read_hill(section, lambda it, key, name: named(it, key, name, metals)),
-    )
-    section.finish()
-    if len(set(rules.parameters)) < len(rules.parameters):
-        raise section.wrong("parameters", "names a parameter twice")
-    return rules
+def read_parameters(section: Section, name: str, value: Any) -> tuple[str, ...]:
+    found = tuple(read_parameter(section, name, it) for it in codes.read(section, name, value))
+    if len(set(found)) < len(found):
+        raise section.wrong(name, "names a parameter twice")
+    return found
 
 
-def read_shares(section: Section) -> tuple[Decimal, ...]:
-    if not section.has("changes"):
-        return SHARES
-    value = section.get("changes")
-    if not isinstance(value, list) or not value or len(value) > MOST_SHARES:
-        raise section.wrong(
-            "changes", f"must be a list of up to {MOST_SHARES} shares, such as [-0.1, 0.1] for 10 % less and more"
-        )
-    shares = sorted(section.as_number("changes", item) for item in value)
-    if any(not -1 < share <= 10 or share == 0 for share in shares) or len(set(shares)) < len(shares):
-        raise section.wrong("changes", "shares must be above -1, at most 10, not 0, and all different")
-    return tuple(shares)
-
-
-def read_skin(section: Section) -> Decimal:
-    share = section.number("skin", SKIN)
-    if not 0 < share < 1:
-        raise section.wrong(
-            "skin", "must be a share of the pit's tonnes above 0 and below 1, such as 0.05 for the last 5 %"
-        )
-    return share
-
-
-def read_increment(section: Section) -> Decimal:
-    """The largest increment; 1 if the shells of the project's revenue factors are fine enough."""
-    share = section.number("largest_increment", INCREMENT)
-    if not 0 < share <= 1:
-        raise section.wrong(
-            "largest_increment",
-            f"found {share}, expected a share of the pit's tonnes above 0 and at most 1, such as 0.03",
-        )
-    return share
-
-
-def read_pairs(section: Section, metals: tuple[str, ...]) -> tuple[tuple[str, str], ...]:
-    if not section.has("pairs"):
-        return ()
-    value = section.get("pairs")
+def read_pairs(section: Section, name: str, value: Any) -> tuple[tuple[str, str], ...]:
     if not isinstance(value, list) or any(not isinstance(pair, list) or len(pair) != 2 for pair in value):
-        raise section.wrong("pairs", 'must be a list of pairs of names, such as [["price", "mining_cost"]]')
-    pairs = tuple(
-        (named(section, "pairs", one, metals), named(section, "pairs", other, metals)) for one, other in value
-    )
+        raise section.wrong(name, 'must be a list of pairs of names, such as [["price", "mining_cost"]]')
+    pairs = tuple((read_parameter(section, name, one), read_parameter(section, name, other)) for one, other in value)
     for one, other in pairs:
         if (
             one == other
@@ -102,22 +46,47 @@ def read_pairs(section: Section, metals: tuple[str, ...]) -> tuple[tuple[str, st
             and one.partition(" ")[0] == other.partition(" ")[0]
             and (" " not in one or " " not in other or one == other)
         ):
-            raise section.wrong("pairs", f"{one} and {other} are not two different parameters")
+            raise section.wrong(name, f"{one} and {other} are not two different parameters")
     return pairs
 
 
-def named(section: Section, key: str, name: object, metals: tuple[str, ...]) -> str:
-    """A name that is known, or the path of a key; raises PlanError otherwise."""
-    if "." in str(name):
-        first = str(name).partition(".")[0]
-        if first not in SECTIONS:
-            raise section.wrong(
-                key, f'found "{name}", expected a key of {", ".join(SECTIONS)}, such as processes.mill.cost'
-            )
-        return str(name)
-    kind, _, metal = str(name).partition(" ")
-    if kind in NAMES and (not metal or (kind in OF_METALS and metal in metals)):
-        return str(name)
-    of_metals = " or of one metal, as ".join((", ".join(OF_METALS), f'"price {metals[0]}"'))
-    paths = "or the path of a key, such as economics.mining_cost"
-    raise section.wrong(key, f'found "{name}", expected one of {", ".join(NAMES)}; {of_metals}; {paths}')
+CHANGE = number(above=-1, most=10)
+PARAMETERS = Kind(read_parameters, codes.schema)
+PAIRS = Kind(read_pairs, {"type": "array", "items": {"type": "array", "items": CODE, "minItems": 2, "maxItems": 2}})
+
+
+@dataclass(frozen=True)
+class SensitivityRules:
+    """Shares by which numbers go up and down, which numbers are varied, each by itself or two together, and the axes of a hill of value."""
+
+    changes: tuple[Decimal, ...] = key(
+        Kind(
+            read_changes,
+            {"type": "array", "items": CHANGE.schema, "minItems": 1, "maxItems": MOST_SHARES},
+            f"{CHANGE.range}, {MOST_SHARES} at most",
+        ),
+        "list of shares",
+        SHARES,
+    )
+    parameters: tuple[str, ...] = key(
+        PARAMETERS,
+        f"{', '.join(f'`{it}`' for it in NAMES)}, one metal's (`\"price copper\"`), or paths of keys",
+        (),
+        otherwise="all that the project has",
+    )
+    pairs: tuple[tuple[str, str], ...] = key(
+        PAIRS, "pairs of parameters that change together; each of them also changes alone", ()
+    )
+    skin: Decimal = key(
+        number(above=0, below=1, example="0.05 for the last 5 %"),
+        "share of the pit's tonnes in the outermost increment",
+        SKIN,
+        since="0.2.0",
+    )
+    largest_increment: Decimal = key(
+        number(above=0, most=1, example="0.03"),
+        "share of the pit's tonnes that a shell adds at most; 1: shells of `[shells]` only",
+        INCREMENT,
+        since="0.2.0",
+    )
+    hill: tuple[HillAxis, ...] = key(tables(HillAxis), "two `[[sensitivity.hill]]`, below", (), since="0.2.0")

@@ -3,9 +3,11 @@
 from __future__ import annotations
 
 import math
-from dataclasses import dataclass
-from typing import Optional
+from dataclasses import dataclass, replace
+from typing import Any, Optional
 
+from .keys import key, table, tables
+from .kinds import Kind, amount, choice, codes, pairs, truth, whole
 from .toml_section import Section
 
 PATTERNS = ("1:5", "1:9")
@@ -13,13 +15,44 @@ MOST_LEVELS, MOST_STEPS = 40, 200
 WALL, DIP = "wall", "dip"
 
 
+Angles = tuple[tuple[float, float], ...]
+
+
+def read_azimuths(section: Section, name: str, value: Any) -> Angles:
+    """Pairs of an azimuth and an angle, by rising azimuth."""
+    found: Angles = tuple(sorted(AZIMUTHS.read(section, name, value)))
+    if len({azimuth for azimuth, _ in found}) < len(found):
+        raise section.wrong(name, "an azimuth occurs twice")
+    return found
+
+
+def read_offsets(section: Section, name: str, value: Any) -> tuple[tuple[int, int, int], ...]:
+    """Whole numbers of blocks east, north and up, which go up."""
+    is_list = isinstance(value, list) and value and all(isinstance(it, list) and len(it) == 3 for it in value)
+    if not is_list or any(isinstance(item, bool) or not isinstance(item, int) for it in value for item in it):
+        expected = "a list of offsets [east, north, up] in whole blocks, such as [[0, 0, 1], [1, 0, 1]]"
+        raise section.wrong(name, f"must be {expected}")
+    if any(not 1 <= up <= MOST_LEVELS or max(abs(east), abs(north)) > MOST_STEPS for east, north, up in value):
+        raise section.wrong(name, f"go up by 1 to {MOST_LEVELS} blocks, and by at most {MOST_STEPS} to a side")
+    return tuple(sorted({(east, north, up) for east, north, up in value}))
+
+
+ANGLE = amount(1, 90)
+AZIMUTHS = pairs(amount(0, below=360), ANGLE, "azimuth, angle")
+OFFSETS = {
+    "type": "array",
+    "minItems": 1,
+    "items": {"type": "array", "items": {"type": "integer"}, "minItems": 3, "maxItems": 3},
+}
+
+
 @dataclass(frozen=True)
 class Bench:
-    """Benches with berms: the height of one and the width of the berm below it in metres, and the angle of its face in degrees."""
+    """Benches with berms."""
 
-    height: float
-    face_angle: float
-    berm_width: float
+    height: float = key(amount(above=0), "height of a bench", unit="m", label="Bench height")
+    face_angle: float = key(amount(1, 90), "angle of its face", unit="degrees")
+    berm_width: float = key(amount(), "width of the berm below it", unit="m")
 
     @property
     def angle(self) -> float:
@@ -29,122 +62,76 @@ class Bench:
         )
 
 
-@dataclass(frozen=True)
+@dataclass(frozen=True, kw_only=True)
 class Wall:
-    """The slopes of some domains: a pattern of precedences, offsets of the planner's own, or angles in degrees by azimuth (north 0, east 90).
+    """The slopes of some domains, by exactly one of an angle, angles by azimuth (north 0, east 90), a bench, a pattern and offsets."""
 
-    Attributes
-    ----------
-    domains : tuple of str, optional
-        None: all domains that no other entry names.
-    pattern : str, optional
-    angles : tuple of pairs
-        Azimuth and angle, rising.
-    offsets : tuple
-        Each a number of blocks east, north and up.
-    bench : Bench, optional
-        The bench geometry from which the angle was computed.
-    azimuth_of : str
-        "wall": the azimuth is the bearing from the pit to the wall; "dip": it is the dip direction of its face.
-    """
-
-    domains: Optional[tuple[str, ...]]
-    pattern: Optional[str]
-    angles: tuple[tuple[float, float], ...]
-    offsets: tuple[tuple[int, int, int], ...] = ()
-    bench: Optional[Bench] = None
-    azimuth_of: str = WALL
+    domains: Optional[tuple[str, ...]] = key(
+        codes, "code or list of codes", None, otherwise="all other domains", name="domain"
+    )
+    angle: Optional[float] = key(
+        ANGLE, "overall slope angle", None, "degrees", label="Overall slope angle", otherwise=""
+    )
+    azimuths: Angles = key(
+        Kind(read_azimuths, AZIMUTHS.schema),
+        "pairs [bearing from the pit to the wall, angle]: 0 to below 360 degrees (north 0, east 90), and 1 to 90 degrees",
+        (),
+        label="Angles by azimuth",
+        otherwise="",
+    )
+    azimuth_of: str = key(
+        choice(WALL, DIP),
+        'what azimuths are; with `"dip"` they are dip directions of the face',
+        WALL,
+        is_quiet=True,
+        since="0.2.0",
+    )
+    bench: Optional[Bench] = key(
+        table(Bench),
+        "`{ height = .., face_angle = .., berm_width = .. }`, height m (above 0), face angle 1 to 90 degrees, berm m: an inter-ramp angle",
+        None,
+        otherwise="",
+    )
+    pattern: Optional[str] = key(choice(*PATTERNS), "pattern of precedences", None, is_seldom=True, otherwise="")
+    offsets: tuple[tuple[int, int, int], ...] = key(
+        Kind(read_offsets, OFFSETS),
+        f"precedences of your own: blocks east, north (up to {MOST_STEPS}) and up (1 to {MOST_LEVELS})",
+        (),
+        otherwise="",
+    )
 
     @property
-    def bearings(self) -> tuple[tuple[float, float], ...]:
+    def angles(self) -> Angles:
+        """Azimuth and angle, rising; none of a pattern or offsets."""
+        if self.azimuths:
+            return self.azimuths
+        found = self.angle if self.angle is not None else self.bench.angle if self.bench else None
+        return () if found is None else ((0.0, found),)
+
+    @property
+    def bearings(self) -> Angles:
         """The angles by the bearing from the pit to the wall, rising; a face dips away from it."""
         if self.azimuth_of == WALL:
             return self.angles
         return tuple(sorted((round((azimuth + 180) % 360, 9) % 360, angle) for azimuth, angle in self.angles))
 
+    def with_angles(self, angles: Angles) -> Wall:
+        """The same domains with other angles, by the azimuth as it is given here."""
+        if self.angle is not None and len(angles) == 1:
+            return replace(self, angle=angles[0][1])
+        return replace(self, angle=None, azimuths=angles)
+
 
 @dataclass(frozen=True)
 class Slopes:
-    """The slopes of all domains.
+    """The slopes of all domains."""
 
-    Attributes
-    ----------
-    precedence_benches : int, optional
-        How many benches up precedences reach; None: each domain takes as many as its angles require.
-    never_steeper : bool
-        Whether no slope may be steeper than its angle.
-    domains : tuple of Wall
-    """
-
-    precedence_benches: Optional[int]
-    never_steeper: bool
-    domains: tuple[Wall, ...]
-
-
-def read_slopes(section: Section) -> Slopes:
-    slopes = Slopes(
-        precedence_benches=section.whole("precedence_benches", 1, 1, MOST_LEVELS)
-        if section.has("precedence_benches")
-        else None,
-        never_steeper=section.truth("never_steeper", False),
-        domains=tuple(read_wall(wall) for wall in section.sections("domains")),
+    precedence_benches: Optional[int] = key(
+        whole(1, MOST_LEVELS),
+        "benches up that precedences reach",
+        None,
+        "benches",
+        otherwise="as many as [the angles require](../planning/slopes.md)",
     )
-    section.finish()
-    named = [region for wall in slopes.domains for region in wall.domains or ()]
-    if len(set(named)) < len(named):
-        raise section.wrong("domains", "a domain occurs twice")
-    if sum(wall.domains is None for wall in slopes.domains) > 1:
-        raise section.wrong("domains", "more than one entry names no domain")
-    return slopes
-
-
-def read_wall(section: Section) -> Wall:
-    given = section.given(("pattern", "angle", "azimuths", "offsets", "bench"))
-    if len(given) != 1:
-        raise section.wrong("angle", "give exactly one of angle, azimuths, bench, pattern and offsets")
-    angles: tuple[tuple[float, float], ...] = ()
-    if given == ["angle"]:
-        angles = ((0.0, float(section.number("angle"))),)
-    if given == ["azimuths"]:
-        angles = tuple((float(azimuth), float(angle)) for azimuth, angle in section.pairs("azimuths", "azimuth, angle"))
-    bench = read_bench(section.section("bench")) if given == ["bench"] else None
-    angles = ((0.0, bench.angle),) if bench else angles
-    if any(not 1 <= angle <= 90 for _, angle in angles):
-        raise section.wrong(given[0], "a slope angle must be from 1 to 90 degrees")
-    if any(not 0 <= azimuth < 360 for azimuth, _ in angles) or len({azimuth for azimuth, _ in angles}) < len(angles):
-        raise section.wrong(given[0], "azimuths must be from 0 to below 360 degrees, each once")
-    pattern = section.choice("pattern", PATTERNS, None) if given == ["pattern"] else None
-    steps = read_offsets(section) if given == ["offsets"] else ()
-    azimuth_of = section.choice("azimuth_of", (WALL, DIP), WALL)
-    if section.has("azimuth_of") and given != ["azimuths"]:
-        raise section.wrong("azimuth_of", "requires azimuths")
-    wall = Wall(section.names("domain"), pattern, tuple(sorted(angles)), steps, bench, azimuth_of)
-    section.finish()
-    return wall
-
-
-def read_offsets(section: Section) -> tuple[tuple[int, int, int], ...]:
-    """Whole numbers of blocks east, north and up, which go up."""
-    value, far = section.get("offsets"), MOST_STEPS
-    is_list = isinstance(value, list) and value and all(isinstance(step, list) and len(step) == 3 for step in value)
-    if not is_list or any(isinstance(item, bool) or not isinstance(item, int) for step in value for item in step):
-        raise section.wrong(
-            "offsets", "must be a list of offsets [east, north, up] in whole blocks, such as [[0, 0, 1], [1, 0, 1]]"
-        )
-    if any(not 1 <= up <= MOST_LEVELS or max(abs(east), abs(north)) > far for east, north, up in value):
-        raise section.wrong("offsets", f"go up by 1 to {MOST_LEVELS} blocks, and by at most {far} to a side")
-    return tuple(sorted({(east, north, up) for east, north, up in value}))
-
-
-def read_bench(section: Section) -> Bench:
-    bench = Bench(
-        float(section.number("height")),
-        float(section.number("face_angle")),
-        float(section.number("berm_width", least=0)),
-    )
-    section.finish()
-    if bench.height <= 0:
-        raise section.wrong("height", "must be above 0 metres")
-    if not 1 <= bench.face_angle <= 90:
-        raise section.wrong("face_angle", "must be from 1 to 90 degrees")
-    return bench
+    never_steeper: bool = key(truth, "flatten the slopes until none is steeper than its angle", False)
+    domains: tuple[Wall, ...] = key(tables(Wall), "list of slope domains, below", in_python=())

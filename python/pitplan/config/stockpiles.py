@@ -2,13 +2,15 @@
 
 from __future__ import annotations
 
-import re
 from dataclasses import dataclass, field
-from typing import Optional
+from pathlib import Path
+from typing import Any, Optional
 
-from .acceptance import Accepts, read_accepts
+from .acceptance import ACCEPTS, Accepts
 from .codes import CLASS, CODES, DOMAIN, ROCK_TYPE
-from .feed_grades import read_range
+from .feed_grades import RANGE, read_range
+from .keys import key
+from .kinds import TEXT, Kind, amount, by_name, text, word
 from .toml_section import Section
 
 # The name of the only stockpile if it has none.
@@ -42,32 +44,58 @@ class Opening:
         return {ROCK_TYPE: self.rock_type, DOMAIN: self.domain, CLASS: self.resource_class}
 
 
+def read_opening(section: Section, name: str, _: Any) -> Opening:
+    """What lies on a stockpile at the start. Raises PlanError, with the key, if it has a mistake."""
+    inner, grade = section.section(name), amount()
+    named = {it: text.read(inner, it, value) for it, value in inner.data.items() if it in CODES}
+    grades = {it: grade.read(inner, it, value) for it, value in inner.data.items() if it not in (TONNES, *CODES)}
+    tonnes = grade.read(inner, TONNES, inner.get(TONNES))
+    return Opening(tonnes, grades, named.get(ROCK_TYPE, ""), named.get(DOMAIN, ""), named.get(CLASS, ""))
+
+
+def write_opening(it: Opening, _: Path) -> dict[str, Any]:
+    return {TONNES: it.tonnes} | {key: code for key, code in it.codes.items() if code} | it.grades
+
+
+OPENING = Kind(
+    read_opening,
+    {
+        "type": "object",
+        "properties": {TONNES: amount().schema} | dict.fromkeys(CODES, TEXT),
+        "required": [TONNES],
+        "additionalProperties": amount().schema,
+    },
+    write=write_opening,
+)
+
+
 @dataclass(frozen=True)
 class Stockpile:
-    """A stockpile.
+    """A stockpile; what lies there at the start may be other ore than it accepts."""
 
-    Attributes
-    ----------
-    reclaim_cost, stacking_cost : float
-        Per tonne of feed that is reclaimed, and that is placed.
-    name : str
-    capacity : float, optional
-        The most tonnes of feed that lie there at the end of a year; None: any.
-    recovery : dict of str to float
-        By metal the share of its recovery that remains after reclaim; 1 of metals that are not named.
-    accepts : Accepts
-        What may be placed there; what lies there at the start may be other ore.
-    opening : Opening, optional
-        What lies there at the start; None: nothing.
-    """
-
-    reclaim_cost: float
-    stacking_cost: float = 0.0
-    name: str = STOCKPILE
-    capacity: Optional[float] = None
-    recovery: dict[str, float] = field(default_factory=dict)
-    accepts: Accepts = Accepts()
-    opening: Optional[Opening] = None
+    reclaim_cost: float = key(amount(), "reclaim cost", unit="{currency}/t of feed")
+    stacking_cost: float = key(amount(), "stacking cost", 0.0, "{currency}/t of feed", since="0.2.0")
+    name: str = key(
+        word, "name of the stockpile; not that of a process, `pit`, `waste` or `mill`", STOCKPILE, label="Stockpile"
+    )
+    capacity: Optional[float] = key(amount(1), "capacity at the end of each year", None, "t of feed", otherwise="any")
+    recovery: dict[str, float] = key(
+        by_name(amount(0, 1, example="0.95 for 5 % less")),
+        "by metal the share of the recovery that remains after reclaim",
+        {},
+        "share",
+        otherwise="1",
+        label="Remaining recovery",
+        is_seldom=True,
+    )
+    accepts: Accepts = key(ACCEPTS, "as of processes", Accepts(), otherwise="all", since="0.2.0")
+    opening: Optional[Opening] = key(
+        OPENING,
+        'ore that lies there at the start: `{ tonnes = .., rock_type = "..", cu_pct = .. }`',
+        None,
+        otherwise="nothing",
+        since="0.2.0",
+    )
 
 
 @dataclass(frozen=True)
@@ -80,63 +108,14 @@ class PlaceLimit:
     max: Optional[float]
 
 
-def read_limits(section: Section) -> tuple[PlaceLimit, ...]:
-    """Reads limits of stockpiles or dumps by name. Raises PlanError, with the key, if one has a mistake."""
-    limits = tuple(PlaceLimit(name, *read_range(section, name, "{ max = 2e6 }")) for name in section.data)
-    section.finish()
-    return limits
+def read_limits(section: Section, name: str, _: Any) -> tuple[PlaceLimit, ...]:
+    """Limits of stockpiles or dumps by name. Raises PlanError, with the key, if one has a mistake."""
+    inner = section.section(name)
+    return tuple(PlaceLimit(it, *read_range(inner, it, "{ max = 2e6 }")) for it in inner.data)
 
 
-def read_stockpiles(section: Section) -> tuple[Stockpile, ...]:
-    """Reads the stockpiles of `[schedule]`. Raises PlanError, with the key, if one has a mistake."""
-    if section.has("stockpile") and section.has("stockpiles"):
-        raise section.wrong("stockpile", "and stockpiles are both given: remove one of them")
-    if section.has("stockpile"):
-        return (read_stockpile(section.section("stockpile")),)
-    found = tuple(map(read_stockpile, section.sections("stockpiles"))) if section.has("stockpiles") else ()
-    names = [it.name for it in found]
-    if twice := [name for name in names if names.count(name) > 1]:
-        raise section.wrong("stockpiles", f"found {twice[0]} twice, expected a name of its own for each")
-    return found
-
-
-def read_stockpile(section: Section) -> Stockpile:
-    recovery = section.section("recovery", optional=True)
-    found = Stockpile(
-        reclaim_cost=float(section.number("reclaim_cost", least=0)),
-        stacking_cost=float(section.number("stacking_cost", least=0)) if section.has("stacking_cost") else 0.0,
-        name=section.text("name", STOCKPILE),
-        capacity=float(section.number("capacity", least=1)) if section.has("capacity") else None,
-        recovery={name: float(recovery.number(name, least=0)) for name in recovery.data},
-        accepts=read_accepts(section.section("accepts")) if section.has("accepts") else Accepts(),
-        opening=read_opening(section.section("opening")) if section.has("opening") else None,
-    )
-    section.finish()
-    if found.opening and found.capacity is not None and found.opening.tonnes > found.capacity:
-        raise section.wrong(
-            "opening",
-            f"found {found.opening.tonnes:.10g} tonnes, expected the capacity of {found.capacity:.10g} at most",
-        )
-    if not re.fullmatch(r"\w[\w-]*", found.name):
-        raise section.wrong("name", f'found "{found.name}", expected one word of letters, digits, _ and -')
-    for name, share in found.recovery.items():
-        if share > 1:
-            raise recovery.wrong(
-                name, f"found {share:.10g}, expected the share that remains after reclaim, from 0 to 1"
-            )
-    return found
-
-
-def read_opening(section: Section) -> Opening:
-    """Reads what lies on a stockpile at the start. Raises PlanError, with the key, if it has a mistake."""
-    codes = {key: section.text(key) for key in CODES if section.has(key)}
-    columns = [name for name in section.data if name not in (TONNES, *CODES)]
-    found = Opening(
-        tonnes=float(section.number(TONNES, least=0)),
-        grades={name: float(section.number(name, least=0)) for name in columns},
-        rock_type=codes.get(ROCK_TYPE, ""),
-        domain=codes.get(DOMAIN, ""),
-        resource_class=codes.get(CLASS, ""),
-    )
-    section.finish()
-    return found
+LIMITS = Kind(
+    read_limits,
+    {"type": "object", "additionalProperties": RANGE},
+    write=lambda limits, _: {it.name: {"min": it.min, "max": it.max} for it in limits},
+)

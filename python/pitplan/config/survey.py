@@ -3,9 +3,11 @@
 from __future__ import annotations
 
 from dataclasses import dataclass
+from functools import partial
 from pathlib import Path
-from typing import Optional
+from typing import Any, Optional
 
+from .kinds import TEXT, Kind, codes, path_of, place, text
 from .toml_section import Section
 
 
@@ -34,15 +36,28 @@ class SurveyFile:
         return tuple((it.st_mtime_ns, it.st_size) for it in found)
 
 
-def read_survey(section: Section, key: str, folder: Path, heights: bool = True) -> SurveyFile:
-    """`KEY = "file"`, or `{ file, layer, height }`. Raises PlanError, with the key, where it is neither."""
+def read_survey(section: Section, key: str, value: Any, has_heights: bool = True) -> SurveyFile:
+    """`KEY = "file"`, or `{ file, layer, height }`. Raises PlanError, with the key, if it is neither."""
     if section.has("layer"):
         raise section.wrong("layer", f'must be in the table of its file: {key} = {{ file = "..", layer = ".." }}')
-    if not isinstance(section.get(key), dict):
-        return SurveyFile(section.input(key, folder))
+    if not isinstance(value, dict):
+        return SurveyFile(path_of(section, key, value))
     inner = section.section(key)
-    file = SurveyFile(
-        inner.input("file", folder), inner.names("layer") or (), inner.optional_text("height") if heights else None
-    )
+    layers = codes.read(inner, "layer", inner.get("layer")) if inner.has("layer") else ()
+    height = text.read(inner, "height", inner.get("height")) if has_heights and inner.has("height") else None
+    found = SurveyFile(path_of(inner, "file", inner.get("file")), layers, height)
     inner.finish()
-    return file
+    return found
+
+
+def write_survey(file: SurveyFile, folder: Path) -> Any:
+    if not file.layers and file.height is None:
+        return place(file.path, folder)
+    return {"file": place(file.path, folder), "layer": file.layers or None, "height": file.height}
+
+
+def survey(has_heights: bool = True) -> Kind:
+    """A file of surveyors."""
+    keys = {"file": TEXT, "layer": codes.schema} | ({"height": TEXT} if has_heights else {})
+    of_file = {"type": "object", "properties": keys, "required": ["file"], "additionalProperties": False}
+    return Kind(partial(read_survey, has_heights=has_heights), {"anyOf": [TEXT, of_file]}, write=write_survey)

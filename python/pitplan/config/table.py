@@ -3,14 +3,17 @@
 from __future__ import annotations
 
 import codecs
-from dataclasses import dataclass, field
-from decimal import Decimal
+from dataclasses import dataclass
 from pathlib import Path
-from typing import Optional, Union
+from typing import Any, Optional, Union
 
-from .survey import SurveyFile, read_survey
-from .table_rules import MEANINGS, REFUSE, RowRules, read_row_rules
-from .toml_section import Section, cut, shown
+from . import kinds
+from .codes import CODES
+from .keys import key, part
+from .kinds import TEXT, Kind, amount, choice, cut, numbers, shown, text, whole
+from .survey import SurveyFile, survey
+from .table_rules import MEANINGS, REFUSE, RowRules, closed
+from .toml_section import Section
 
 # The value of `reblock` by which the rows are cells and parts of cells, which are put together again.
 PARENTS = "parents"
@@ -46,41 +49,149 @@ class Reblock:
         return self.counts is None and self.size is None
 
 
-@dataclass(frozen=True)
-class TableColumns:
-    """Where the table is, which of its columns say what, and what lies where it has no row: "refuse", "air" or a rock.
+def read_encoding(section: Section, name: str, value: Any) -> str:
+    """A name that Python knows; of UTF-8 a byte-order mark is passed over."""
+    written = text.read(section, name, value)
+    try:
+        known = codecs.lookup(written).name
+        # Codecs such as base64 and rot13 are known too, and are none of texts.
+        "".encode(known)
+    except (LookupError, ValueError) as error:
+        raise section.wrong(
+            name, f'"{cut(written)}" is not an encoding: expected one such as utf-8, cp1252 or utf-16'
+        ) from error
+    return "utf-8-sig" if known == "utf-8" else known
 
-    tonnes   the column of tonnes, or what the product of density and volume is called
-    density  a column of tonnes a cubic metre, where the table has no tonnes
-    volume   a column of cubic metres; without it a block has the grid's size
-    reblock  of what rows blocks are put together; None: each row is a block
-    topography  heights of the ground, by which blocks are cut; None: they are whole
-    separator, decimal, encoding, header_row, first_row  the format of the text; None: as it is recognised
-    rules       what fields and rows mean
-    resource_class  the column `class`; None: all blocks may be ore
+
+def read_separator(section: Section, name: str, value: Any) -> str:
+    """One character of ASCII that is no part of a number or a name."""
+    sign: str = text.read(section, name, value)
+    if (
+        len(sign) != 1
+        or not sign.isascii()
+        or sign.isalnum()
+        or sign in '".+-_'
+        or not (sign.isprintable() or sign == "\t")
+    ):
+        raise section.wrong(
+            name, f'{shown(sign)} is not a separator: expected one character, such as ",", ";", "|" or "\\t"'
+        )
+    return sign
+
+
+def read_missing(section: Section, name: str, value: Any) -> Union[str, MissingRock]:
+    if not isinstance(value, dict):
+        return MISSING_WORDS.read(section, name, value)  # type: ignore[no-any-return]
+    inner = section.section(name)
+    tonnes = amount().read(inner, "tonnes", inner.get("tonnes"))
+    codes = [text.read(inner, it, inner.get(it)) if inner.has(it) else "" for it in CODES]
+    inner.finish()
+    return MissingRock(tonnes, *codes)
+
+
+def write_missing(missing: Union[str, MissingRock], _: Path) -> Any:
+    if not isinstance(missing, MissingRock):
+        return missing
+    codes = {"rock_type": missing.rock_type, "domain": missing.domain, "class": missing.resource_class}
+    return {"tonnes": missing.tonnes, **{name: code or None for name, code in codes.items()}}
+
+
+def read_reblock(section: Section, name: str, value: Any) -> Reblock:
+    if value == PARENTS:
+        return Reblock(None)
+    if isinstance(value, dict):
+        inner = section.section(name)
+        size, corner = SIZE.read(inner, "size", inner.get("size")), POINT.read(inner, "corner", inner.get("corner"))
+        inner.finish()
+        return Reblock(None, size, corner)
+    counts = POINT.read(section, name, value)
+    if any(count != int(count) or count < 1 for count in counts) or max(counts) == 1:
+        raise section.wrong(
+            name,
+            f'must be whole numbers of blocks east, north and up, such as [2, 2, 1], a size and a corner, or "{PARENTS}"',
+        )
+    east, north, up = map(int, counts)
+    return Reblock((east, north, up))
+
+
+def write_reblock(reblock: Reblock, _: Path) -> Any:
+    return PARENTS if reblock.of_parents else reblock.counts or {"size": reblock.size, "corner": reblock.corner}
+
+
+MISSING_WORDS = choice(REFUSE, "air")
+ROCK = closed({"tonnes": amount().schema, **dict.fromkeys(CODES, TEXT)}, "tonnes")
+POINT, SIZE = numbers(3, amount(None)), numbers(3, amount(above=0))
+COUNTS = {"type": "array", "items": {"type": "integer", "minimum": 1}, "minItems": 3, "maxItems": 3}
+REBLOCK = {
+    "anyOf": [{"const": PARENTS}, COUNTS, closed({"size": SIZE.schema, "corner": POINT.schema}, "size", "corner")]
+}
+
+
+@dataclass(frozen=True, kw_only=True)
+class TableColumns:
+    """Where the block model is, which of its columns say what, and what is where it has no row.
+
+    Attributes
+    ----------
+    separator, decimal, encoding, header_row, first_row : optional
+        The format of the text; None: as it is detected.
     """
 
-    file: Path
-    x: str
-    y: str
-    z: str
-    tonnes: str
-    density: Optional[str]
-    volume: Optional[str]
-    id: Optional[str]
-    rock_type: Optional[str]
-    domain: Optional[str]
-    separator: Optional[str]
-    decimal: Optional[str]
-    encoding: Optional[str]
-    empty: str
-    missing_blocks: Union[str, MissingRock]
-    reblock: Optional[Reblock] = None
-    topography: Optional[SurveyFile] = None
-    header_row: Optional[int] = None
-    first_row: Optional[int] = None
-    rules: RowRules = field(default_factory=RowRules)
-    resource_class: Optional[str] = None
+    file: Path = key(kinds.file, "block model: `.csv`, `.csv.gz`, `.zip`, `.omf`, `.dm`, `.parquet`")
+    x: str = key(text, "column of the centroids' x", "x", "m")
+    y: str = key(text, "column of the centroids' y", "y", "m")
+    z: str = key(text, "column of the centroids' z", "z", "m")
+    density: Optional[str] = key(text, "column of densities, in place of `tonnes`", None, "t/m3")
+    volume: Optional[str] = key(
+        text, "column of volumes, times `density`", None, "m3", otherwise="the cell or the block size"
+    )
+    id: Optional[str] = key(text, "column of block names, kept in all results", None)
+    rock_type: Optional[str] = key(text, "column of rock types", None)
+    domain: Optional[str] = key(text, "column of slope domains", None)
+    separator: Optional[str] = key(
+        Kind(read_separator, {"type": "string", "minLength": 1, "maxLength": 1}),
+        "character between fields",
+        None,
+        otherwise="detected",
+    )
+    decimal: Optional[str] = key(choice(".", ","), "character of decimals", None, otherwise="detected")
+    encoding: Optional[str] = key(Kind(read_encoding, TEXT), "encoding of the text", None, otherwise="detected")
+    header_row: Optional[int] = key(
+        whole(1, LAST_HEADER), "line of the column names", None, otherwise="detected", since="0.2.0"
+    )
+    first_row: Optional[int] = key(
+        whole(2, LAST_HEADER), "line of the first block, below `header_row`", None, otherwise="detected", since="0.2.0"
+    )
+    empty: str = key(
+        choice(*MEANINGS), 'meaning of an empty field or null; with `"missing"` the row is no block', REFUSE
+    )
+    resource_class: Optional[str] = key(
+        text,
+        "column of resource classes, treated by [`[classes]`](#classes)",
+        None,
+        otherwise="none: all blocks may be ore",
+        name="class",
+        since="0.2.0",
+    )
+    tonnes: str = key(text, "column of tonnes", "tonnes", "t", is_quiet=lambda it: bool(it.density))
+    missing_blocks: Union[str, MissingRock] = key(
+        Kind(read_missing, {"anyOf": [MISSING_WORDS.schema, ROCK]}, write=write_missing),
+        '`"refuse"`, `"air"`, or `{ tonnes = .., rock_type = "..", domain = "..", class = ".." }`',
+        REFUSE,
+    )
+    reblock: Optional[Reblock] = key(
+        Kind(read_reblock, REBLOCK, write=write_reblock),
+        '`[2, 2, 1]` blocks east, north and up; `{ size = [..], corner = [..] }`, m; or `"parents"`, of the largest cell\'s size',
+        None,
+    )
+    topography: Optional[SurveyFile] = key(
+        survey(),
+        'survey file, or `{ file = "..", layer = "..", height = ".." }`',
+        None,
+        otherwise="whole blocks",
+        since="0.2.0",
+    )
+    rules: RowRules = part(RowRules)
 
     @property
     def codes(self) -> list[str]:
@@ -90,146 +201,17 @@ class TableColumns:
 
 @dataclass(frozen=True)
 class GridRules:
-    """The blocks' size in metres, where it is given, and how far a centre may lie off the grid, in metres.
+    """The grid of the blocks; None: as the centroids tell it."""
 
-    azimuth  degrees clockwise from north to the grid's north, from -360 to 360; None: as the centres tell it
-    """
-
-    size: Optional[tuple[float, float, float]]
-    tolerance: float
-    azimuth: Optional[float] = None
-
-
-def read_table(section: Section, folder: Path) -> TableColumns:
-    columns = TableColumns(
-        file=section.input("file", folder),
-        x=section.text("x", "x"),
-        y=section.text("y", "y"),
-        z=section.text("z", "z"),
-        tonnes=section.text("tonnes", "tonnes"),
-        density=section.optional_text("density"),
-        volume=section.optional_text("volume"),
-        id=section.optional_text("id"),
-        rock_type=section.optional_text("rock_type"),
-        domain=section.optional_text("domain"),
-        separator=read_separator(section),
-        decimal=section.choice("decimal", (".", ","), None) if section.has("decimal") else None,
-        encoding=read_encoding(section) if section.has("encoding") else None,
-        empty=section.choice("empty", MEANINGS, REFUSE),
-        missing_blocks=read_missing(section),
-        reblock=read_reblock(section),
-        topography=read_survey(section, "topography", folder) if section.has("topography") else None,
-        header_row=section.whole("header_row", 0, 1, LAST_HEADER) if section.has("header_row") else None,
-        first_row=section.whole("first_row", 0, 2, LAST_HEADER) if section.has("first_row") else None,
-        rules=read_row_rules(section),
-        resource_class=section.optional_text("class"),
+    size: Optional[tuple[float, float, float]] = key(
+        SIZE, "of a block along the axes of the grid", None, "m", otherwise="from the centroids"
     )
-    section.finish()
-    demand_rules_agree(section, columns)
-    if columns.density and section.has("tonnes"):
-        raise section.wrong("density", "give it or tonnes, not both")
-    if columns.volume and not columns.density:
-        raise section.wrong("volume", "is multiplied by a density, which is missing")
-    for name, code in (("rock_type", columns.rock_type), ("domain", columns.domain)):
-        if isinstance(columns.missing_blocks, MissingRock) and bool(getattr(columns.missing_blocks, name)) != bool(
-            code
-        ):
-            raise section.wrong("missing_blocks", f"needs a {name} if, and only if, [table] {name} names a column")
-    return columns
-
-
-def demand_rules_agree(section: Section, columns: TableColumns) -> None:
-    """Raises PlanError if keys of [table] do not fit together."""
-    rules = columns.rules
-    if columns.header_row and columns.first_row and columns.first_row <= columns.header_row:
-        raise section.wrong("first_row", f"must be below the names, which header_row puts in row {columns.header_row}")
-    if rules.cell_size and columns.volume:
-        raise section.wrong("cell_size", "give it or volume, not both: both give the volume of a cell")
-    if columns.reblock and columns.reblock.of_parents and not rules.cell_size:
-        raise section.wrong("reblock", f'"{PARENTS}" requires cell_size, which is missing')
-    for name in rules.mapped:
-        if name in rules.calculated:
-            raise section.wrong("map", f"the column {name} is calculated: map the columns that it is calculated from")
-    for name in (columns.x, columns.y, columns.z):
-        if rules.nulls.meaning(name, columns.empty) != columns.empty and rules.nulls.by_column[name].meaning == "zero":
-            raise section.wrong(
-                "nulls", f'the centroids in {name} may not be read as 0: expected "refuse" or "missing"'
-            )
-
-
-def read_encoding(section: Section) -> str:
-    """A name that Python knows; of UTF-8 a byte-order mark is passed over."""
-    name = section.text("encoding")
-    try:
-        known = codecs.lookup(name).name
-        # Codecs such as base64 and rot13 are known too, and are none of texts.
-        "".encode(known)
-    except (LookupError, ValueError) as error:
-        raise section.wrong(
-            "encoding", f'"{cut(name)}" is not an encoding: expected one such as utf-8, cp1252 or utf-16'
-        ) from error
-    return "utf-8-sig" if known == "utf-8" else known
-
-
-def read_separator(section: Section) -> Optional[str]:
-    """One sign of ASCII that is no part of a number or a name."""
-    sign = section.optional_text("separator")
-    if sign is not None and (
-        len(sign) != 1
-        or not sign.isascii()
-        or sign.isalnum()
-        or sign in '".+-_'
-        or not (sign.isprintable() or sign == "\t")
-    ):
-        raise section.wrong(
-            "separator", f'{shown(sign)} is not a separator: expected one character, such as ",", ";", "|" or "\\t"'
-        )
-    return sign
-
-
-def read_missing(section: Section) -> Union[str, MissingRock]:
-    if not section.has("missing_blocks") or not isinstance(section.data["missing_blocks"], dict):
-        return section.choice("missing_blocks", ("refuse", "air"), "refuse")
-    inner = section.section("missing_blocks")
-    tonnes = float(inner.number("tonnes", least=0))
-    codes = [inner.optional_text(key) or "" for key in ("rock_type", "domain", "class")]
-    missing = MissingRock(tonnes, *codes)
-    inner.finish()
-    return missing
-
-
-def read_reblock(section: Section) -> Optional[Reblock]:
-    if not section.has("reblock"):
-        return None
-    if section.data["reblock"] == PARENTS:
-        return Reblock(None)
-    if isinstance(section.data["reblock"], dict):
-        inner = section.section("reblock")
-        (east, north, up), (x, y, z) = inner.numbers("size", 3), inner.numbers("corner", 3)
-        inner.finish()
-        if min(east, north, up) <= 0:
-            raise inner.wrong("size", "a block's size is above 0")
-        return Reblock(None, (east, north, up), (x, y, z))
-    counts = section.numbers("reblock", 3)
-    if any(count != int(count) or count < 1 for count in counts) or max(counts) == 1:
-        raise section.wrong(
-            "reblock",
-            f'must be whole numbers of blocks east, north and up, such as [2, 2, 1], a size and a corner, or "{PARENTS}"',
-        )
-    east, north, up = map(int, counts)
-    return Reblock((east, north, up))
-
-
-def read_grid(section: Section) -> GridRules:
-    size = section.numbers("size", 3) if section.has("size") else None
-    if size is not None and min(size) <= 0:
-        raise section.wrong("size", "a block's size is above 0")
-    rules = GridRules(
-        size=None if size is None else (size[0], size[1], size[2]),
-        tolerance=float(section.number("tolerance", Decimal("0.01"), least=0)),
-        azimuth=float(section.number("azimuth")) if section.has("azimuth") else None,
+    tolerance: float = key(amount(), "largest distance of a centroid from the grid", 0.01, "m")
+    azimuth: Optional[float] = key(
+        amount(-360, 360),
+        "bearing of the grid's north, clockwise",
+        None,
+        "degrees",
+        otherwise="from the centroids",
+        since="0.2.0",
     )
-    section.finish()
-    if rules.azimuth is not None and abs(rules.azimuth) > 360:
-        raise section.wrong("azimuth", f"{rules.azimuth:.10g} is not an angle from -360 to 360 degrees")
-    return rules

@@ -3,13 +3,16 @@
 from __future__ import annotations
 
 from collections.abc import Mapping
-from dataclasses import dataclass, field
+from dataclasses import dataclass
 from decimal import Decimal
+from pathlib import Path
 from typing import Any, Optional
 
 from pitplan.core.expressions import Expression, ExpressionError, parsed
 
-from .toml_section import Section, shown
+from .keys import key, part
+from .kinds import CODE, TEXT, Kind, Schema, amount, as_number, by_name, choice, numbers, shown, text
+from .toml_section import Section
 
 # What an empty field means: an error, the number 0, or that the row is no block.
 REFUSE, ZERO, MISSING = "refuse", "zero", "missing"
@@ -27,12 +30,131 @@ class NullRule:
     meaning: Optional[str] = None
 
 
+def read_nulls(section: Section, name: str, value: Any) -> tuple[str, ...]:
+    """Null codes, numbers or texts, as texts."""
+    items = value if isinstance(value, list) else [value]
+    if not items or any(isinstance(item, bool) or not isinstance(item, (str, int, Decimal)) for item in items):
+        raise section.wrong(name, f'found {shown(value)}, expected a list of null codes, such as [-99, "-", "NA"]')
+    return tuple(item.strip() if isinstance(item, str) else str(as_number(section, name, item)) for item in items)
+
+
+def read_null_rules(section: Section, name: str, _: Any) -> dict[str, NullRule]:
+    """For a column what a null means, or `{ values = [..], as = ".." }`."""
+    inner, meaning = section.section(name), choice(*MEANINGS)
+    found = {}
+    for column, value in inner.data.items():
+        if isinstance(value, dict):
+            rule = inner.section(column)
+            means = meaning.read(rule, "as", rule.get("as")) if rule.has("as") else None
+            found[column] = NullRule(read_nulls(rule, "values", value["values"]) if rule.has("values") else (), means)
+            rule.finish()
+        else:
+            found[column] = NullRule((), meaning.read(inner, column, value))
+    return found
+
+
+def write_null_rules(rules: Mapping[str, NullRule], _: Path) -> dict[str, Any]:
+    return {
+        name: {"values": rule.values, "as": rule.meaning} if rule.values else rule.meaning or {}
+        for name, rule in rules.items()
+    }
+
+
+def read_map(section: Section, name: str, _: Any) -> dict[str, dict[str, str]]:
+    """For a column the names of its codes."""
+    inner, found = section.section(name), {}
+    for column in inner.data:
+        names = inner.section(column)
+        if not names.data:
+            raise inner.wrong(column, 'has no codes: write them, such as { 1 = "measured", 2 = "indicated" }')
+        found[column] = {code: read_name(names, code, it) for code, it in names.data.items()}
+    return found
+
+
+def read_name(section: Section, code: str, name: Any) -> str:
+    """The name of a code."""
+    if isinstance(name, bool) or not isinstance(name, (str, int)) or "\0" in str(name):
+        raise section.wrong(code, f"found {shown(name)}, expected the name that replaces the code, in quotes")
+    return str(name).strip()
+
+
+def read_expression(section: Section, name: str, value: Any) -> Expression:
+    written = text.read(section, name, value)
+    try:
+        return parsed(written)
+    except ExpressionError as error:
+        raise section.wrong(name, f"{shown(written)} {error}") from error
+
+
+def read_clip(section: Section, name: str, _: Any) -> dict[str, tuple[float, float]]:
+    """The box, by axes."""
+    inner, found = section.section(name), {}
+    for axis in ("x", "y", "z"):
+        if inner.has(axis):
+            least, greatest = SPAN.read(inner, axis, inner.get(axis))
+            if least > greatest:
+                raise inner.wrong(axis, f"found {least:.10g} above {greatest:.10g}, expected the least metre first")
+            found[axis] = (least, greatest)
+    inner.finish()
+    return found
+
+
+def read_cell_size(section: Section, name: str, value: Any) -> tuple[str, str, str]:
+    if not isinstance(value, list) or len(value) != 3 or not all(isinstance(it, str) and it for it in value):
+        raise section.wrong(name, 'expected three columns, along x, y and z, such as ["XINC", "YINC", "ZINC"]')
+    return value[0], value[1], value[2]
+
+
+def read_share(section: Section, name: str, value: Any) -> Share:
+    """A column in percent, or `{ column = "..", unit = "fraction" }`."""
+    if not isinstance(value, dict):
+        return Share(text.read(section, name, value), "percent")
+    inner = section.section(name)
+    unit = UNIT.read(inner, "unit", inner.get("unit")) if inner.has("unit") else "percent"
+    share = Share(text.read(inner, "column", inner.get("column")), unit)
+    inner.finish()
+    return share
+
+
+def closed(properties: Mapping[str, Schema], *required: str) -> dict[str, Any]:
+    """The JSON Schema of a table with these keys."""
+    found = {"type": "object", "properties": dict(properties), "additionalProperties": False}
+    return found | ({"required": [*required]} if required else {})
+
+
+SPAN = numbers(2, amount(None))
+UNIT = choice(*UNITS)
+NULL: Schema = {"type": ["string", "number"]}
+NULLS = {"anyOf": [NULL, {"type": "array", "items": NULL, "minItems": 1}]}
+RULE = {"anyOf": [{"enum": [*MEANINGS]}, closed({"values": NULLS, "as": {"enum": [*MEANINGS]}})]}
+NAMES = {"type": "object", "additionalProperties": CODE, "minProperties": 1}
+EXPRESSION = Kind(read_expression, TEXT, write=lambda it, _: it.text)
+SHARE = Kind(
+    read_share,
+    {"anyOf": [TEXT, closed({"column": TEXT, "unit": UNIT.schema}, "column")]},
+    write=lambda it, _: {"column": it.column, "unit": it.unit},
+)
+
+
 @dataclass(frozen=True)
 class Nulls:
     """The null codes of the table and of its columns, as texts."""
 
-    values: tuple[str, ...] = ()
-    by_column: Mapping[str, NullRule] = field(default_factory=dict)
+    values: tuple[str, ...] = key(
+        Kind(read_nulls, NULLS),
+        'list of codes for absent data, such as `[-99, "-"]`',
+        (),
+        name="null_values",
+        since="0.2.0",
+    )
+    by_column: Mapping[str, NullRule] = key(
+        Kind(read_null_rules, {"type": "object", "additionalProperties": RULE}, write=write_null_rules),
+        'the same by column: `{ cu_pct = "zero", density = { values = [-1], as = "missing" } }`',
+        {},
+        otherwise="as `empty`",
+        name="nulls",
+        since="0.2.0",
+    )
 
     def of(self, column: str) -> tuple[str, ...]:
         """Returns the null codes of a column."""
@@ -60,33 +182,51 @@ class Share:
 
 @dataclass(frozen=True)
 class RowRules:
-    """How rows are read.
+    """How rows are read."""
 
-    Attributes
-    ----------
-    nulls : Nulls
-    mapped : dict of str to dict of str to str
-        For each column the names that replace its codes.
-    calculated : dict of str to Expression
-        Columns that are calculated from others, in this order.
-    filter : Expression, optional
-        Rows for which it is not true are left out.
-    clip : dict of str to (float, float)
-        The least and the greatest centroid along x, y and z, in metres; rows beyond are left out.
-    cell_size : tuple of str, optional
-        The columns with the sizes of a cell along x, y and z, in metres.
-    rock_percent, ore_percent : Share, optional
-        The share of a block that is rock, by which its tonnes are multiplied; and the share of its rock that has the grades.
-    """
-
-    nulls: Nulls = field(default_factory=Nulls)
-    mapped: Mapping[str, Mapping[str, str]] = field(default_factory=dict)
-    calculated: Mapping[str, Expression] = field(default_factory=dict)
-    filter: Optional[Expression] = None
-    clip: Mapping[str, tuple[float, float]] = field(default_factory=dict)
-    cell_size: Optional[tuple[str, str, str]] = None
-    rock_percent: Optional[Share] = None
-    ore_percent: Optional[Share] = None
+    nulls: Nulls = part(Nulls)
+    mapped: Mapping[str, Mapping[str, str]] = key(
+        Kind(
+            read_map,
+            {"type": "object", "additionalProperties": NAMES},
+            write=lambda it, _: {name: dict(names) for name, names in it.items()},
+        ),
+        'names in place of codes, by column; `"*"` stands for all other codes',
+        {},
+        name="map",
+        since="0.2.0",
+    )
+    calculated: Mapping[str, Expression] = key(
+        by_name(EXPRESSION), "further columns by [expressions](#expressions)", {}, name="calculate", since="0.2.0"
+    )
+    filter: Optional[Expression] = key(
+        EXPRESSION, "expression; rows for which it is false are left out", None, otherwise="all rows", since="0.2.0"
+    )
+    clip: Mapping[str, tuple[float, float]] = key(
+        Kind(read_clip, closed(dict.fromkeys("xyz", SPAN.schema)), write=lambda it, _: dict(it)),
+        "`{ x = [4000, 5000], y = [..], z = [..] }`; rows with a centroid beyond are left out",
+        {},
+        "m",
+        otherwise="all rows",
+        since="0.2.0",
+    )
+    cell_size: Optional[tuple[str, str, str]] = key(
+        Kind(read_cell_size, numbers(3, text).schema),
+        "three columns of cell sizes along x, y and z",
+        None,
+        "m",
+        since="0.2.0",
+    )
+    rock_percent: Optional[Share] = key(
+        SHARE,
+        'share of a block that is rock: a column in percent, or `{ column = "..", unit = "fraction" }`',
+        None,
+        otherwise="all",
+        since="0.2.0",
+    )
+    ore_percent: Optional[Share] = key(
+        SHARE, "share of the rock with the grades, in the same form", None, otherwise="all", since="0.2.0"
+    )
 
     @property
     def leaves_out(self) -> bool:
@@ -110,115 +250,3 @@ class RowRules:
             known.add(name)
         found += [column for column in (self.filter.columns if self.filter else ()) if column not in known]
         return tuple(dict.fromkeys(found))
-
-
-def read_row_rules(section: Section) -> RowRules:
-    """Reads these keys of [table]. Raises PlanError with the key."""
-    return RowRules(
-        nulls=Nulls(read_nulls(section, "null_values"), read_null_rules(section)),
-        mapped=read_map(section),
-        calculated=read_calculated(section),
-        filter=read_expression(section, "filter", section.text("filter")) if section.has("filter") else None,
-        clip=read_clip(section),
-        cell_size=read_cell_size(section),
-        rock_percent=read_share(section, "rock_percent"),
-        ore_percent=read_share(section, "ore_percent"),
-    )
-
-
-def read_nulls(section: Section, key: str) -> tuple[str, ...]:
-    """Null codes, numbers or texts, as texts."""
-    if not section.has(key):
-        return ()
-    value = section.data[key]
-    items = value if isinstance(value, list) else [value]
-    if not items or any(isinstance(item, bool) or not isinstance(item, (str, int, Decimal)) for item in items):
-        raise section.wrong(key, f'found {shown(value)}, expected a list of null codes, such as [-99, "-", "NA"]')
-    return tuple(item.strip() if isinstance(item, str) else str(section.as_number(key, item)) for item in items)
-
-
-def read_null_rules(section: Section) -> dict[str, NullRule]:
-    """`[table.nulls]`: for a column what a null means, or `{ values = [..], as = ".." }`."""
-    if not section.has("nulls"):
-        return {}
-    inner, found = section.section("nulls"), {}
-    for column, value in inner.data.items():
-        if isinstance(value, dict):
-            rule = inner.section(column)
-            meaning = rule.choice("as", MEANINGS, None) if rule.has("as") else None
-            found[column] = NullRule(read_nulls(rule, "values"), meaning)
-            rule.finish()
-        else:
-            found[column] = NullRule((), inner.choice(column, MEANINGS, None))
-    return found
-
-
-def read_map(section: Section) -> dict[str, dict[str, str]]:
-    """`[table.map]`: for a column the names of its codes."""
-    if not section.has("map"):
-        return {}
-    inner, found = section.section("map"), {}
-    for column in inner.data:
-        names = inner.section(column)
-        if not names.data:
-            raise inner.wrong(column, 'has no codes: write them, such as { 1 = "measured", 2 = "indicated" }')
-        found[column] = {code: named(names, code, name) for code, name in names.data.items()}
-    return found
-
-
-def named(section: Section, code: str, name: Any) -> str:
-    """The name of a code."""
-    if isinstance(name, bool) or not isinstance(name, (str, int)) or "\0" in str(name):
-        raise section.wrong(code, f"found {shown(name)}, expected the name that replaces the code, in quotes")
-    return str(name).strip()
-
-
-def read_calculated(section: Section) -> dict[str, Expression]:
-    """`[table.calculate]`: an expression for each new column."""
-    if not section.has("calculate"):
-        return {}
-    inner = section.section("calculate")
-    return {column: read_expression(inner, column, inner.text(column)) for column in inner.data}
-
-
-def read_expression(section: Section, key: str, text: str) -> Expression:
-    try:
-        return parsed(text)
-    except ExpressionError as error:
-        raise section.wrong(key, f"{shown(text)} {error}") from error
-
-
-def read_clip(section: Section) -> dict[str, tuple[float, float]]:
-    """The box, by axes."""
-    if not section.has("clip"):
-        return {}
-    inner, found = section.section("clip"), {}
-    for axis in ("x", "y", "z"):
-        if inner.has(axis):
-            least, greatest = inner.numbers(axis, 2)
-            if least > greatest:
-                raise inner.wrong(axis, f"found {least:.10g} above {greatest:.10g}, expected the least metre first")
-            found[axis] = (least, greatest)
-    inner.finish()
-    return found
-
-
-def read_cell_size(section: Section) -> Optional[tuple[str, str, str]]:
-    if not section.has("cell_size"):
-        return None
-    value = section.data["cell_size"]
-    if not isinstance(value, list) or len(value) != 3 or not all(isinstance(name, str) and name for name in value):
-        raise section.wrong("cell_size", 'expected three columns, along x, y and z, such as ["XINC", "YINC", "ZINC"]')
-    return value[0], value[1], value[2]
-
-
-def read_share(section: Section, key: str) -> Optional[Share]:
-    """A column in percent, or `{ column = "..", unit = "fraction" }`."""
-    if not section.has(key):
-        return None
-    if not isinstance(section.data[key], dict):
-        return Share(section.text(key), "percent")
-    inner = section.section(key)
-    share = Share(inner.text("column"), inner.choice("unit", tuple(UNITS), "percent"))
-    inner.finish()
-    return share

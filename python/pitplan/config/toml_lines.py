@@ -3,7 +3,6 @@
 from __future__ import annotations
 
 import re
-from collections.abc import Iterator
 from dataclasses import dataclass
 from typing import Optional
 
@@ -15,13 +14,6 @@ ASSIGNED = re.compile(rf"[ \t]*(?P<key>{KEY})[ \t]*=[ \t]*")
 TOKEN = re.compile(
     r"\"\"\"(?:[^\\]|\\.)*?\"\"\"|'''.*?'''|\"(?:[^\"\\\n]|\\.)*\"|'[^'\n]*'|#[^\n]*|[\[{]|[\]}]|\n", re.DOTALL
 )
-# How errors name a line of a text that is no TOML, and a key of a section.
-AT_LINE = re.compile(r"\(at line (\d+)|is written twice, lines \d+ and (\d+)")
-OF_KEY = re.compile(r"\[(?P<section>[^\]\[]+)\](?: (?P<key>[\w-]+(?:\.[\w-]+)*):)?")
-
-# How they name an entry of a list, by its number or name, and a key that may be misspelled.
-OF_ENTRY = re.compile(r"\[\[(?P<list>[^\]\[]+)\]\] (?P<name>[\w-]+)(?: (?P<key>[\w-]+))?")
-MISSPELLED = re.compile(r"did you misspell it as ([\w-]+)\?")
 
 
 @dataclass(frozen=True)
@@ -42,6 +34,18 @@ class Entry:
     line: int
     start: int = 0
     end: int = 0
+
+    @property
+    def is_header(self) -> bool:
+        return self.start == self.end
+
+
+@dataclass(frozen=True)
+class Twice:
+    """What is written twice: the line of the second time, and a sentence with both lines and the remedy."""
+
+    line: int
+    why: str
 
 
 def entries(text: str) -> list[Entry]:
@@ -66,18 +70,17 @@ def entries(text: str) -> list[Entry]:
     return found
 
 
-def written_twice(text: str) -> Optional[str]:
-    """Returns the first section or key of a text that is written twice, with both lines and the remedy; None if nothing is."""
+def written_twice(text: str) -> Optional[Twice]:
+    """Returns the first section or key of a text that is written twice; None if nothing is."""
     seen: dict[str, int] = {}
     for entry in entries(text):
         if entry.name in seen:
-            is_header = entry.start == entry.end
             # As the text has it, without the numbers of entries of a list.
             name = re.sub(r" \d+(?=\.|$)", "", entry.name)
             section, _, key = name.rpartition(".")
-            named = f"[{name}]" if is_header else f"[{section}] {key}" if section else key
-            remedy = "put the keys below the first" if is_header else "remove one"
-            return f"{named} is written twice, lines {seen[entry.name]} and {entry.line}: {remedy}"
+            named = f"[{name}]" if entry.is_header else f"[{section}] {key}" if section else key
+            remedy = "put the keys below the first" if entry.is_header else "remove one"
+            return Twice(entry.line, f"{named} is written twice, lines {seen[entry.name]} and {entry.line}: {remedy}")
         seen[entry.name] = entry.line
     return None
 
@@ -123,45 +126,3 @@ def line_of(text: str, name: str) -> Optional[int]:
         # "metals 2.price" lies in "metals 2", and this in "metals".
         name = name[: max(name.rfind("."), name.rfind(" "), 0)]
     return None
-
-
-def line_of_error(text: str, why: str) -> Optional[int]:
-    """Returns the line of a text that an error is about, if the error says it by its number, or names a key, a section or an entry of a list."""
-    at_line = AT_LINE.search(why)
-    if at_line:
-        return int(at_line[1] or at_line[2])
-    found = (line_of(text, name) for name in names_in(text, why) if name)
-    return next((line for line in found if line), None)
-
-
-def names_in(text: str, why: str) -> Iterator[str]:
-    """Yields the keys and sections that an error names, the most exact first."""
-    of_key, of_entry = OF_KEY.search(why), OF_ENTRY.search(why)
-    section = of_key["section"] if of_key and not of_entry else ""
-    misspelled = MISSPELLED.search(why)
-    if misspelled:
-        yield ".".join(filter(None, [section, misspelled[1]]))
-    if of_entry:
-        entry = entry_called(text, of_entry["list"], of_entry["name"])
-        yield f"{entry}.{of_entry['key']}" if of_entry["key"] else entry
-    elif of_key:
-        called = entry_called(text, section, of_key["key"] or "")
-        yield called if called != section else ".".join(filter(None, [section, of_key["key"]]))
-    of_top = re.search(r": (\w+)(?: [\w ]+)?: ", why)
-    if of_top:
-        yield of_top[1]
-        yield next((it.name for it in entries(text) if it.name.endswith(f".{of_top[1]}")), "")
-    of_list = re.search(r"\[\[([^\]\[]+)\]\]", why)
-    if of_list:
-        yield of_list[1]
-
-
-def entry_called(text: str, header: str, name: str) -> str:
-    """Returns an entry of a list by its number or by its name; the list itself if it has none of them."""
-    if name.isdigit():
-        return f"{header} {name}"
-    for entry in entries(text):
-        of_list = re.fullmatch(re.escape(header) + r" \d+\.name", entry.name)
-        if of_list and text[entry.start : entry.end].strip("\"'") == name:
-            return entry.name.removesuffix(".name")
-    return header

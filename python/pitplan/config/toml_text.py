@@ -4,15 +4,16 @@ from __future__ import annotations
 
 import re
 import sys
+from dataclasses import dataclass, field
 from decimal import Decimal
 from pathlib import Path
-from typing import Any
+from typing import Any, Optional
 
 import tomllib
 
 from pitplan.errors import PlanError
 
-from .toml_lines import written_twice
+from .toml_lines import line_of, written_twice
 
 # A project's longest key has three parts. tomllib's time grows with the square of a key's parts.
 MOST_PARTS = 50
@@ -20,6 +21,21 @@ PART = r"(?:[A-Za-z0-9_-]+|\"[^\"\n]*\"|'[^'\n]*')"
 LONG_KEY = re.compile(rf"(?:^|[\[{{,])[ \t]*{PART}(?:[ \t]*\.[ \t]*{PART}){{{MOST_PARTS}}}", re.MULTILINE)
 # Powers of ten at which the digits of a number begin and end.
 GREATEST_POWER, LEAST_POWER = 1000, -60
+AT_LINE = re.compile(r"\(at line (\d+)")
+
+
+class ProjectError(PlanError):
+    """A project's text that is none, or a key that is wrong.
+
+    Attributes
+    ----------
+    line : int, optional
+        The line of the text, from 1, if it is known.
+    """
+
+    def __init__(self, text: str, line: Optional[int] = None) -> None:
+        super().__init__(text)
+        self.line = line
 
 
 class Absurd:
@@ -32,6 +48,52 @@ class Absurd:
         return self.written if len(self.written) <= 40 else f"{self.written[:40]}.."
 
 
+@dataclass(frozen=True)
+class Source:
+    """The sections of a project and where they come from.
+
+    Attributes
+    ----------
+    name : str
+        How errors name them: usually the file.
+    data : dict
+        The sections, as TOML has them.
+    folder : Path
+        The folder to which their paths are relative.
+    text : str
+        The text that they were read from; empty if there is none, or if keys were set in place of its own.
+    """
+
+    name: str
+    data: dict[str, Any] = field(default_factory=dict)
+    folder: Path = Path(".")
+    text: str = ""
+
+    def error(self, why: str, at: str) -> ProjectError:
+        """Returns an error at a key or a section, which is named as in `metals 2.price`."""
+        line = line_of(self.text, at) if self.text else None
+        return ProjectError(f"{self.name}{f':{line}' if line else ''}: {why}", line)
+
+    def wrong(self, section: str, key: str, why: str, at: str = "") -> ProjectError:
+        """Returns the error of a key; the section is empty at the top. `at` is the key whose line is meant, if it is another one."""
+        place = at or key
+        return self.error(
+            f"{f'[{section}] ' if section else ''}{key}: {why}", f"{section}.{place}" if section else place
+        )
+
+    @property
+    def has_processes(self) -> bool:
+        """Whether the project names its processes."""
+        return "processes" in self.data
+
+    @property
+    def metals(self) -> tuple[str, ...]:
+        """The names of its metals."""
+        found = self.data.get("metals")
+        entries = [it for it in found if isinstance(it, dict)] if isinstance(found, list) else []
+        return tuple(str(it.get("name", "")) for it in entries)
+
+
 def number(written: str) -> Decimal | Absurd:
     """A decimal; one whose digits lie beyond all amounts, or are finer than any, is absurd."""
     found = Decimal(written)
@@ -41,30 +103,38 @@ def number(written: str) -> Decimal | Absurd:
     return found if found.adjusted() <= GREATEST_POWER and int(exponent) >= LEAST_POWER else Absurd(written)
 
 
-def read(path: Path) -> dict[str, Any]:
-    """Raises PlanError, with the line where it is known, where the file cannot be read, is no TOML, or is none that a project could be."""
+def text_of(path: Path) -> str:
+    """The text of a file. Raises PlanError if it cannot be read."""
     try:
-        text = path.read_text(encoding="utf-8-sig")
+        return path.read_text(encoding="utf-8-sig")
     except OSError as error:
         raise PlanError(f"{path}: cannot be read: {error.strerror}") from error
     except UnicodeDecodeError as error:
         raise PlanError(f"{path}: is not UTF-8: save it as UTF-8") from error
     except ValueError as error:
         raise PlanError(f"{str(path)!r}: is not a file name: {error}") from error
-    return parsed(text, str(path))
+
+
+def read(path: Path) -> dict[str, Any]:
+    """The sections of a file. Raises PlanError, with the line if it is known, if it cannot be read, is no TOML, or is none that a project could be."""
+    return parsed(text_of(path), str(path))
 
 
 def parsed(text: str, path: str) -> dict[str, Any]:
-    """The sections of a text, which errors name by `path`. Raises PlanError, with the line if it is known, if it is no TOML or no project's."""
+    """The sections of a text, which errors name by `path`. Raises ProjectError, with the line if it is known, if it is no TOML or no project's."""
     long = LONG_KEY.search(text)
     if long:
-        raise PlanError(
-            f"{path}: a key of more than {MOST_PARTS} parts (at line {line_of(text, long.start())}): a project's keys have three at most"
+        raise at_place(
+            text, long.start(), path, f"a key of more than {MOST_PARTS} parts: a project's keys have three at most"
         )
     try:
         return tomllib.loads(text, parse_float=number)
     except tomllib.TOMLDecodeError as error:
-        raise PlanError(f"{path}: {written_twice(text) or error}") from error
+        if twice := written_twice(text):
+            raise ProjectError(f"{path}:{twice.line}: {twice.why}", twice.line) from error
+        found = AT_LINE.search(str(error))
+        line = int(found[1]) if found else None
+        raise ProjectError(f"{path}{f':{line}' if line else ''}: {error}", line) from error
     except RecursionError as error:
         raise PlanError(
             f"{path}: lists or tables lie within each other too deeply: a project's lie three deep at most"
@@ -73,11 +143,10 @@ def parsed(text: str, path: str) -> dict[str, Any]:
         # Python converts no text of more digits than its limit.
         digits = sys.get_int_max_str_digits()
         long = re.search(rf"\d(?:_?\d){{{digits}}}", text)
-        where = f" (at line {line_of(text, long.start())})" if long else ""
-        raise PlanError(
-            f"{path}: a whole number of more than {digits:,} digits{where}: amounts end at 10^18"
-        ) from error
+        why = f"a whole number of more than {digits:,} digits: amounts end at 10^18"
+        raise at_place(text, long.start() if long else 0, path, why) from error
 
 
-def line_of(text: str, place: int) -> int:
-    return text.count("\n", 0, place) + 1
+def at_place(text: str, place: int, path: str, why: str) -> ProjectError:
+    line = text.count("\n", 0, place) + 1
+    return ProjectError(f"{path}:{line}: {why}", line)

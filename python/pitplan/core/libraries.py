@@ -60,4 +60,5 @@ LIBRARIES = (
     Library("distributed", "python3-distributed", "scenarios --on local and on a cluster"),
     Library("starlette", "python3-starlette", "serve", "0.26"),
     Library("uvicorn", "python3-uvicorn", "serve", "0.17"),
+    Library("tomlkit", "python3-tomlkit", "serve", "0.11"),
 )

@@ -10,6 +10,7 @@ from typing import Any, Optional
 from pitplan.config.classes import TREATMENTS
 from pitplan.config.economics import ByDomain, Curve, Metal
 from pitplan.config.feed_grades import FeedGrade
+from pitplan.config.keys import declared
 from pitplan.config.periods import MONTHS, Period
 from pitplan.config.project import Project
 from pitplan.config.shells import IN_WORDS
@@ -18,6 +19,9 @@ from pitplan.config.smelter import BOTH, Smelter
 from pitplan.config.stockpiles import STOCKPILE
 from pitplan.core.revenue_factors import factor_text
 
+# Keys of sections that topics of their own state.
+ROYALTIES, OF_MINING = ("royalty", "royalty_per_tonne"), ("mining_recovery", "dilution")
+OF_CAPACITIES = ("processing_capacity", "mining_capacity", "years", "bins")
 WORDS = {TREATMENTS[0]: "may be ore", TREATMENTS[1]: "waste", TREATMENTS[2]: "not allowed"}
 
 
@@ -65,6 +69,23 @@ def by_code(value: Any, text: Any = number) -> str:
     return str(text(value))
 
 
+def stated(
+    record: Any, project: Project, *, only: Sequence[str] = (), without: Sequence[str] = ()
+) -> Iterator[tuple[str, str]]:
+    """Yields the numbers of a section that differ from their defaults, in the words of their keys: all, some only, or all but some."""
+    for field, key in declared(record.__class__):
+        value = getattr(record, field)
+        is_asked = field in only if only else field not in without
+        is_given = value is not None and value != key.default and not (key.of_processes and project.processes)
+        if is_asked and is_given and key.kind.type == "number":
+            unit = key.unit_of(project.economics.currency)
+            is_share = unit.startswith("share")
+            amount = by_code(value, percent) if is_share else by_code(value)
+            yield key.label[0].lower() + key.label[1:], f"{amount} {unit.removeprefix('share')}".replace(
+                "  ", " "
+            ).strip()
+
+
 def prices(project: Project) -> Iterator[tuple[str, str]]:
     for metal in project.metals:
         unit = f"{project.economics.currency}/{metal.price_unit}"
@@ -76,11 +97,7 @@ def prices(project: Project) -> Iterator[tuple[str, str]]:
             yield f"selling cost of {metal.name}", f"{number(metal.selling_cost)} {unit}{of_processes(others)}"
         if terms:
             yield from smelter(metal, terms, project.economics.currency)
-    money = project.economics
-    if money.royalty:
-        yield "royalty", f"{percent(money.royalty)} of revenue"
-    if money.royalty_per_tonne:
-        yield "royalty per tonne", f"{number(money.royalty_per_tonne)} {money.currency}/t of mill feed"
+    yield from stated(project.economics, project, only=ROYALTIES)
     paths = project.price_paths
     for name, path in paths.metals.items() if paths else ():
         term = f"{number(path.long_term)} in the long run, speed {number(path.speed)} per year"
@@ -121,14 +138,7 @@ def smelter(metal: Metal, terms: Smelter, currency: str) -> Iterator[tuple[str, 
 def costs(project: Project) -> Iterator[tuple[str, str]]:
     money = project.economics
     a_tonne = f"{money.currency}/t"
-    yield "mining cost", f"{by_code(money.mining_cost)} {a_tonne}"
-    if money.mining_cost_per_bench:
-        below = (
-            "the top of the model"
-            if money.mining_cost_reference is None
-            else f"{number(money.mining_cost_reference)} m"
-        )
-        yield "mining cost by depth", f"{number(money.mining_cost_per_bench)} {a_tonne} more per bench below {below}"
+    yield from stated(money, project, without=(*ROYALTIES, *OF_MINING, "decimals"))
     if money.mining_cost_by_elevation:
         ends = money.mining_cost_by_elevation[0], money.mining_cost_by_elevation[-1]
         yield "mining cost by elevation", ", ".join(
@@ -138,33 +148,22 @@ def costs(project: Project) -> Iterator[tuple[str, str]]:
         for kind in ("ore", "waste"):
             road = getattr(project.haulage, kind)
             yield f"haulage of {kind}", f"{number(road.cost)} {a_tonne} and km, one way"
-    named = {f"processing cost of {it.name}": it.cost for it in project.processes}
-    for name, cost in (named or {"processing cost": money.processing_cost}).items():
-        yield name, f"{by_code(cost)} {a_tonne} of mill feed"
+    for process in project.processes:
+        yield f"processing cost of {process.name}", f"{by_code(process.cost)} {a_tonne} of mill feed"
     yield from (
         (f"cost adjustment factors ({name})", f"column {column} of the block model")
         for name, column in (("mining", money.mcaf), ("processing", money.pcaf))
         if column
     )
-    if money.fixed_cost_per_year:
-        yield "fixed costs", f"{number(money.fixed_cost_per_year)} {money.currency} a year"
     if money.capex:
         yield "capital", ", ".join(
             f"{number(amount)} {money.currency} at the start of year {year}" for year, amount in money.capex
         )
-    yield from taxes(project)
-
-
-def taxes(project: Project) -> Iterator[tuple[str, str]]:
-    """Yields closure cost, tax and depreciation."""
-    rules = project.cash_flow
-    if rules.closure_cost:
-        yield "closure cost", f"{number(rules.closure_cost)} {project.economics.currency} in the last year"
-    if rules.tax_rate:
-        yield "tax", f"{percent(rules.tax_rate)} of the taxable income, losses carried forward"
-        years = rules.depreciation_years
+    yield from stated(project.cash_flow, project)
+    if project.cash_flow.tax_rate:
+        years = project.cash_flow.depreciation_years
         how = "by units of production" if years is None else f"straight line over {number(years)} years"
-        yield "depreciation of capital", how
+        yield "depreciation of capital", f"{how}; losses are carried forward"
 
 
 def recoveries(project: Project) -> Iterator[tuple[str, str]]:
@@ -180,19 +179,12 @@ def recoveries(project: Project) -> Iterator[tuple[str, str]]:
 
 
 def mining(project: Project, by_block: bool) -> Iterator[tuple[str, str]]:
-    money, rules, schedule = project.economics, project.pushbacks, project.schedule
-    yield "mining recovery", by_code(money.mining_recovery, percent)
-    yield "dilution", f"{by_code(money.dilution, percent)} at zero grade"
-    if by_block:
-        return
-    if rules and rules.min_mining_width:
-        yield "minimum mining width", f"{number(rules.min_mining_width)} m"
-    if rules and rules.min_bottom_width:
-        yield "minimum bottom width", f"{number(rules.min_bottom_width)} m"
-    if schedule and schedule.vertical_advance_rate:
-        yield "vertical advance rate", f"{number(schedule.vertical_advance_rate)} benches a year and pushback"
-    if schedule and schedule.bench_lag:
-        yield "bench lag between pushbacks", f"{schedule.bench_lag} bench{'es' * (schedule.bench_lag > 1)}"
+    yield "mining recovery", by_code(project.economics.mining_recovery, percent)
+    yield "dilution", f"{by_code(project.economics.dilution, percent)} at zero grade"
+    if not by_block and project.pushbacks:
+        yield from stated(project.pushbacks, project, without=("count", "tonnes", "ultimate_pit"))
+    if not by_block and project.schedule:
+        yield from stated(project.schedule, project, without=OF_CAPACITIES)
 
 
 def capacities(project: Project) -> Iterator[tuple[str, str]]:

@@ -14,7 +14,7 @@ from dataclasses import dataclass
 from pathlib import Path
 from typing import Any
 
-from pitplan.config.toml_section import FARTHEST, cut
+from pitplan.config.kinds import FARTHEST, cut
 from pitplan.core.revenue_factors import is_factor
 from pitplan.errors import PlanError
 

@@ -194,12 +194,11 @@ def angles_of_cone(cone: np.ndarray, size: tuple[float, float, float]) -> np.nda
 
 def from_grid_north(wall: Wall, azimuth: float) -> Wall:
     """Returns a domain whose azimuths are bearings to the wall from the north of the grid, which has an azimuth."""
-    wall = replace(wall, angles=wall.bearings, azimuth_of=WALL)
+    wall = replace(wall.with_angles(wall.bearings), azimuth_of=WALL)
     if not azimuth or len(wall.angles) < 2:
         return wall
-    return replace(
-        wall, angles=tuple(sorted((round((of_wall - azimuth) % 360, 9) % 360, angle) for of_wall, angle in wall.angles))
-    )
+    turned = ((round((of_wall - azimuth) % 360, 9) % 360, angle) for of_wall, angle in wall.angles)
+    return wall.with_angles(tuple(sorted(turned)))
 
 
 def pattern_of(asked_wall: Wall, size: tuple[float, float, float], slopes: Slopes, azimuth: float = 0.0) -> Pattern:

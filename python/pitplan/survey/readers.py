@@ -13,8 +13,8 @@ from pathlib import Path
 
 import numpy as np
 
+from pitplan.config.kinds import FARTHEST
 from pitplan.config.survey import SurveyFile
-from pitplan.config.toml_section import FARTHEST
 from pitplan.core.numeric_fields import at_row, numbers_of
 from pitplan.core.text_format import TableFormat, guessed_separator
 from pitplan.core.text_tables import Fields, demand_columns, read_columns

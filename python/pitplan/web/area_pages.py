@@ -14,16 +14,16 @@ from starlette.concurrency import run_in_threadpool
 from starlette.requests import Request
 from starlette.responses import JSONResponse, Response
 from starlette.routing import Route
+from tomlkit.items import AoT
 
-from pitplan.config import toml_text
 from pitplan.config.constraints import SIDES, Area
 from pitplan.config.survey import SurveyFile
 from pitplan.core.atomic_files import staged_file
 from pitplan.errors import PlanError
 
-from . import project_text, toml_edit
+from . import project_text
 from .block_pages import BlockPages
-from .grid_columns import at
+from .draft import Draft, Path as Place
 from .grids import toml_of
 from .import_roles import in_words
 from .pages import MOST_BYTES, Pages, form_of, threaded
@@ -145,16 +145,11 @@ def corners_of(text: str) -> list[tuple[float, float]]:
 
 def with_area(text: str, area: Area) -> str:
     """Returns a project's text with an area more. Raises WrongForm if its areas are not written as [[constraints.areas]]."""
-    before = at(toml_text.parsed(text, "project"), ("constraints", "areas")) or []
-    keys: list[tuple[toml_edit.Path, str]] = [
-        (("polygon",), toml_of(area.polygon.path.name)),
-        (("exclude",), toml_of(area.exclude)),
-    ]
-    try:
-        after = toml_edit.with_block(text, "constraints.areas", keys)
-        found = at(toml_text.parsed(after, "project"), ("constraints", "areas"))
-    except PlanError:
-        found = None
-    if not isinstance(found, list) or len(found) != len(before) + 1:
+    draft = Draft(text)
+    place: Place = ("constraints", "areas")
+    before = draft.at(place)
+    if before is not None and not isinstance(before, AoT):
         raise WrongForm("Constraints: areas are not written as [[constraints.areas]]: add this one in the text")
-    return after
+    keys: dict[Place, str] = {("polygon",): toml_of(area.polygon.path.name), ("exclude",): toml_of(area.exclude)}
+    draft.insert(place, len(before or ()), keys)
+    return draft.text

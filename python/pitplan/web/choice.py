@@ -2,9 +2,7 @@
 
 from __future__ import annotations
 
-from pitplan.config import toml_text
-
-from . import toml_edit
+from .draft import Draft
 from .run_form import WrongForm
 from .values_form import NUMBER
 
@@ -14,7 +12,9 @@ MOST_FACTORS = 100
 def with_shell(text: str, factor: str) -> str:
     """Returns a project's text with a selected shell. Raises WrongForm if the revenue factor is no number."""
     demand_number(factor)
-    return toml_edit.with_key(text, "shells", ("selected",), factor)
+    draft = Draft(text)
+    draft.set(("shells", "selected"), factor)
+    return draft.text
 
 
 def with_pushbacks(text: str, factors: list[str]) -> str:
@@ -25,12 +25,13 @@ def with_pushbacks(text: str, factors: list[str]) -> str:
         )
     for factor in factors:
         demand_number(factor)
-    for key in ("count", "tonnes", "ultimate_pit"):
-        text = toml_edit.without_key(text, "pushbacks", (key,))
-    listed = ", ".join(sorted(factors, key=float))
-    if not isinstance(toml_text.parsed(text, "project").get("pushbacks", {}), dict):
+    draft = Draft(text)
+    if not isinstance(draft.at(("pushbacks",)) or {}, dict):
         raise WrongForm("Pushbacks: [pushbacks] is not written as a section: change it in the text")
-    return toml_edit.with_key(text, "pushbacks", ("revenue_factors",), f"[{listed}]")
+    draft.set(("pushbacks", "revenue_factors"), f"[{', '.join(sorted(factors, key=float))}]")
+    for key in ("count", "tonnes", "ultimate_pit"):
+        draft.remove(("pushbacks", key))
+    return draft.text
 
 
 def demand_number(factor: str) -> None:

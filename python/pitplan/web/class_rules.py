@@ -5,11 +5,9 @@ from __future__ import annotations
 from collections.abc import Mapping, Sequence
 from typing import Any
 
-from pitplan.config import toml_text
 from pitplan.config.classes import TREATMENTS
-from pitplan.errors import PlanError
 
-from . import toml_edit
+from .draft import Draft
 from .grid_columns import CLASSES
 from .run_form import WrongForm
 
@@ -37,19 +35,13 @@ def rules_of(rows: Pairs) -> dict[str, str]:
     return found
 
 
-def with_rules(text: str, before: Pairs, after: Pairs, name: str) -> str:
-    """Returns a text with other rules; all else in it stays. Raises WrongForm if a rule is wrong, or [classes] is written in another way."""
-    old, new = {row[0]: row[1] for row in before}, rules_of(after)
+def with_rules(text: str, before: Pairs, after: Pairs) -> str:
+    """Returns a text with other rules; all else in it stays. Raises WrongForm if a rule is wrong."""
+    draft, old, new = Draft(text), {row[0]: row[1] for row in before}, rules_of(after)
     for code in old:
-        text = text if code in new else toml_edit.without_key(text, CLASSES, (code,))
+        if code not in new:
+            draft.remove((CLASSES, code))
     for code, rule in new.items():
-        text = text if old.get(code) == rule else toml_edit.with_key(text, CLASSES, (code,), f'"{rule}"')
-    try:
-        is_same = toml_text.parsed(text, name).get(CLASSES, {}) == new
-    except PlanError:
-        is_same = False
-    if not is_same:
-        raise WrongForm(
-            f"Resource classes: {name} writes [{CLASSES}] in a way that this grid cannot change: change it in the text"
-        )
-    return text
+        if old.get(code) != rule:
+            draft.set((CLASSES, code), f'"{rule}"')
+    return draft.text

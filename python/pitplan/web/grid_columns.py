@@ -2,23 +2,21 @@
 
 from __future__ import annotations
 
-from collections.abc import Mapping, Sequence
+from collections.abc import Iterator, Mapping, Sequence
 from dataclasses import dataclass, replace
 from typing import Any
 
 from pitplan.config.classes import TREATMENTS
 from pitplan.config.codes import CLASS, CODES, DOMAIN, ROCK_TYPE
-from pitplan.config.constraints import SIDES
-from pitplan.config.economics import GRADE_UNITS, GRAMS
-from pitplan.config.project import Project
-from pitplan.config.slopes import DIP, WALL
+from pitplan.config.keys import Key, keys_of
+from pitplan.config.project import Project, record_at
 
 # A number, a text, codes with commas between, one of some words, or anything that TOML has.
 NUMBER, TEXT, LIST, CHOICE, VALUE = "number", "text", "codes", "choice", "value"
 Entry = Mapping[str, Any]
 # The section whose keys are the rows of a grid, not its entries.
 CLASSES = "classes"
-CODE_WORDS = {ROCK_TYPE: "rock type", DOMAIN: "domain", CLASS: "class"}
+SIDES = ("min", "max")
 
 
 @dataclass(frozen=True)
@@ -95,8 +93,7 @@ def at(entry: Entry, path: Sequence[str]) -> Any:
 
 def columns_of(kind: str, project: Project, entries: Sequence[Entry]) -> list[Column]:
     """Returns the columns of a grid: those that planners use, and those of all keys that its entries have."""
-    found = OF_KIND[kind](project)
-    columns = [column for it in found for column in expanded(it, entries)]
+    columns = [column for it in declared(kind, project) for column in expanded(it, entries)]
     known = {it.path for it in columns}
     more = [path for entry in entries for path in leaves(entry) if path not in known]
     return [*columns, *(Column(path, " ".join(path), "", VALUE) for path in dict.fromkeys(more))]
@@ -121,164 +118,121 @@ def leaves(entry: Entry, path: tuple[str, ...] = ()) -> list[tuple[str, ...]]:
     return found
 
 
-def of_metals(project: Project) -> list[Column]:
-    money, has_processes = project.economics.currency, bool(project.processes)
-    recoveries = [
-        Column(("recovery",), "Recovery", "share, 0 to 1"),
-        Column(("tail_grade",), "Tail grade", "unit of grade", is_shown=False),
-    ]
-    return [
-        Column(("name",), "Metal", kind=TEXT),
-        Column(("column",), "Grade column", kind=TEXT),
-        Column(("unit",), "Unit of grade", kind=CHOICE, options=tuple(GRADE_UNITS)),
-        Column(("price",), "Price", f"{money} per unit"),
-        Column(("price_per",), "Unit of price", kind=CHOICE, options=tuple(GRAMS)),
-        Column(("selling_cost",), "Selling cost", f"{money} per unit"),
-        *([] if has_processes else recoveries),
-        Column(("prices",), "Prices by year", f"[{money} per unit, ..]", VALUE, is_shown=False),
-    ]
+def declared(kind: str, project: Project) -> Iterator[Column]:
+    """Yields the columns of all keys that an entry may have; of keys by name a column for each name that the project has."""
+    if kind == CLASSES:
+        column = project.table.resource_class or "the column [table] class"
+        yield Column(("class",), "Class", f"code in {column}", TEXT)
+        yield Column(("rule",), "Rule", "", CHOICE, TREATMENTS)
+        return
+    keys = keys_of(record_at(KINDS[kind].header))
+    # The name is the first column of each grid.
+    for key, it in sorted(keys.items(), key=lambda pair: pair[0] != "name"):
+        if not (it.of_processes and project.processes):
+            yield from of_key(key, it, project)
 
 
-def of_processes(project: Project) -> list[Column]:
-    money = project.economics.currency
-    feeds = [grade.column for grade in project.feed_grades if grade.code is None]
-    columns = dict.fromkeys([*(it.column for it in project.metals), *feeds])
-    return [
-        Column(("name",), "Process", kind=TEXT),
-        Column(("cost",), "Cost", f"{money}/t of mill feed"),
-        Column(("capacity",), "Capacity", "t of mill feed/year"),
-        *(Column(("recovery", it.name), f"Recovery of {it.name}", "share, 0 to 1") for it in project.metals),
-        *accepted(project),
-        *(
-            Column(("feed", column, side), f"Head grade {column}, {side}", "unit of grade", is_shown=False)
-            for column in columns
-            for side in ("min", "max")
-        ),
-    ]
+def of_key(key: str, it: Key, project: Project) -> Iterator[Column]:
+    unit = it.unit_of(project.economics.currency, "unit")
+    if key in NAMED:
+        yield from NAMED[key](key, it, project)
+    elif it.kind.record is not None and not it.kind.schema["type"] == "array":
+        for inner, within in keys_of(it.kind.record).items():
+            if within.kind.record is None:
+                yield Column(
+                    (key, inner),
+                    within.label,
+                    within.unit_of(project.economics.currency, "unit"),
+                    within.kind.type,
+                    is_shown=False,
+                )
+    elif it.kind.record is None:
+        is_shown = not it.is_seldom and it.kind.type != VALUE
+        yield Column((key,), it.label, unit, it.kind.type, it.kind.options, is_shown)
 
 
-def accepted(project: Project) -> list[Column]:
-    """Returns the columns of what a process, a stockpile or a dump accepts."""
-    table = project.table
-    named = {ROCK_TYPE: table.rock_type, DOMAIN: table.domain, CLASS: table.resource_class}
-    codes = [
-        Column(
-            ("accepts", key),
-            f"Accepts {CODE_WORDS[key]}",
-            "codes, by commas",
-            LIST,
-            is_shown=bool(named[key]) and key == ROCK_TYPE,
+def by_metal(key: str, it: Key, project: Project) -> Iterator[Column]:
+    """A column per metal, with the unit of its prices."""
+    if it.kind.schema.get("type") != "object":
+        yield Column(
+            (key,),
+            it.label,
+            it.unit_of(project.economics.currency, "unit"),
+            it.kind.type,
+            is_shown=it.kind.type != VALUE,
         )
-        for key in CODES
-    ]
-    grades = [
-        Column(("accepts", it.column, side), f"Accepts {it.column}, {side}", it.sign, is_shown=False)
-        for it in project.metals
-        for side in ("min", "max")
-    ]
-    return [*codes, *grades]
+        return
+    for metal in project.metals:
+        unit = it.unit_of(project.economics.currency, metal.price_unit)
+        yield Column((key, metal.name), f"{it.label} of {metal.name}", unit, is_shown=not it.is_seldom)
 
 
-def of_stockpiles(project: Project) -> list[Column]:
-    money = project.economics.currency
+def by_process(key: str, it: Key, project: Project) -> Iterator[Column]:
+    """A column per process, or one for all that it may hold."""
+    if it.kind.schema.get("type") != "object":
+        yield Column((key,), it.label, it.unit_of(), NUMBER)
+        return
+    for process in project.processes:
+        yield Column((key, process.name), f"{it.label} of {process.name}", it.unit_of())
+
+
+def minimums(key: str, it: Key, project: Project) -> Iterator[Column]:
+    names = [
+        "feed",
+        "total",
+        *(metal.name for metal in project.metals),
+        *(process.name for process in project.processes),
+    ]
+    for name in dict.fromkeys(names):
+        yield Column((key, name), f"{it.label} {name}", it.unit_of(), is_shown=False)
+
+
+def limits(key: str, names: Sequence[str], label: str, unit: str) -> Iterator[Column]:
+    """The least and the most of something by name."""
+    for name in dict.fromkeys(names):
+        for side in SIDES:
+            yield Column((key, name, side), f"{label} {name}, {side}", unit, is_shown=False)
+
+
+def of_feed(key: str, it: Key, project: Project) -> Iterator[Column]:
+    grades = [grade.column for grade in project.feed_grades if grade.code is None]
+    return limits(key, [*(metal.column for metal in project.metals), *grades], "Head grade", "unit of grade")
+
+
+def of_accepts(key: str, it: Key, project: Project) -> Iterator[Column]:
     table = project.table
     named = {ROCK_TYPE: table.rock_type, DOMAIN: table.domain, CLASS: table.resource_class}
-    return [
-        Column(("name",), "Stockpile", kind=TEXT),
-        Column(("reclaim_cost",), "Reclaim cost", f"{money}/t of feed"),
-        Column(("stacking_cost",), "Stacking cost", f"{money}/t of feed"),
-        Column(("capacity",), "Capacity", "t of feed"),
-        *(
-            Column(("recovery", it.name), f"Remaining recovery of {it.name}", "share, 0 to 1", is_shown=False)
-            for it in project.metals
-        ),
-        *accepted(project),
-        Column(("opening", "tonnes"), "Opening balance", "t of feed", is_shown=False),
-        *(Column(("opening", it.column), f"Opening {it.column}", it.sign, is_shown=False) for it in project.metals),
-        *(
-            Column(("opening", key), f"Opening {CODE_WORDS[key]}", "code", TEXT, is_shown=False)
-            for key in CODES
-            if named[key]
-        ),
-    ]
+    for code in CODES:
+        is_shown = code == ROCK_TYPE and bool(named[code])
+        yield Column((key, code), f"Accepts {code.replace('_', ' ')}", "codes, by commas", LIST, is_shown=is_shown)
+    for metal in project.metals:
+        yield from limits(key, [metal.column], "Accepts", metal.sign)
 
 
-def of_dumps(project: Project) -> list[Column]:
-    money = project.economics.currency
-    return [
-        Column(("name",), "Dump", kind=TEXT),
-        Column(("cost",), "Cost", f"{money}/t of waste"),
-        Column(("capacity",), "Capacity", "t"),
-        *accepted(project),
-    ]
+def of_opening(key: str, it: Key, project: Project) -> Iterator[Column]:
+    yield Column((key, "tonnes"), "Opening balance", "t of feed", is_shown=False)
+    for metal in project.metals:
+        yield Column((key, metal.column), f"Opening {metal.column}", metal.sign, is_shown=False)
+    for code in CODES:
+        yield Column((key, code), f"Opening {code.replace('_', ' ')}", "code", TEXT, is_shown=False)
 
 
-def of_periods(project: Project) -> list[Column]:
-    money, names = project.economics.currency, [it.name for it in project.processes]
-    capacities = [Column(("capacity", it), f"Capacity of {it}", "t of mill feed/year") for it in names]
-    minimums = ["feed", "total", *(it.name for it in project.metals), *names]
-    stockpiles = [it.name for it in project.schedule.stockpiles] if project.schedule else []
-    return [
-        Column(("years",), "Years", "duration"),
-        Column(("period_months",), "Length of a period", "months", is_shown=False),
-        Column(("mining_capacity",), "Mining capacity", "t mined/year"),
-        *(capacities or [Column(("processing_capacity",), "Processing capacity", "t of mill feed/year")]),
-        *(Column(("prices", it.name), f"Price of {it.name}", f"{money}/{it.price_unit}") for it in project.metals),
-        Column(("fixed_cost_per_year",), "Fixed cost", f"{money}/year"),
-        Column(("capex",), "Capex", f"{money}, at the start"),
-        *(
-            Column((f"{key}_cost_factor",), f"{key.capitalize()} cost factor", "times the cost", is_shown=False)
-            for key in ("mining", "processing", "selling")
-        ),
-        *(Column(("minimum", it), f"Minimum {it}", "per year", is_shown=False) for it in dict.fromkeys(minimums)),
-        *limited("stockpiles", stockpiles, "t of feed at the end"),
-        *limited("dumps", [it.name for it in project.dumps], "t of waste/year"),
-        *limited("feed", [it.column for it in project.metals], "head grade") * (not names),
-    ]
+def of_places(key: str, it: Key, project: Project) -> Iterator[Column]:
+    """Limits of stockpiles or dumps by their names."""
+    piles = project.schedule.stockpiles if project.schedule else ()
+    names = [dump.name for dump in project.dumps] if key == "dumps" else [pile.name for pile in piles]
+    return limits(key, names, it.label, it.unit_of())
 
 
-def limited(key: str, names: Sequence[str], unit: str) -> list[Column]:
-    """Returns the columns of the least and the most of something by name."""
-    return [
-        Column((key, name, side), f"{key.capitalize()} {name}, {side}", unit, is_shown=False)
-        for name in dict.fromkeys(names)
-        for side in ("min", "max")
-    ]
-
-
-def of_classes(project: Project) -> list[Column]:
-    return [
-        Column(("class",), "Class", f"code in {project.table.resource_class or 'the column [table] class'}", TEXT),
-        Column(("rule",), "Rule", "", CHOICE, TREATMENTS),
-    ]
-
-
-def of_slopes(project: Project) -> list[Column]:
-    return [
-        Column(("domain",), "Domain", "codes; empty: all others", LIST),
-        Column(("angle",), "Overall slope angle", "degrees"),
-        Column(("azimuths",), "Angles by azimuth", "[[azimuth, degrees], ..]", VALUE),
-        Column(("azimuth_of",), "Azimuth of", "", CHOICE, (WALL, DIP), False),
-        Column(("bench", "height"), "Bench height", "m", is_shown=False),
-        Column(("bench", "face_angle"), "Face angle", "degrees", is_shown=False),
-        Column(("bench", "berm_width"), "Berm width", "m", is_shown=False),
-    ]
-
-
-def of_areas(project: Project) -> list[Column]:
-    return [
-        Column(("polygon",), "Polygon", "file next to the project", TEXT),
-        Column(("exclude",), "May not be mined", "side of the polygon", CHOICE, SIDES),
-    ]
-
-
-OF_KIND = {
-    "metals": of_metals,
-    "processes": of_processes,
-    "stockpiles": of_stockpiles,
-    "dumps": of_dumps,
-    "periods": of_periods,
-    CLASSES: of_classes,
-    "slopes": of_slopes,
-    "areas": of_areas,
+# Keys by names that a project gives.
+NAMED = {
+    "recovery": by_metal,
+    "prices": by_metal,
+    "capacity": by_process,
+    "minimum": minimums,
+    "feed": of_feed,
+    "accepts": of_accepts,
+    "opening": of_opening,
+    "stockpiles": of_places,
+    "dumps": of_places,
 }

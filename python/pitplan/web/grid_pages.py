@@ -77,7 +77,7 @@ class GridPages:
             return self.pages.project_page(name, editor, 422)
         try:
             project_text.demand_seen(path, name, form.get("seen", ""))
-            text = with_named_process(editor.text, form.get("name", "").strip(), name)
+            text = with_named_process(editor.text, form.get("name", "").strip())
             self.write(path, name, Editor(text, form.get("seen", "")))
         except PlanError as error:
             grid = replace(forms.grids["processes"], wrong=str(error))

@@ -5,17 +5,18 @@ from __future__ import annotations
 import json
 import re
 from collections.abc import Mapping, Sequence
-from copy import deepcopy
 from dataclasses import dataclass, replace
 from decimal import Decimal
 from typing import Any, Optional
 
 from pitplan.config import toml_text
 from pitplan.config.project import Project
+from pitplan.config.project_writer import key_of
 from pitplan.config.toml_lines import entries
 from pitplan.errors import PlanError
 
-from . import class_rules, toml_edit
+from . import class_rules
+from .draft import Draft, Path
 from .grid_columns import CLASSES, KINDS, LIST, NUMBER, VALUE, Column, Kind, at, columns_of
 from .run_form import WrongForm
 from .values_form import NUMBER as A_NUMBER
@@ -72,12 +73,12 @@ class Grid:
 
 def grids_of(text: str, project: Project) -> dict[str, Grid]:
     """Returns all grids of a project's text, by name."""
-    data = toml_text.parsed(text, str(project.path))
-    return {name: grid_of(kind, text, data, project) for name, kind in KINDS.items()}
+    data, headers = toml_text.parsed(text, str(project.path)), {it.name for it in entries(text) if it.is_header}
+    return {name: grid_of(kind, headers, data, project) for name, kind in KINDS.items()}
 
 
-def grid_of(kind: Kind, text: str, data: Mapping[str, Any], project: Project) -> Grid:
-    """Returns a grid of a project's text."""
+def grid_of(kind: Kind, headers: set[str], data: Mapping[str, Any], project: Project) -> Grid:
+    """Returns a grid of a project's text with these headers."""
     found = at(data, kind.header.split("."))
     listed = class_rules.rows_of(data) if kind.name == CLASSES else found if isinstance(found, list) else []
     columns = columns_of(kind.name, project, listed)
@@ -89,16 +90,15 @@ def grid_of(kind: Kind, text: str, data: Mapping[str, Any], project: Project) ->
             else "The project names no column of resource classes: add class to [table]"
         )
         return Grid(kind, columns, rows, none)
-    return Grid(kind, columns, rows, why_not(kind, text, data))
+    return Grid(kind, columns, rows, why_not(kind, headers, data))
 
 
-def why_not(kind: Kind, text: str, data: Mapping[str, Any]) -> str:
+def why_not(kind: Kind, headers: set[str], data: Mapping[str, Any]) -> str:
     """Returns why a list cannot be changed as a grid; empty if it can."""
     found = at(data, kind.header.split("."))
-    headers = [it for it in entries(text) if not it.end and re.fullmatch(re.escape(kind.header) + r" \d+", it.name)]
     if isinstance(found, str):
         return f"{kind.title} are in the table {found}: change them there"
-    if found is not None and (not isinstance(found, list) or len(headers) != len(found)):
+    if found is not None and (not isinstance(found, list) or f"{kind.header} {len(found)}" not in headers):
         return f"{kind.title} are not written as [[{kind.header}]]: change them in the text"
     if kind.name == "stockpiles" and at(data, ("schedule", "stockpile")) is not None:
         return "The stockpile has the short form [schedule.stockpile]: change it in the text, or write it as [[schedule.stockpiles]] there"
@@ -125,7 +125,7 @@ def toml_of(value: Any) -> str:
     if isinstance(value, list):
         return f"[{', '.join(map(toml_of, value))}]"
     if isinstance(value, dict):
-        return f"{{ {', '.join(f'{toml_edit.quoted(key)} = {toml_of(it)}' for key, it in value.items())} }}"
+        return f"{{ {', '.join(f'{key_of(key)} = {toml_of(it)}' for key, it in value.items())} }}"
     return json.dumps(str(value), ensure_ascii=False)
 
 
@@ -197,92 +197,37 @@ def changed(text: str, before: Grid, after: Grid, name: str) -> str:
         raise WrongForm(f"{before.why_not}.")
     if before.kind.name == CLASSES:
         old, new = ([row.cells for row in it.rows] for it in (before, after))
-        return class_rules.with_rules(text, old, new, name)
-    header, empty = before.kind.header, ("",) * len(before.columns)
-    changes = [
-        changes_of(before, row, number, empty if row.source is None else before.rows[row.source].cells)
-        for number, row in enumerate(after.rows, 1)
-    ]
-    expected = expected_data(text, before, after, changes)
-    for row, its in zip(after.rows, changes):
-        for it in its if row.source is not None else ():
-            text = with_change(text, f"{header} {1 + (row.source or 0)}", it)
+        return class_rules.with_rules(text, old, new)
     kept = [row.source for row in after.rows if row.source is not None]
     if kept != sorted(set(kept)):
         raise WrongForm(f"{before.kind.title}: the rows are in another order than in the file: open the project again")
-    for number in sorted({*range(len(before.rows))} - {*kept}, reverse=True):
-        text = toml_edit.without_block(text, f"{header} {number + 1}")
-    text = with_new_rows(text, header, after, changes)
-    demand_same(text, expected, before, name)
-    return text
-
-
-def with_change(text: str, section: str, change: Change) -> str:
-    if change.value is None:
-        return toml_edit.without_key(text, section, change.path)
-    return toml_edit.with_key(text, section, change.path, change.value)
-
-
-def with_new_rows(text: str, header: str, grid: Grid, changes: list[list[Change]]) -> str:
-    """Returns a text with the new rows of a grid, each before the next one that the file has, otherwise at the end."""
-    keys = [[(it.path, it.value) for it in its if it.value is not None] for its in changes]
-    is_new = [row.source is None for row in grid.rows]
-    last = max((k + 1 for k, new in enumerate(is_new) if not new), default=0)
-    for row in keys[last:]:
-        text = toml_edit.with_block(text, header, row)
-    before = sum(not new for new in is_new)
-    for k in range(last - 1, -1, -1):
-        if is_new[k]:
-            text = toml_edit.with_block(text, header, keys[k], f"{header} {before + 1}")
-        else:
-            before -= 1
-    return text
-
-
-def expected_data(text: str, before: Grid, after: Grid, changes: list[list[Change]]) -> dict[str, Any]:
-    """Returns the data that a text must have after the changes."""
-    data = deepcopy(toml_text.parsed(text, "project"))
-    *sections, key = before.kind.header.split(".")
-    holder = data
-    for section in sections:
-        holder = holder.setdefault(section, {})
-    old, found = holder.get(key, []), []
-    for row, its in zip(after.rows, changes):
-        entry = {} if row.source is None else deepcopy(old[row.source])
-        for it in its:
-            assign(entry, it)
-        found.append(entry)
-    holder[key] = found
-    return data
-
-
-def assign(entry: dict[str, Any], change: Change) -> None:
-    *tables, key = change.path
-    for table in tables:
-        if not isinstance(entry.get(table), dict):
-            entry[table] = {}
-        entry = entry[table]
-    if change.value is None:
-        entry.pop(key, None)
-    else:
-        entry[key] = toml_text.parsed(f"value = {change.value}", "cell")["value"]
-
-
-def pruned(value: Any) -> Any:
-    """Returns data without tables and lists that are empty."""
-    if isinstance(value, dict):
-        inner = {key: pruned(it) for key, it in value.items()}
-        return {key: it for key, it in inner.items() if it not in ({}, [])}
-    return [pruned(it) for it in value] if isinstance(value, list) else value
-
-
-def demand_same(text: str, expected: dict[str, Any], grid: Grid, name: str) -> None:
-    """Raises WrongForm if a text has other data than is expected."""
+    draft, path, empty = Draft(text), path_of(before.kind), ("",) * len(before.columns)
+    rows = [
+        changes_of(before, row, number, empty if row.source is None else before.rows[row.source].cells)
+        for number, row in enumerate(after.rows, 1)
+    ]
     try:
-        is_same = pruned(toml_text.parsed(text, name)) == pruned(expected)
-    except PlanError:
-        is_same = False
-    if not is_same:
-        raise WrongForm(
-            f"{grid.kind.title}: {name} writes [[{grid.kind.header}]] in a way that this grid cannot change: change it in the text"
-        )
+        for row, changes in zip(after.rows, rows):
+            if row.source is not None:
+                for it in changes:
+                    change(draft, (*path, row.source, *it.path), it)
+    except PlanError as error:
+        where = f"{before.kind.title}: {name} writes [[{before.kind.header}]]"
+        raise WrongForm(f"{where} in a way that this grid cannot change: change it in the text") from error
+    for number in sorted({*range(len(before.rows))} - {*kept}, reverse=True):
+        draft.drop(path, number)
+    for number, (row, changes) in enumerate(zip(after.rows, rows)):
+        if row.source is None:
+            draft.insert(path, number, {it.path: it.value for it in changes if it.value is not None})
+    return draft.text
+
+
+def path_of(kind: Kind) -> Path:
+    return tuple(kind.header.split("."))
+
+
+def change(draft: Draft, path: Path, it: Change) -> None:
+    if it.value is None:
+        draft.remove(path)
+    else:
+        draft.set(path, it.value)

@@ -263,6 +263,8 @@ class Jobs:
 
     def usual_seconds(self, job: Job) -> Optional[float]:
         """Returns how long the last such job took that succeeded; None without one."""
+        if not self.ended:
+            self.all()
         same = (DONE, job.words[:1], job.project)
         before = [
             it

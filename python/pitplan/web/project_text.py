@@ -6,18 +6,14 @@ import fcntl
 import os
 from collections.abc import Iterator
 from contextlib import contextmanager, suppress
-from dataclasses import dataclass
+from dataclasses import dataclass, replace
 from pathlib import Path
 from typing import Optional
 
 from pitplan.config import toml_text
 from pitplan.config.project import Project, of_data
-from pitplan.config.toml_lines import line_of_error
 from pitplan.core.atomic_files import hash_of, staged_file
 from pitplan.errors import PlanError
-
-from .grids import Grid, grids_of
-from .values_form import Field, fields_of
 
 # The most letters of a project that is edited here.
 MOST_LETTERS = 300_000
@@ -76,7 +72,7 @@ def judged(editor: Editor, path: Path, name: str) -> Editor:
     except PlanError as error:
         # The command line names files from the folder in which it runs.
         why = str(error).replace(f"{path.parent}/", name[: name.rfind("/") + 1])
-        return Editor(editor.text, editor.seen, why, line_of_error(editor.text, why), is_unsaved=editor.is_unsaved)
+        return replace(editor, wrong=why, line=getattr(error, "line", None))
     return editor
 
 
@@ -84,19 +80,7 @@ def demand_project(text: str, path: Path, name: str) -> Project:
     """Returns the project of a text. Raises PlanError if the text is not a project."""
     if len(text) > MOST_LETTERS:
         raise PlanError(f"{name}: found {len(text):,} letters, expected at most {MOST_LETTERS:,}: use another editor")
-    return of_data(toml_text.parsed(text, name), path, name)
-
-
-def fields_in(path: Path, name: str) -> list[Field]:
-    """Returns the numbers of a project's file that a form changes; none if it has an error."""
-    editor = opened(path, name)
-    return [] if editor.wrong else fields_of(editor.text, demand_project(editor.text, path, name))
-
-
-def grids_in(path: Path, name: str) -> dict[str, Grid]:
-    """Returns the grids of a project's file; none if it has an error."""
-    editor = opened(path, name)
-    return {} if editor.wrong else grids_of(editor.text, demand_project(editor.text, path, name))
+    return of_data(toml_text.parsed(text, name), path, name, text)
 
 
 def sent(text: str) -> str:

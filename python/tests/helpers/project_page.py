@@ -2,8 +2,6 @@
 
 from __future__ import annotations
 
-import re
-
 from conftest import PROJECT, ROOT
 
 PAGE = (ROOT / "docs" / "reference" / "project-keys.md").read_text(encoding="utf-8")
@@ -93,24 +91,6 @@ def several():
     """A project with [[processes]]."""
     text = PROJECT.replace("processing_cost = 10\n", "").replace("recovery = 0.5\n", "")
     return text.replace("processing_capacity = 100\n", "") + PROCESSES
-
-
-def parts_of_page():
-    """The text below each heading of a section, by its name; that of the top level has none."""
-    parts = re.split(r"^## ", PAGE, flags=re.MULTILINE)[1:]
-    found = {title.strip("`[]"): text for title, _, text in (part.partition("\n") for part in parts)}
-    return {"" if name == "Top level" else name: text for name, text in found.items()}
-
-
-def part_of(section):
-    """The text in which the keys of a section are due: its own, or that of the section that it is in."""
-    parts = parts_of_page()
-    return parts[max((it for it in parts if section == it or section.startswith(f"{it}.")), key=len, default="")]
-
-
-def keys_of(text):
-    """The pieces of code of a text, word by word."""
-    return {word for piece in re.findall(r"`([^`\n]+)`", text) for word in re.findall(r"[A-Za-z_]\w*", piece)}
 
 
 def entry(data, section):

@@ -1,6 +1,6 @@
 """Compares what the planner and the audit read: projects, tables and surveys."""
 
-from dataclasses import fields, is_dataclass, replace
+from dataclasses import fields, is_dataclass
 from decimal import Decimal
 from pathlib import Path
 
@@ -16,14 +16,13 @@ from planaudit.inputs.row_rules import RowRules
 
 def differences(audit, planner, where="project"):
     """Yields where the audit's reading of a project differs from the planner's."""
-    if isinstance(audit, Wall) and audit.bench:
-        # The planner adds the angle of benches; the audit computes with the benches themselves.
-        planner = replace(planner, angles=())
     if isinstance(audit, RowRules):
         planner = as_audited(planner)
     if is_dataclass(audit):
         # What the only process accepts is read with the process, and columns are kept for scenarios.
         own = {"accepts", "kept"} if isinstance(audit, Project) else set()
+        # The planner adds the angle of benches; the audit computes with the benches themselves.
+        own |= {"angles"} if isinstance(audit, Wall) and audit.bench else set()
         for field in [it for it in fields(audit) if it.name not in own]:
             yield from differences(getattr(audit, field.name), getattr(planner, field.name), f"{where}.{field.name}")
     elif isinstance(audit, (tuple, list)) and isinstance(planner, (tuple, list)) and len(audit) == len(planner):

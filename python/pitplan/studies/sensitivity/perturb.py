@@ -175,7 +175,7 @@ def slopes(project: Project, by: Decimal, metal: str) -> Project:
             raise PlanError(
                 f"{project.path}: [sensitivity] changes: slope angles times {by} are outside 1 to 90 degrees"
             )
-        walls.append(replace(wall, angles=angles, bench=None))
+        walls.append(replace(wall.with_angles(angles), bench=None))
     return replace(project, slopes=replace(project.slopes, domains=tuple(walls)))
 
 
@@ -202,8 +202,7 @@ def haulage(project: Project, by: Decimal, metal: str) -> Project:
     """Changes the haulage costs of ore and waste."""
     rules = project.haulage
     assert rules is not None
-    ore, waste = (replace(road, cost=road.cost * by) for road in (rules.ore, rules.waste))
-    return replace(project, haulage=replace(rules, ore=ore, waste=waste))
+    return replace(project, haulage=replace(rules, cost={kind: cost * by for kind, cost in rules.cost.items()}))
 
 
 VARIED: dict[str, Callable[[Project, Decimal, str], Project]] = {
