@@ -15,7 +15,7 @@ import schedules
 from schedules import MILLION, Problem, Shares, Term
 
 TOP = pathlib.Path(__file__).resolve().parent.parent
-PROGRAM = TOP / "build" / "pitschedule"
+PROGRAM = pathlib.Path(os.environ.get("PITSCHEDULE", TOP / "build" / "pitschedule")).resolve()
 EXAMPLE = TOP / "crates" / "pitschedule" / "data"
 FILES = ("problem", "prec", "schedule", "prices")
 
@@ -445,6 +445,11 @@ def test_a_wrong_command_line(folder: Folder, words: list[str]) -> None:
     assert ran.returncode == 2 and ran.stdout == b"" and ran.stderr
 
 
+def test_an_argument_that_is_no_text(folder: Folder) -> None:
+    ran = subprocess.run([PROGRAM, "check", "--problem", b"\xff"], cwd=folder.folder, capture_output=True, timeout=60)
+    assert (ran.returncode, ran.stdout, ran.stderr) == (2, b"", b"pitschedule: an argument is not UTF-8\n")
+
+
 def test_memory_is_refused(folder: Folder) -> None:
     """4,194,304 nodes need more than 60 MiB; the refusal is told, and nothing is written."""
     folder.write("problem", "PROBLEM 1\nBLOCKS 1\nPERIODS 4\nDESTINATIONS 64\nCOLUMNS 0\nLIMITS 0\nVALUES 0\nUSES 0\nDISCOUNTS 1 1 1 1\nAMOUNTS\n")
@@ -464,4 +469,4 @@ def test_memory_is_refused(folder: Folder) -> None:
 
 def test_help_names_both_commands() -> None:
     ran = subprocess.run([PROGRAM, "--help"], capture_output=True, text=True, timeout=60, env={**os.environ, "COLUMNS": "100"})
-    assert ran.returncode == 0 and "check" in ran.stdout and "bound" in ran.stdout
+    assert ran.returncode == 0 and ran.stderr == "" and "check" in ran.stdout and "bound" in ran.stdout

@@ -1,11 +1,14 @@
-//! The command line of `pitshell` for `clap`: its subcommands, their options and the help. `tools/make_docs.py` makes the man page,
-//! the completions and the table of options of that help.
+//! The command lines of `pitshell` and `pitschedule` for `clap`: subcommands, their options and the help. `tools/make_docs.py` makes the
+//! man pages, the completions and the table of options of `pitshell` from that help.
 #![tactic(auto)]
+
+mod schedules;
 
 ghost use Rattle.std.specs.Prelude.{◌≡◌, ◌∷◌, [], ◌++◌, codes, IfOk};
 ghost use Rattle.command_line.specs.Options.{settings_options, blocks_options, check_options, column_options, mine_options, needed, offered, output_options, replay_options, shells_options, solve_options, standing, subcommands_in, watch_options, AddsOptions, HasOptions, IsOption};
 
 use clap::{Arg, ArgAction, Command, value_parser};
+pub use schedules::schedule_command;
 use std::alloc::{AllocError, Global};
 
 const STATUSES: &str = "Exit status:\n  \

@@ -2,29 +2,24 @@
 //! The crate `schedule_runs` does the work over the bytes of the files; `main` reads them and gives the exit status.
 #![tactic(auto)]
 
-mod command;
 mod messages;
 mod options;
 
 use clap::error::ErrorKind;
-use command::command;
+use command_line::schedule_command;
 use faults::{Fault, Refusal, Source};
 use messages::print_refusal;
 use minelib_reader::{FileReader, StreamWriter, read_all};
 use options::{Options, ProblemNames};
-use schedule_runs::{ProblemTexts, Refused, Verdict, run_bound, run_check, run_check_and_bound};
+use schedule_runs::{
+    ProblemTexts, Refused, Verdict, exit_status, run_bound, run_check, run_check_and_bound,
+};
 use std::fs::File;
 use std::process::ExitCode;
 use std::{env, io};
 
-/// The statuses: the answer was written, a fault, a wrong command line, and no schedule.
-const DONE: u8 = 0;
-
-const FAULT: u8 = 1;
-
+/// The exit status of a wrong command line.
 const WRONG_COMMAND: u8 = 2;
-
-const NO_SCHEDULE: u8 = 4;
 
 /// Returns the bytes of a file.
 fn read_file(rt: &HostRuntime, path: &str) -> Result<Vec<u8>, Fault> {
@@ -109,60 +104,57 @@ fn bound(rt: &HostRuntime, names: ProblemNames<'_>, prices: &str) -> Result<(), 
     run_bound(rt.alloc(), files.texts(), &prices, &mut out)
 }
 
-/// Runs a subcommand and returns its status.
-fn run(rt: &HostRuntime, options: Options<'_>) -> Result<u8, Refused> {
+/// Runs a subcommand. Returns the verdict of `check`, and None of `bound`.
+fn run(rt: &HostRuntime, options: Options<'_>) -> Result<Option<Verdict>, Refused> {
     match options {
-        Options::Check(names, schedule, prices) => match check(rt, names, schedule, prices)? {
-            Verdict::Schedule(_) => Ok(DONE),
-            _ => Ok(NO_SCHEDULE),
-        },
+        Options::Check(names, schedule, prices) => Ok(Some(check(rt, names, schedule, prices)?)),
         Options::Bound(names, prices) => {
             bound(rt, names, prices)?;
-            Ok(DONE)
+            Ok(None)
         }
     }
+}
+
+/// Reports how a run ended: prints a refusal to standard error and returns the exit status.
+fn ended(rt: &HostRuntime, outcome: &Result<Option<Verdict>, Refused>) -> ExitCode {
+    if let Err(refused) = outcome {
+        print_refusal(rt, refused);
+    }
+    ExitCode::from(exit_status(outcome))
 }
 
 /// Runs the subcommand of a command line that `clap` has read.
-fn run_options(rt: &HostRuntime, options: Option<Options<'_>>) -> u8 {
-    let Some(options) = options else {
-        return WRONG_COMMAND;
-    };
-    match run(rt, options) {
-        Ok(status) => status,
-        Err(refused) => {
-            print_refusal(rt, &refused);
-            FAULT
-        }
+fn run_options(rt: &HostRuntime, options: Option<Options<'_>>) -> ExitCode {
+    match options {
+        Some(options) => ended(rt, &run(rt, options)),
+        None => ExitCode::from(WRONG_COMMAND),
     }
 }
 
-/// Prints help, the version, or what is wrong with the command line.
-fn explain(rt: &HostRuntime, error: &clap::Error) -> u8 {
+/// Prints help, the version, or the fault of the command line. Lack of memory is a refusal here too.
+fn explain(rt: &HostRuntime, error: &clap::Error) -> ExitCode {
     if error.kind() == ErrorKind::OutOfMemory {
-        print_refusal(rt, &Refused::NoMemory);
-        return FAULT;
+        return ended(rt, &Err(Refused::NoMemory));
     }
     let _ = error.print(rt);
-    error.exit_code() as u8
+    ExitCode::from(error.exit_code() as u8)
 }
 
 fn main(rt: HostRuntime) -> ExitCode {
     let words = match env::args(&rt) {
         Ok(words) => words,
-        Err(_) => {
+        Err(error) if error.kind() == io::ErrorKind::InvalidData => {
             let _ = rt.eprintln("pitschedule: an argument is not UTF-8");
             return ExitCode::from(WRONG_COMMAND);
         }
+        Err(_) => return ended(&rt, &Err(Refused::NoMemory)),
     };
-    let (Ok(words), Ok(command)) = (words.collect(rt.alloc()), command(rt.alloc())) else {
-        print_refusal(&rt, &Refused::NoMemory);
-        return ExitCode::from(FAULT);
+    let (Ok(words), Ok(command)) = (words.collect(rt.alloc()), schedule_command(rt.alloc())) else {
+        return ended(&rt, &Err(Refused::NoMemory));
     };
     let words: Vec<String> = words;
-    let status = match command.try_get_matches_from(&words) {
+    match command.try_get_matches_from(&words) {
         Ok(matches) => run_options(&rt, Options::of(&matches)),
         Err(error) => explain(&rt, &error),
-    };
-    ExitCode::from(status)
+    }
 }

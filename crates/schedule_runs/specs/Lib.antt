@@ -5,3 +5,4 @@ pub mod Verdicts
 pub mod Refusals
 pub mod Runs
 pub mod OneAnswer
+pub mod Status

@@ -8,6 +8,7 @@ mod problem;
 mod refused;
 mod run;
 mod shares;
+mod status;
 mod terms;
 mod text;
 mod verdict;
@@ -17,4 +18,5 @@ pub use laws::{answered_texts_are_not_refused, runs_write_one_text, texts_have_o
 pub use refused::Refused;
 pub use run::{ProblemTexts, run_bound, run_check, run_check_and_bound};
 pub use shares::Share;
+pub use status::exit_status;
 pub use verdict::Verdict;
