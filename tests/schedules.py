@@ -92,6 +92,14 @@ def faults_of(problem: Problem, shares: Shares) -> list[str]:
     return faults
 
 
+def are_whole(problem: Problem, shares: Shares) -> bool:
+    """Whether each block is mined whole in one period, or never."""
+    mined: dict[tuple[int, int], int] = {}
+    for (block, period, _), share in shares.items():
+        mined[block, period] = mined.get((block, period), 0) + share
+    return set(mined.values()) <= {0, MILLION}
+
+
 def bound_of(problem: Problem, prices: list[list[int]]) -> int:
     """The Lagrangian bound in millionths, rounded up, over all closed sets of nodes (block, period)."""
     best = [[0] * (problem.periods + 1) for _ in range(problem.blocks)]

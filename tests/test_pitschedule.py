@@ -58,7 +58,7 @@ def test_a_schedule_with_a_stockpile_reaches_the_bound(folder: Folder) -> None:
     """Half of the waste (-2 a tonne) and half of the ore (10) in each period, discounted by a half in the second. The second half of the
     waste stays on the stockpile until after the end and costs nothing: 0.5 * -2 + 0.5 * 10 + 0.5 * 0.5 * 10 = 6.5. The price 1.5 of a
     tonne mined in the first period makes the bound the same."""
-    assert folder.check() == (0, "SCHEDULE\nVALUE: 6.500000\nBOUND: 6.500000\n", "")
+    assert folder.check() == (0, "SCHEDULE\nVALUE: 6.500000\nWHOLE BLOCKS: no\nBOUND: 6.500000\n", "")
 
 
 def test_the_bound_alone(folder: Folder) -> None:
@@ -66,7 +66,7 @@ def test_the_bound_alone(folder: Folder) -> None:
 
 
 def test_the_value_alone(folder: Folder) -> None:
-    assert folder.run("check", "problem", "prec", "schedule") == (0, "SCHEDULE\nVALUE: 6.500000\n", "")
+    assert folder.run("check", "problem", "prec", "schedule") == (0, "SCHEDULE\nVALUE: 6.500000\nWHOLE BLOCKS: no\n", "")
 
 
 @pytest.mark.parametrize(
@@ -84,7 +84,26 @@ def test_why_shares_are_no_schedule(folder: Folder, shares: Shares, told: str) -
 
 def test_shares_of_one_place_add_up(folder: Folder) -> None:
     folder.write("schedule", "SCHEDULE 1\nSHARES 5\nSHARE 0 0 1 0.25\nSHARE 1 0 0 0.5\nSHARE 0 1 2 0.5\nSHARE 1 1 0 0.5\nSHARE 0 0 1 0.25\n")
-    assert folder.check()[:2] == (0, "SCHEDULE\nVALUE: 6.500000\nBOUND: 6.500000\n")
+    assert folder.check()[:2] == (0, "SCHEDULE\nVALUE: 6.500000\nWHOLE BLOCKS: no\nBOUND: 6.500000\n")
+
+
+@pytest.mark.parametrize(
+    "shares, whole",
+    [
+        ({(0, 0, 1): MILLION, (1, 1, 0): MILLION}, "yes"),
+        ({(0, 0, 1): MILLION, (1, 1, 0): 500000, (1, 1, 2): 500000}, "yes"),
+        ({(0, 0, 1): MILLION}, "yes"),
+        ({}, "yes"),
+        ({(0, 0, 1): MILLION - 1}, "no"),
+        ({(0, 0, 1): MILLION, (1, 1, 0): 1}, "no"),
+        ({(0, 0, 1): 500000, (0, 1, 1): 500000}, "no"),
+    ],
+)
+def test_whether_blocks_are_whole(folder: Folder, shares: Shares, whole: str) -> None:
+    """A block of which parts go to two destinations in one period is whole; one of which parts are mined in two periods is not."""
+    folder.write("schedule", schedules.schedule_text(shares))
+    status, out, _ = folder.run("check", "problem", "prec", "schedule")
+    assert (status, out.splitlines()[2]) == (0, f"WHOLE BLOCKS: {whole}")
 
 
 # ---- random problems
@@ -161,7 +180,7 @@ def test_values_and_bounds_of_random_problems(folder: Folder, seed: int) -> None
         assert told(out, "BOUND") == float(schedules.six_decimals(schedules.bound_of(problem, prices)))
         if best.status == 0:
             assert not faults
-            assert out.splitlines()[1] == f"VALUE: {schedules.six_decimals(schedules.value_of(problem, shares))}"
+            assert out.splitlines()[1:3] == [f"VALUE: {schedules.six_decimals(schedules.value_of(problem, shares))}", "WHOLE BLOCKS: yes"]
             assert told(out, "BOUND") >= -best.fun - 1e-6
         if (duals := prices_of(problem)) is not None:
             folder.write("prices", schedules.prices_text(duals))
@@ -185,7 +204,8 @@ def test_random_shares(folder: Folder, seed: int) -> None:
         if faults:
             assert (status, out) == (4, f"NO SCHEDULE\n{faults[0]}\n")
         else:
-            assert (status, out) == (0, f"SCHEDULE\nVALUE: {schedules.six_decimals(schedules.value_of(problem, shares))}\n")
+            whole = "yes" if schedules.are_whole(problem, shares) else "no"
+            assert (status, out) == (0, f"SCHEDULE\nVALUE: {schedules.six_decimals(schedules.value_of(problem, shares))}\nWHOLE BLOCKS: {whole}\n")
         seen.add(out.split(" ")[1].split("\n")[-1] if faults else "schedule")
     assert {"schedule", "block", "limit"} <= seen
 
@@ -193,14 +213,15 @@ def test_random_shares(folder: Folder, seed: int) -> None:
 # ---- altered and cut files
 
 
-def answer_of(texts: dict[str, bytes]) -> tuple[str, str] | None:
-    """Value and bound that the texts spell, read in Python; none if they cannot be read or are no schedule."""
+def answer_of(texts: dict[str, bytes]) -> tuple[str, str, str] | None:
+    """Value, whether blocks are whole, and bound, as the texts spell them, read in Python; none if they cannot be read or are no schedule."""
     problem = schedules.read_problem(texts["problem"], [(1, 0)])
     shares = schedules.read_shares(texts["schedule"])
     if schedules.faults_of(problem, shares):
         return None
     bound = schedules.bound_of(problem, schedules.read_prices(texts["prices"], problem))
-    return schedules.six_decimals(schedules.value_of(problem, shares)), schedules.six_decimals(bound)
+    whole = "yes" if schedules.are_whole(problem, shares) else "no"
+    return schedules.six_decimals(schedules.value_of(problem, shares)), whole, schedules.six_decimals(bound)
 
 
 @pytest.mark.parametrize("name", ["problem", "schedule", "prices"])
@@ -216,8 +237,8 @@ def test_each_byte_altered(folder: Folder, name: str) -> None:
             status, out, err = folder.check()
             statuses.add(status)
             if status == 0:
-                value, bound = answer_of(texts) or ("", "")
-                assert out == f"SCHEDULE\nVALUE: {value}\nBOUND: {bound}\n"
+                value, are_whole, bound = answer_of(texts) or ("", "", "")
+                assert out == f"SCHEDULE\nVALUE: {value}\nWHOLE BLOCKS: {are_whole}\nBOUND: {bound}\n"
             else:
                 assert status == 4 or (status == 1 and out == "" and err.startswith("pitschedule: "))
     assert statuses >= {0, 1}
@@ -337,7 +358,7 @@ def test_the_last_lawful_count(folder: Folder, last: dict[str, int], above: dict
     folder.write("prec", "")
     folder.write("schedule", "SCHEDULE 1\nSHARES 0\n")
     folder.write("problem", sized(**last))
-    assert folder.run("check", "problem", "prec", "schedule") == (0, "SCHEDULE\nVALUE: 0.000000\n", "")
+    assert folder.run("check", "problem", "prec", "schedule") == (0, "SCHEDULE\nVALUE: 0.000000\nWHOLE BLOCKS: yes\n", "")
     folder.write("problem", sized(**above))
     assert folder.run("check", "problem", "prec", "schedule") == (1, "", f"pitschedule: problem: {told}\n")
 
@@ -353,7 +374,7 @@ def test_the_last_lawful_number_of_pairs(folder: Folder) -> None:
     folder.write("problem", sized(blocks=blocks, periods=64))
     folder.write("schedule", "SCHEDULE 1\nSHARES 0\n")
     for arcs, answer in [
-        (most, (0, "SCHEDULE\nVALUE: 0.000000\n", "")),
+        (most, (0, "SCHEDULE\nVALUE: 0.000000\nWHOLE BLOCKS: yes\n", "")),
         (
             most + 1,
             (1, "", "pitschedule: problem: 67108928 pairs of nodes (periods times the sum of arcs and blocks), allowed are 0 to 67108864\n"),

@@ -43,6 +43,9 @@ total-upto a n f least upto =
     let s : total (a + (n - a)) f ≡ total n f = ap (λ m. total m f) e in
     omega (arith, ints, total-rises a (n - a) f least)
 
+pub mined_least : (problem : Problem) (shares : List ℕ) (b t : ℕ) → pos 0 ≤ℤ mined problem shares b t
+mined_least problem shares b t = total-not_negative problem.destinations (λ d. share problem shares b t d) (λ d h. omega (arith, ints))
+
 module _ (problem : Problem) (whole : ℕ) (shares : List ℕ) (schedule : IsScheduleOf whole problem shares) where
   n : ℕ
   n = problem.blocks
@@ -58,7 +61,7 @@ module _ (problem : Problem) (whole : ℕ) (shares : List ℕ) (schedule : IsSch
 
   y_least : (b t : ℕ) → pos 0 ≤ℤ y b t
   unfolding y
-  y_least b t = total-not_negative problem.destinations (λ d. share problem shares b t d) (λ d h. omega (arith, ints))
+  y_least b t = mined_least problem shares b t
 
   pub z_at : (b t : ℕ) → b < problem.blocks → z (node problem b t) ≡ mined_in_first problem shares b (suc t)
   unfolding z by_end

@@ -1,11 +1,12 @@
 -- The schedules of two blocks: their sums compute.
-use Rattle.std.proofs.Common.{◌≡◌, ℕ, zero, suc, ◌<◌, List, refl, arith}
+use Rattle.std.proofs.Common.{◌≡◌, ℕ, zero, suc, ◌<◌, List, refl, arith, ⊎_elim, inl, inr}
 use Rattle.std.specs.Prelude.{ℤ, pos, ◌*ℤ◌, ◌≤ℤ◌, int_le, true}
 use Rattle.std.proofs.lemmas.Int.{ints}
 use Rattle.pit_model.specs.Graph.{first_of, second_of}
 use Rattle.schedule_model.specs.Problem.{capacity}
-use Rattle.schedule_model.specs.Schedule.{IsSchedule, mined_in_first, usage, whole_block}
-use Rattle.schedule_model.specs.ExampleSchedules.{SchedulesOfTwoBlocks, by_halves, in_turn, stocked, two_years}
+use Rattle.schedule_model.specs.Schedule.{IsSchedule, mined, mined_in_first, usage, whole_block}
+use Rattle.schedule_model.specs.WholeBlocks.{AreWholeBlocks, AreWholeIn, IsWholeOrLeft}
+use Rattle.schedule_model.specs.ExampleSchedules.{SchedulesOfTwoBlocks, by_halves, in_turn, split, stocked, two_years}
 
 -- what holds of 0 and of 1 holds below 2
 below_two : (P : ℕ → Type 0) → P 0 → P 1 → (i : ℕ) → i < 2 → P i
@@ -37,6 +38,14 @@ is_schedule shares a b c d e f g h = record {
       (below_two (λ s. usage two_years shares 1 s ≤ℤ (pos whole_block *ℤ capacity two_years 1 s)) (le _ _ g) (le _ _ h) s hs) r hr;
 }
 
+-- block 0 is mined in the first period and block 1 in the second
+are_whole : (shares : List ℕ) → mined two_years shares 0 0 ≡ pos whole_block → mined two_years shares 1 0 ≡ pos 0 → mined two_years shares 0 1 ≡ pos 0
+    → mined two_years shares 1 1 ≡ pos whole_block → AreWholeBlocks whole_block two_years shares
+are_whole shares a b c d t ht i hi =
+    below_two (AreWholeIn whole_block two_years shares)
+    (below_two (λ b. IsWholeOrLeft whole_block two_years shares b 0) (inr a) (inl b))
+    (below_two (λ b. IsWholeOrLeft whole_block two_years shares b 1) (inl c) (inr d)) t ht i hi
+
 pub schedules_of_two_blocks : SchedulesOfTwoBlocks
 schedules_of_two_blocks = record {
   turns = is_schedule in_turn refl refl refl refl refl refl refl refl;
@@ -45,6 +54,12 @@ schedules_of_two_blocks = record {
   halves_value = refl;
   stocks = is_schedule stocked refl refl refl refl refl refl refl refl;
   stocks_value = refl;
+  whole = are_whole in_turn refl refl refl refl;
+  split_is_whole = are_whole split refl refl refl refl;
+  halves_are_not_whole = λ each. ⊎_elim
+      (λ (none : pos 500000 ≡ pos 0). absurd (omega (arith, ints)))
+      (λ (all : pos 500000 ≡ pos 1000000). absurd (omega (arith, ints)))
+      (each 0 (omega arith) 0 (omega arith));
   mined_now = refl;
   milled_later = refl;
   not_milled_now = refl;

@@ -4,3 +4,4 @@ pub mod Levels
 pub mod Bounded
 pub mod ExampleSchedules
 pub mod OneBound
+pub mod WholeBlocks

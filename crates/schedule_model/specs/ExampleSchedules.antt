@@ -5,7 +5,8 @@ use Rattle.schedule_model.specs.declared.term.Term.{Term}
 use Rattle.schedule_model.specs.declared.term.Effect.{Effect}
 use Rattle.schedule_model.specs.declared.term.Effect.TheVariants.{Value, Use}
 use Rattle.schedule_model.specs.Problem.{Problem, capacity, gain, used}
-use Rattle.schedule_model.specs.Schedule.{IsSchedule, schedule_value, usage}
+use Rattle.schedule_model.specs.Schedule.{IsSchedule, schedule_value, usage, whole_block}
+use Rattle.schedule_model.specs.WholeBlocks.{AreWholeBlocks}
 use Rattle.schedule_model.specs.Bound.{IsRoundedUp, priced_gain}
 
 abbrev pub term : ℕ → Effect → ℕ → ℕ → Term
@@ -57,6 +58,10 @@ by_halves = shares_of (to_dump 500000) (to_mill 500000) (to_dump 500000) (to_mil
 abbrev pub stocked : List ℕ
 stocked = shares_of (to_dump 500000) (to_stockpile 500000) (to_dump 500000) (to_mill 500000)
 
+-- half of the ore goes to the mill and half onto the stockpile in the same period
+abbrev pub split : List ℕ
+split = shares_of (to_dump 1000000) none none (500000 ∷ 0 ∷ 500000 ∷ [])
+
 pub record SchedulesOfTwoBlocks : Type 0 where
   pub turns : IsSchedule two_years in_turn
   pub turns_value : schedule_value two_years in_turn ≡ pos 6000000
@@ -64,6 +69,9 @@ pub record SchedulesOfTwoBlocks : Type 0 where
   pub halves_value : schedule_value two_years by_halves ≡ pos 12000000
   pub stocks : IsSchedule two_years stocked
   pub stocks_value : schedule_value two_years stocked ≡ pos 7000000
+  pub whole : AreWholeBlocks whole_block two_years in_turn
+  pub split_is_whole : AreWholeBlocks whole_block two_years split
+  pub halves_are_not_whole : AreWholeBlocks whole_block two_years by_halves → ⊥
   pub mined_now : usage two_years stocked 0 0 ≡ pos 1000000
   pub milled_later : usage two_years stocked 1 1 ≡ pos 1000000
   pub not_milled_now : usage two_years stocked 1 0 ≡ pos 0

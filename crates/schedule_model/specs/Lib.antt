@@ -1,4 +1,5 @@
 pub mod Problem
 pub mod Schedule
+pub mod WholeBlocks
 pub mod Bound
 pub mod ExampleSchedules

@@ -4,6 +4,7 @@
 
 ghost use Rattle.schedule_model.specs.Bound.{BoundIsOne, ScheduleIsBounded};
 ghost use Rattle.schedule_model.specs.ExampleSchedules.{SchedulesOfTwoBlocks};
+ghost use Rattle.schedule_model.specs.WholeBlocks.{WholeBlocksKeepOrder};
 
 mod term;
 
@@ -18,6 +19,11 @@ pub fn schedule_is_bounded()
 /// A problem has one Lagrangian bound at given prices.
 pub fn bound_is_one()
     ensures { BoundIsOne }
+{}
+
+/// A schedule of whole blocks keeps strict precedence: each block is mined in one period at most, and not before a block that it needs.
+pub fn whole_blocks_keep_order()
+    ensures { WholeBlocksKeepOrder }
 {}
 
 /// What the definitions say of schedules of two blocks in two periods.

@@ -1,5 +1,5 @@
 -- A text spells one list of shares, of which one verdict is true, or is refused in one way.
-use Rattle.std.proofs.Common.{◌≡◌, ◌⊎◌, ℕ, zero, suc, ◌+◌, ◌-◌, ◌*◌, ◌<◌, ◌≤◌, List, length, get_or, sym, ap, subst, ◌∙◌, arith, ⊎_elim, Ok, Bool, true, false}
+use Rattle.std.proofs.Common.{◌≡◌, ◌⊎◌, ℕ, zero, suc, ◌+◌, ◌-◌, ◌*◌, ◌<◌, ◌≤◌, List, length, get_or, refl, sym, ap, subst, ◌∙◌, arith, ⊎_elim, Ok, Bool, true, false}
 use Rattle.std.specs.Prelude.{ℤ, pos, ◌==◌, ◌≤ℤ◌}
 use Rattle.std.proofs.lemmas.Bool.{cases_lt}
 use Rattle.std.proofs.lemmas.Int.{ints}
@@ -21,7 +21,7 @@ use Rattle.schedule_texts.specs.ScheduleText.{shares_in}
 use Rattle.schedule_runs.specs.OneAnswer.{BlamesATextFor, IsSameRefusal}
 use Rattle.schedule_runs.specs.Refusals.{RefusesSchedule, StaysWhole}
 use Rattle.schedule_runs.specs.SharesRead.{AreListed, AreSums, IsLawfulShare, IsListedShare, IsShareOf, SpellsShares, no_share, place_of, share_in, sum_at}
-use Rattle.schedule_runs.specs.Verdicts.{IsRoundedDown, Says}
+use Rattle.schedule_runs.specs.Verdicts.{IsRoundedDown, IsWholeVerdict, Says}
 use Rattle.schedule_runs.specs.declared.refused.Refused.{Refused}
 use Rattle.schedule_runs.specs.declared.refused.Refused.TheVariants as refusals
 use Rattle.schedule_runs.specs.declared.shares.Share.{Share}
@@ -202,21 +202,28 @@ module _ (problem : Problem) (shares : List ℕ) where
       let d = q.most in
       omega (arith, ints)
 
+  whole_once : (v w : Bool) → IsWholeVerdict problem shares v → IsWholeVerdict problem shares w → v ≡ w
+  whole_once true true p q = refl
+  whole_once true false p q = absurd (q.no refl (p.yes refl))
+  whole_once false true p q = absurd (p.no refl (q.yes refl))
+  whole_once false false p q = refl
+
   pub verdict_once : (v w : Verdict) → Says problem shares v → Says problem shares w → v ≡ w
-  verdict_once (Schedule x) (Schedule y) a b = ap (λ z. Schedule z) (down_once (schedule_value problem shares) x y a.1 b.1)
-  verdict_once (Schedule x) (MinedTwice b t) p q = absurd (in_order_not_twice b t (ordered p.0) q)
-  verdict_once (Schedule x) (BeforeNeeded b n t) p q = absurd (in_order_not_before b n t (ordered p.0) q)
-  verdict_once (Schedule x) (OverLimit r s used most) p q = absurd (q.0.5.broken (p.0.within r s q.0.0 q.0.1))
-  verdict_once (MinedTwice b t) (Schedule x) p q = absurd (in_order_not_twice b t (ordered q.0) p)
+  verdict_once (Schedule x v) (Schedule y w) a b =
+      ap (λ z. Schedule z v) (down_once (schedule_value problem shares) x y a.1 b.1) ∙ ap (Schedule y) (whole_once v w a.2 b.2)
+  verdict_once (Schedule x v) (MinedTwice b t) p q = absurd (in_order_not_twice b t (ordered p.0) q)
+  verdict_once (Schedule x v) (BeforeNeeded b n t) p q = absurd (in_order_not_before b n t (ordered p.0) q)
+  verdict_once (Schedule x v) (OverLimit r s used most) p q = absurd (q.0.5.broken (p.0.within r s q.0.0 q.0.1))
+  verdict_once (MinedTwice b t) (Schedule x v) p q = absurd (in_order_not_twice b t (ordered q.0) p)
   verdict_once (MinedTwice b t) (MinedTwice c s) p q = let e = twice_once b t c s p q in ap (λ z. MinedTwice z t) e.1 ∙ ap (MinedTwice c) e.0
   verdict_once (MinedTwice b t) (BeforeNeeded c n s) p q = absurd (twice_or_before b t c n s p q)
   verdict_once (MinedTwice b t) (OverLimit r s used most) p q = absurd (in_order_not_twice b t q.0.3 p)
-  verdict_once (BeforeNeeded b n t) (Schedule x) p q = absurd (in_order_not_before b n t (ordered q.0) p)
+  verdict_once (BeforeNeeded b n t) (Schedule x v) p q = absurd (in_order_not_before b n t (ordered q.0) p)
   verdict_once (BeforeNeeded b n t) (MinedTwice c s) p q = absurd (twice_or_before c s b n t q p)
   verdict_once (BeforeNeeded b n t) (BeforeNeeded c o s) p q =
       let e = before_once b n t c o s p q in ap (λ z. BeforeNeeded z n t) e.1 ∙ ap (λ z. BeforeNeeded c z t) e.2 ∙ ap (BeforeNeeded c o) e.0
   verdict_once (BeforeNeeded b n t) (OverLimit r s used most) p q = absurd (in_order_not_before b n t q.0.3 p)
-  verdict_once (OverLimit r s used most) (Schedule x) p q = absurd (p.0.5.broken (q.0.within r s p.0.0 p.0.1))
+  verdict_once (OverLimit r s used most) (Schedule x v) p q = absurd (p.0.5.broken (q.0.within r s p.0.0 p.0.1))
   verdict_once (OverLimit r s used most) (MinedTwice b t) p q = absurd (in_order_not_twice b t p.0.3 q)
   verdict_once (OverLimit r s used most) (BeforeNeeded b n t) p q = absurd (in_order_not_before b n t p.0.3 q)
   verdict_once (OverLimit r s used most) (OverLimit q t other top) x y =

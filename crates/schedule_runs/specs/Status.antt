@@ -5,7 +5,7 @@ use Rattle.schedule_runs.specs.declared.verdict.Verdict.{Verdict}
 use Rattle.schedule_runs.specs.declared.verdict.Verdict.TheVariants.{Schedule}
 
 abbrev pub verdict_status : Verdict → ℕ
-verdict_status (Schedule value) = 0
+verdict_status (Schedule value whole) = 0
 verdict_status _ = 4
 
 -- of a command with a verdict, or without one

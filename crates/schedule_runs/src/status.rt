@@ -12,7 +12,7 @@ pub fn exit_status(outcome: &Result<Option<Verdict>, Refused>) -> u8
 {
     match outcome {
         Ok(None) => 0,
-        Ok(Some(Verdict::Schedule(_))) => 0,
+        Ok(Some(Verdict::Schedule(_, _))) => 0,
         Ok(Some(_)) => 4,
         Err(_) => 1,
     }

@@ -1,25 +1,38 @@
 //! The texts of verdicts and bounds.
-ghost use Rattle.std.specs.Prelude.{◌≡◌, ◌<◌, ◌^◌, ◌++◌, [], IfErr};
+ghost use Rattle.std.specs.Prelude.{◌≡◌, ◌<◌, ◌≤◌, ◌^◌, ◌++◌, [], IfErr, length};
 ghost use Rattle.faults.specs.Refused.{write_failed};
 ghost use Rattle.minelib_reader.specs.Device.{Writes};
 ghost use Rattle.report.specs.Puts.{IsReady, Puts};
-ghost use Rattle.schedule_runs.specs.Verdicts.{bound_text, verdict_text};
+ghost use Rattle.schedule_runs.specs.Verdicts.{bound_text, verdict_text, whole_line};
 
 use crate::verdict::Verdict;
 use faults::Fault;
 use minelib_reader::OutBytes;
 use report::{Out, end_line, finish, put, put_millionths, put_number};
 
-/// Writes that shares are a schedule, and its value.
+/// Returns the line that says whether each block is mined whole.
+fn whole_line(whole: bool) -> &'static [u8]
+    ensures line { result.now ≡ whole_line whole }
+    ensures short { length result.now ≤ 65536 }
+{
+    if whole {
+        b"WHOLE BLOCKS: yes\n"
+    } else {
+        b"WHOLE BLOCKS: no\n"
+    }
+}
+
+/// Writes that shares are a schedule, its value, and whether each block is mined whole.
 #[tactic(auto, unfolding(crate::specs::Verdicts::verdict_text))]
-fn put_schedule<W: OutBytes>(writer: &mut W, out: &mut Out, value: i128)
+fn put_schedule<W: OutBytes>(writer: &mut W, out: &mut Out, value: i128, whole: bool)
     requires { IsReady (W.progress writer.old) out.old }
-    ensures puts { Puts (W.progress writer.old) out.old (W.progress writer.new) out.new (verdict_text (Verdict.Schedule value)) }
+    ensures puts { Puts (W.progress writer.old) out.old (W.progress writer.new) out.new (verdict_text (Verdict.Schedule value whole)) }
     ensures ready { IsReady (W.progress writer.new) out.new }
 {
     put(writer, out, b"SCHEDULE\nVALUE: ");
     put_millionths(writer, out, value);
     end_line(writer, out);
+    put(writer, out, whole_line(whole));
 }
 
 /// Writes which block is mined more than once.
@@ -92,7 +105,7 @@ pub(crate) fn put_verdict<W: OutBytes>(writer: &mut W, out: &mut Out, verdict: V
     ensures ready { IsReady (W.progress writer.new) out.new }
 {
     match verdict {
-        Verdict::Schedule(value) => put_schedule(writer, out, value),
+        Verdict::Schedule(value, whole) => put_schedule(writer, out, value, whole),
         Verdict::MinedTwice(block, period) => put_mined_twice(writer, out, block, period),
         Verdict::BeforeNeeded(block, needed, period) => {
             put_before_needed(writer, out, block, needed, period)

@@ -3,23 +3,24 @@ ghost use Rattle.std.specs.Prelude.{◌≡◌, ◌<◌, ◌*◌, IfOk, IfErr, le
 ghost use Rattle.schedule_bound.specs.Worth.{HasNodes, RefusesBound};
 ghost use Rattle.schedule_model.specs.Bound.{IsLagrangianBound, IsRoundedUp};
 ghost use Rattle.schedule_model.specs.Problem.{capacity};
-ghost use Rattle.scheduling.specs.Checked.{RefusesShares};
+ghost use Rattle.schedule_model.specs.Schedule.{IsSchedule};
+ghost use Rattle.scheduling.specs.Checked.{AreShares, RefusesShares};
 ghost use Rattle.scheduling.specs.Limits.{ArePriceNumbers};
 ghost use Rattle.schedule_runs.specs.Refusals.{RefusesPriceNumbers, RefusesPriceText};
-ghost use Rattle.schedule_runs.specs.Verdicts.{IsBoundAt, IsBoundOf, IsRoundedDown, Says};
+ghost use Rattle.schedule_runs.specs.Verdicts.{IsBoundAt, IsBoundOf, IsRoundedDown, IsWholeVerdict, Says};
 
 use crate::refused::Refused;
 use schedule_bound::lagrangian_bound;
-use schedule_model::schedule_is_bounded;
+use schedule_model::{schedule_is_bounded, whole_blocks_keep_order};
 use schedule_texts::parse_prices;
-use scheduling::{BoundError, Problem, ScheduleError, check_schedule};
+use scheduling::{BoundError, Problem, ScheduleError, are_blocks_whole, check_schedule};
 use std::alloc::Global;
 
 /// Whether shares are a schedule, or what refutes them.
 #[derive(Clone, Copy, Debug, PartialEq, Eq, Drop)]
 pub enum Verdict {
-    /// A schedule of this value, in millionths, rounded down.
-    Schedule(i128),
+    /// A schedule of this value, in millionths, rounded down, and whether each block is mined whole in one period, or never.
+    Schedule(i128, bool),
     /// More than the whole block is mined by the end of a period: block, period.
     MinedTwice(u32, u32),
     /// By the end of a period more of a block is mined than of one that it needs: block, needed block, period.
@@ -83,6 +84,17 @@ fn fault_of(problem: &Problem, shares: &[u32], error: ScheduleError) -> Result<V
     }
 }
 
+/// Returns whether the blocks of a schedule are whole. If so, it keeps strict precedence.
+fn is_whole(problem: &Problem, shares: &[u32]) -> bool
+    requires schedule { IsSchedule problem.now shares.now }
+    requires shares { AreShares problem.now shares.now }
+    ensures { IsWholeVerdict problem.now shares.now result }
+{
+    problem.law();
+    whole_blocks_keep_order();
+    are_blocks_whole(problem, shares)
+}
+
 /// Returns what is true of shares.
 pub(crate) fn verdict_of(
     alloc: Global,
@@ -93,7 +105,10 @@ pub(crate) fn verdict_of(
     ensures refused { IfErr result (λ e. e ≡ Refused.NoMemory) }
 {
     match check_schedule(alloc, problem, shares) {
-        Ok(value) => Ok(Verdict::Schedule(rounded_down(value))),
+        Ok(value) => {
+            let whole = is_whole(problem, shares);
+            Ok(Verdict::Schedule(rounded_down(value), whole))
+        }
         Err(error) => fault_of(problem, shares, error),
     }
 }

@@ -67,6 +67,7 @@ pub fn check_schedule(
 ) -> Result<i128, ScheduleError>
     ensures schedule { IfOk result (λ _. IsSchedule problem.now shares.now) }
     ensures value { IfOk result (λ v. v ≡ schedule_value problem.now shares.now) }
+    ensures shares { IfOk result (λ _. AreShares problem.now shares.now) }
     ensures refused { IfErr result (RefusesShares problem.now shares.now) }
 {
     problem.law();

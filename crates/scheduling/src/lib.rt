@@ -16,6 +16,7 @@ mod problem;
 mod product;
 mod schedule_error;
 mod weights;
+mod whole;
 
 pub use bound_error::BoundError;
 pub use capacities::price_of_capacities;
@@ -27,3 +28,4 @@ pub use nodes::{UNIT, node_values};
 pub use parts::{Numbers, Sizes};
 pub use problem::Problem;
 pub use schedule_error::ScheduleError;
+pub use whole::are_blocks_whole;

@@ -15,7 +15,7 @@ use std::alloc::Global;
 pub(crate) const WHOLE: u32 = 1_000_000;
 
 /// Returns the share of a block that is mined in a period.
-fn mined(problem: &Problem, shares: &[u32], period: u32, block: u32) -> u32
+pub(crate) fn mined(problem: &Problem, shares: &[u32], period: u32, block: u32) -> u32
     requires shares { AreShares problem.now shares.now }
     requires period { period < problem.now.periods }
     requires block { block < problem.now.blocks }

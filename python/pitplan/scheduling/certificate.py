@@ -31,6 +31,8 @@ HAIR, ROUNDING = 1e-6, 2e-6
 # So often shares are rounded down at most, each by a millionth at a time.
 ROUNDS = 50
 WHOLE = "the schedule has no certificate"
+# What the lines of the program's answer begin with.
+ANSWER = ["SCHEDULE", "VALUE", "WHOLE BLOCKS", "BOUND"]
 # The destination of waste.
 WASTE = 0
 
@@ -464,8 +466,8 @@ def checked(stage: Path, program: Optional[Path], unit: int = 1) -> Certified:
     words = [word for kind, name in layout.CERTIFIED.items() for word in (f"--{kind}", str(stage / name))]
     ran = subprocess.run([str(program), "check", *words], capture_output=True, text=True)
     lines = ran.stdout.splitlines()
-    if ran.returncode != 0 or len(lines) != 3 or lines[0] != "SCHEDULE":
+    if ran.returncode != 0 or [line.partition(":")[0] for line in lines] != ANSWER:
         said = (ran.stdout + ran.stderr).strip().replace("\n", "; ")
         raise ProgramError(f"{program}: the certificate is not that of a schedule: {said}")
-    value, bound = (unit * float(line.partition(": ")[2]) for line in lines[1:])
+    value, bound = (unit * float(lines[place].partition(": ")[2]) for place in (1, 3))
     return Certified(value, bound, unit=unit, recorded=is_proved(hash_of(program)))

@@ -12,4 +12,5 @@ unfolding verdict_text
 returns-clause-puts g c =
     let e : to_z w128 (of_z w128 c.args.value) ≡ c.args.value = to_z-of_z w128 c.args.value c.ranges.value in
     let two = puts_then _ _ _ _ _ _ _ _ c.put.ensures.puts (puts_as (ap with_six_decimals e) c.put_millionths.ensures.puts) in
-    puts_then _ _ _ _ _ _ _ _ two c.end_line.ensures.puts
+    let three = puts_then _ _ _ _ _ _ _ _ two c.end_line.ensures.puts in
+    puts_then _ _ _ _ _ _ _ _ three (puts_as c.whole_line.ensures.line c.put-2.ensures.puts)
