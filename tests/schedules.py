@@ -6,6 +6,8 @@ import itertools
 import re
 
 MILLION = 10**6
+# The number of the form in each title.
+FORM = 2
 HEADS = ("BLOCKS", "PERIODS", "DESTINATIONS", "COLUMNS", "LIMITS", "VALUES", "USES")
 
 
@@ -133,12 +135,12 @@ def problem_text(problem: Problem) -> str:
     uses = [it for it in problem.terms if it.limit is not None]
     columns = len(problem.amounts[0]) if problem.amounts else 0
     counts = (problem.blocks, problem.periods, problem.destinations, columns, len(problem.capacities), len(values), len(uses))
-    lines = ["PROBLEM 1", *(f"{head} {count}" for head, count in zip(HEADS, counts))]
+    lines = [f"PROBLEM {FORM}", *(f"{head} {count}" for head, count in zip(HEADS, counts))]
     lines.append(numbers_line("DISCOUNTS", problem.discounts))
     lines += [numbers_line("CAPACITIES", row) for row in problem.capacities]
     lines += [f"VALUE {it.destination} {it.column} {it.lag}" for it in values]
     lines += [f"USE {it.destination} {it.limit} {it.column} {it.lag}" for it in uses]
-    lines += [numbers_line("AMOUNTS", row) for row in problem.amounts]
+    lines += [numbers_line(f"AMOUNTS {block}", row) for block, row in enumerate(problem.amounts)]
     return "\n".join(lines) + "\n"
 
 
@@ -153,13 +155,15 @@ def prec_text(problem: Problem) -> str:
     return "".join(f"{u} {len(ps)} {' '.join(map(str, ps))}\n" for u, ps in sorted(needs.items()))
 
 
-def schedule_text(shares: Shares) -> str:
+def schedule_text(problem: Problem, shares: Shares) -> str:
+    counts = [f"BLOCKS {problem.blocks}", f"PERIODS {problem.periods}", f"DESTINATIONS {problem.destinations}"]
     lines = [f"SHARE {b} {t} {d} {six_decimals(share)}" for (b, t, d), share in shares.items()]
-    return "\n".join(["SCHEDULE 1", f"SHARES {len(lines)}", *lines]) + "\n"
+    return "\n".join([f"SCHEDULE {FORM}", *counts, f"SHARES {len(lines)}", *lines]) + "\n"
 
 
-def prices_text(prices: list[list[int]]) -> str:
-    return "\n".join(["PRICES 1", *(numbers_line("PRICE", row) for row in prices)]) + "\n"
+def prices_text(problem: Problem, prices: list[list[int]]) -> str:
+    counts = [f"LIMITS {len(problem.capacities)}", f"PERIODS {problem.periods}"]
+    return "\n".join([f"PRICES {FORM}", *counts, *(numbers_line("PRICE", row) for row in prices)]) + "\n"
 
 
 def rows_of(text: bytes) -> list[list[bytes]]:
@@ -190,7 +194,7 @@ def taken(rows: list[list[bytes]], word: str, kinds: list) -> list[int]:
 
 def titled_rows(text: bytes, word: str) -> list[list[bytes]]:
     rows = rows_of(text)
-    if not rows or rows.pop(0) != [word.encode(), b"1"]:
+    if not rows or rows.pop(0) != [word.encode(), str(FORM).encode()]:
         raise Unreadable(word)
     return rows
 
@@ -202,14 +206,24 @@ def read_problem(text: bytes, arcs: list[tuple[int, int]]) -> Problem:
     capacities = [taken(rows, "CAPACITIES", [millionths] * periods) for _ in range(limits)]
     terms = [Term(d, None, c, lag) for d, c, lag in (taken(rows, "VALUE", [whole] * 3) for _ in range(values))]
     terms += [Term(d, r, c, lag) for d, r, c, lag in (taken(rows, "USE", [whole] * 4) for _ in range(uses))]
-    amounts = [taken(rows, "AMOUNTS", [millionths] * columns) for _ in range(blocks)]
+    numbered = [taken(rows, "AMOUNTS", [whole] + [millionths] * columns) for _ in range(blocks)]
+    if [line[0] for line in numbered] != list(range(blocks)):
+        raise Unreadable("a line of another block")
+    amounts = [line[1:] for line in numbered]
     if rows:
         raise Unreadable("a line after the end")
     return Problem(destinations, amounts, terms, discounts, capacities, arcs)
 
 
-def read_shares(text: bytes) -> Shares:
+def demand_counts(rows: list[list[bytes]], **counts: int) -> None:
+    for word, count in counts.items():
+        if taken(rows, word, [whole]) != [count]:
+            raise Unreadable(word)
+
+
+def read_shares(text: bytes, problem: Problem) -> Shares:
     rows = titled_rows(text, "SCHEDULE")
+    demand_counts(rows, BLOCKS=problem.blocks, PERIODS=problem.periods, DESTINATIONS=problem.destinations)
     (count,) = taken(rows, "SHARES", [whole])
     shares: Shares = {}
     for _ in range(count):
@@ -222,6 +236,7 @@ def read_shares(text: bytes) -> Shares:
 
 def read_prices(text: bytes, problem: Problem) -> list[list[int]]:
     rows = titled_rows(text, "PRICES")
+    demand_counts(rows, LIMITS=len(problem.capacities), PERIODS=problem.periods)
     prices = [taken(rows, "PRICE", [millionths] * problem.periods) for _ in problem.capacities]
     if rows:
         raise Unreadable("a line after the end")

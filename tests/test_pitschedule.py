@@ -4,6 +4,7 @@ import itertools
 import os
 import pathlib
 import random
+import re
 import resource
 import subprocess
 
@@ -30,7 +31,7 @@ class Folder:
         (self.folder / name).write_bytes(text.encode() if isinstance(text, str) else text)
 
     def write_all(self, problem: Problem, shares: Shares, prices: list[list[int]]) -> None:
-        texts = schedules.problem_text(problem), schedules.prec_text(problem), schedules.schedule_text(shares), schedules.prices_text(prices)
+        texts = schedules.problem_text(problem), schedules.prec_text(problem), schedules.schedule_text(problem, shares), schedules.prices_text(problem, prices)
         for name, text in zip(FILES, texts):
             self.write(name, text)
 
@@ -41,6 +42,10 @@ class Folder:
 
     def check(self) -> tuple[int, str, str]:
         return self.run("check", *FILES)
+
+
+def two_blocks() -> Problem:
+    return schedules.read_problem((EXAMPLE / "two_blocks.problem").read_bytes(), [(1, 0)])
 
 
 @pytest.fixture
@@ -61,6 +66,26 @@ def test_a_schedule_with_a_stockpile_reaches_the_bound(folder: Folder) -> None:
     assert folder.check() == (0, "SCHEDULE\nVALUE: 6.500000\nWHOLE BLOCKS: no\nBOUND: 6.500000\n", "")
 
 
+def blocks_of_code(page: str, first: str) -> list[list[list[str]]]:
+    """The code blocks of a page that begin with a word: the parts of each line between two or more spaces."""
+    return [[re.split("  +", line) for line in code.splitlines()] for code in re.findall(r"^```\n(.*?)^```$", page, re.MULTILINE | re.DOTALL) if code.startswith(first)]
+
+
+def test_the_example_is_that_of_the_law_and_of_the_formats() -> None:
+    law = (TOP / "crates" / "schedule_runs" / "specs" / "ExampleTexts.antt").read_text()
+    page = (TOP / "docs" / "FORMATS.md").read_text()
+    (problem,), (others,) = blocks_of_code(page, "PROBLEM"), blocks_of_code(page, "SCHEDULE 2")
+    shown = {
+        "problem": [parts[0] for parts in problem],
+        "schedule": [parts[0] for parts in others],
+        "prices": [part for parts in others for part in parts[1:2] if part[0].isupper()],
+    }
+    for name, lines in shown.items():
+        text = (EXAMPLE / f"two_blocks.{name}").read_text()
+        (written,) = re.findall(rf'^{name}_example = codes "(.*)"$', law, re.MULTILINE)
+        assert text == "".join(f"{line}\n" for line in lines) == written.replace("\\n", "\n")
+
+
 def test_the_bound_alone(folder: Folder) -> None:
     assert folder.run("bound", "problem", "prec", "prices") == (0, "BOUND: 6.500000\n", "")
 
@@ -78,12 +103,12 @@ def test_the_value_alone(folder: Folder) -> None:
     ],
 )
 def test_why_shares_are_no_schedule(folder: Folder, shares: Shares, told: str) -> None:
-    folder.write("schedule", schedules.schedule_text(shares))
+    folder.write("schedule", schedules.schedule_text(two_blocks(), shares))
     assert folder.check() == (4, f"NO SCHEDULE\n{told}\nBOUND: 6.500000\n", "")
 
 
 def test_shares_of_one_place_add_up(folder: Folder) -> None:
-    folder.write("schedule", "SCHEDULE 1\nSHARES 5\nSHARE 0 0 1 0.25\nSHARE 1 0 0 0.5\nSHARE 0 1 2 0.5\nSHARE 1 1 0 0.5\nSHARE 0 0 1 0.25\n")
+    folder.write("schedule", "SCHEDULE 2\nBLOCKS 2\nPERIODS 2\nDESTINATIONS 3\nSHARES 5\nSHARE 0 0 1 0.25\nSHARE 1 0 0 0.5\nSHARE 0 1 2 0.5\nSHARE 1 1 0 0.5\nSHARE 0 0 1 0.25\n")
     assert folder.check()[:2] == (0, "SCHEDULE\nVALUE: 6.500000\nWHOLE BLOCKS: no\nBOUND: 6.500000\n")
 
 
@@ -101,7 +126,7 @@ def test_shares_of_one_place_add_up(folder: Folder) -> None:
 )
 def test_whether_blocks_are_whole(folder: Folder, shares: Shares, whole: str) -> None:
     """A block of which parts go to two destinations in one period is whole; one of which parts are mined in two periods is not."""
-    folder.write("schedule", schedules.schedule_text(shares))
+    folder.write("schedule", schedules.schedule_text(two_blocks(), shares))
     status, out, _ = folder.run("check", "problem", "prec", "schedule")
     assert (status, out.splitlines()[2]) == (0, f"WHOLE BLOCKS: {whole}")
 
@@ -183,7 +208,7 @@ def test_values_and_bounds_of_random_problems(folder: Folder, seed: int) -> None
             assert out.splitlines()[1:3] == [f"VALUE: {schedules.six_decimals(schedules.value_of(problem, shares))}", "WHOLE BLOCKS: yes"]
             assert told(out, "BOUND") >= -best.fun - 1e-6
         if (duals := prices_of(problem)) is not None:
-            folder.write("prices", schedules.prices_text(duals))
+            folder.write("prices", schedules.prices_text(problem, duals))
             bound = told(folder.run("bound", "problem", "prec", "prices")[1], "BOUND")
             assert bound == pytest.approx(-optimum(problem, whole=False).fun, abs=2e-4)
 
@@ -216,7 +241,7 @@ def test_random_shares(folder: Folder, seed: int) -> None:
 def answer_of(texts: dict[str, bytes]) -> tuple[str, str, str] | None:
     """Value, whether blocks are whole, and bound, as the texts spell them, read in Python; none if they cannot be read or are no schedule."""
     problem = schedules.read_problem(texts["problem"], [(1, 0)])
-    shares = schedules.read_shares(texts["schedule"])
+    shares = schedules.read_shares(texts["schedule"], problem)
     if schedules.faults_of(problem, shares):
         return None
     bound = schedules.bound_of(problem, schedules.read_prices(texts["prices"], problem))
@@ -262,7 +287,7 @@ def test_each_cut_of_lines_is_refused(folder: Folder, name: str) -> None:
     [
         ("problem", "PERIODS 2", "PERIODS two", "problem: not a whole number line 3"),
         ("problem", "DISCOUNTS 1 0.5", "DISCOUNTS 1 0,5", "problem: not a decimal line 9"),
-        ("problem", "AMOUNTS 1 10 -2", "AMOUNTS 1 10", "problem: wrong number of fields line 21"),
+        ("problem", "AMOUNTS 1 1 10 -2", "AMOUNTS 1 1 10", "problem: wrong number of fields line 21"),
         ("problem", "USE 2 1 0 1", "USE 2 1 0 1\nUSE 2 1 0 1", "problem: wrong header line 20"),
         ("problem", "USE 2 1 0 1", "USE 2 2 0 1", "problem: USE 4: there is no such limit\n"),
         ("problem", "USE 2 1 0 1", "USE 3 1 0 1", "problem: USE 4: there is no such destination\n"),
@@ -275,8 +300,21 @@ def test_each_cut_of_lines_is_refused(folder: Folder, name: str) -> None:
         ("problem", "DISCOUNTS 1 0.5", "DISCOUNTS 1 1.000001", "problem: the discount factor of period 1 is not from -1 to 1\n"),
         ("problem", "DISCOUNTS 1 0.5", "DISCOUNTS -1.000001 2", "problem: the discount factor of period 0 is not from -1 to 1\n"),
         ("problem", "CAPACITIES 1 2", "CAPACITIES 1 1000000000000", "problem: not a decimal line 11\n"),
-        ("problem", "AMOUNTS 1 10 -2", "AMOUNTS 1 10000000000.000001 -2", "problem: amount 4 (from 0, line by line) is not from -10000000000 to 10000000000\n"),
-        ("problem", "AMOUNTS 1 10 -2", "AMOUNTS 1 10 -10000000000.000001", "problem: amount 5 (from 0, line by line) is not from -10000000000 to 10000000000\n"),
+        ("problem", "AMOUNTS 1 1 10 -2", "AMOUNTS 1 1 10000000000.000001 -2", "problem: amount 4 (from 0, line by line) is not from -10000000000 to 10000000000\n"),
+        ("problem", "AMOUNTS 1 1 10 -2", "AMOUNTS 1 1 10 -10000000000.000001", "problem: amount 5 (from 0, line by line) is not from -10000000000 to 10000000000\n"),
+        ("problem", "AMOUNTS 1 1 10 -2", "AMOUNTS 2 1 10 -2", "problem: id out of place line 21"),
+        ("problem", "AMOUNTS 0 1 -5 -2\n", "", "problem: id out of place line 20"),
+        ("problem", "AMOUNTS 1 1 10 -2", "AMOUNTS -1 1 10 -2", "problem: not a whole number line 21"),
+        ("problem", "AMOUNTS 1 1 10 -2", "AMOUNTS", "problem: wrong number of fields line 21"),
+        ("problem", "PROBLEM 2", "PROBLEM 1", "problem: wrong header line 1"),
+        ("schedule", "SCHEDULE 2", "SCHEDULE 1", "schedule: wrong header line 1"),
+        ("schedule", "BLOCKS 2", "BLOCKS 3", "schedule: counts differ line 2"),
+        ("schedule", "PERIODS 2", "PERIODS 3", "schedule: counts differ line 3"),
+        ("schedule", "DESTINATIONS 3", "DESTINATIONS 2", "schedule: counts differ line 4"),
+        ("schedule", "DESTINATIONS 3\n", "", "schedule: wrong header line 4"),
+        ("prices", "PRICES 2", "PRICES 1", "prices: wrong header line 1"),
+        ("prices", "LIMITS 2", "LIMITS 1", "prices: counts differ line 2"),
+        ("prices", "PERIODS 2", "PERIODS 1", "prices: counts differ line 3"),
         ("problem", "PERIODS 2", "PERIODS 5000000000", "problem: wrong number of fields line 9"),
         *(
             ("schedule", "SHARE 1 1 0 0.5", share, "schedule: share 3 names no block, period or destination of the problem, or is not from 0 to 1\n")
@@ -306,7 +344,7 @@ def test_what_is_refused(folder: Folder, name: str, old: str, new: str, told: st
         ("problem", "VALUE 2 1 1", "VALUE 2 2 65536"),
         ("problem", "DISCOUNTS 1 0.5", "DISCOUNTS -1 1"),
         ("problem", "CAPACITIES 1 2", "CAPACITIES 999999999999.999999 -999999999999.999999"),
-        ("problem", "AMOUNTS 1 10 -2", "AMOUNTS 1 10000000000 -10000000000"),
+        ("problem", "AMOUNTS 1 1 10 -2", "AMOUNTS 1 1 10000000000 -10000000000"),
         ("schedule", "SHARE 1 1 0 0.5", "SHARE 1 1 2 1"),
         ("schedule", "SHARE 1 1 0 0.5", "SHARE 1 1 0 0"),
         ("prices", "PRICE 0 0", "PRICE 0 1000000000"),
@@ -325,13 +363,19 @@ def sized(blocks: int = 1, periods: int = 1, destinations: int = 1, columns: int
     counts = zip(schedules.HEADS, (blocks, periods, destinations, columns, limits, values, uses))
     heads = "".join(f"{word} {count}\n" for word, count in counts)
     years = " 0" * periods
+    amounts = " 0" * columns + "\n"
     return (
-        f"PROBLEM 1\n{heads}DISCOUNTS{years}\n"
+        f"PROBLEM 2\n{heads}DISCOUNTS{years}\n"
         + f"CAPACITIES{years}\n" * limits
         + "VALUE 0 0 0\n" * values
         + "USE 0 0 0 0\n" * uses
-        + ("AMOUNTS" + " 0" * columns + "\n") * blocks
+        + "".join(f"AMOUNTS {block}{amounts}" for block in range(blocks))
     )
+
+
+def no_shares(blocks: int = 1, periods: int = 1, destinations: int = 1, **_: int) -> str:
+    """The text of a schedule without shares, for a problem with these counts."""
+    return f"SCHEDULE 2\nBLOCKS {blocks}\nPERIODS {periods}\nDESTINATIONS {destinations}\nSHARES 0\n"
 
 
 @pytest.mark.parametrize(
@@ -356,7 +400,7 @@ def sized(blocks: int = 1, periods: int = 1, destinations: int = 1, columns: int
 )
 def test_the_last_lawful_count(folder: Folder, last: dict[str, int], above: dict[str, int], told: str) -> None:
     folder.write("prec", "")
-    folder.write("schedule", "SCHEDULE 1\nSHARES 0\n")
+    folder.write("schedule", no_shares(**last))
     folder.write("problem", sized(**last))
     assert folder.run("check", "problem", "prec", "schedule") == (0, "SCHEDULE\nVALUE: 0.000000\nWHOLE BLOCKS: yes\n", "")
     folder.write("problem", sized(**above))
@@ -372,7 +416,7 @@ def test_the_last_lawful_number_of_pairs(folder: Folder) -> None:
     """65,536 blocks in 64 periods are 4,194,304 nodes; with 983,040 arcs there are 64 * (983,040 + 65,536) = 67,108,864 pairs of nodes."""
     blocks, most = 65536, 983040
     folder.write("problem", sized(blocks=blocks, periods=64))
-    folder.write("schedule", "SCHEDULE 1\nSHARES 0\n")
+    folder.write("schedule", no_shares(blocks=blocks, periods=64))
     for arcs, answer in [
         (most, (0, "SCHEDULE\nVALUE: 0.000000\nWHOLE BLOCKS: yes\n", "")),
         (
@@ -400,23 +444,23 @@ def test_the_last_lawful_number_of_pairs(folder: Folder) -> None:
 def test_the_last_lawful_value_of_a_node(folder: Folder, amount: str, answer: tuple[int, str, str]) -> None:
     """At the price 10^9 the use of -10^8 by block 1 is worth 10^17."""
     text = sized(blocks=3, columns=1, limits=1, uses=1)
-    folder.write("problem", text.replace("AMOUNTS 0\nAMOUNTS 0\n", f"AMOUNTS 0\nAMOUNTS -{amount}\n", 1))
+    folder.write("problem", text.replace("AMOUNTS 1 0\n", f"AMOUNTS 1 -{amount}\n", 1))
     folder.write("prec", "")
-    folder.write("prices", "PRICES 1\nPRICE 1000000000\n")
+    folder.write("prices", "PRICES 2\nLIMITS 1\nPERIODS 1\nPRICE 1000000000\n")
     assert folder.run("bound", "problem", "prec", "prices") == answer
 
 
 # ---- faults in several texts: the first one in the order of the texts is told
 
 FAULTS = [
-    ("problem", "AMOUNTS 1 10 -2", "AMOUNTS 1 10", "problem: wrong number of fields line 21\n"),
+    ("problem", "AMOUNTS 1 1 10 -2", "AMOUNTS 1 1 10", "problem: wrong number of fields line 21\n"),
     ("problem", "DESTINATIONS 3", "DESTINATIONS 0", "problem: 0 destinations, allowed are 1 to 64\n"),
     ("problem", "DISCOUNTS 1 0.5", "DISCOUNTS 1 2", "problem: the discount factor of period 1 is not from -1 to 1\n"),
     ("problem", "VALUE 0 1 0", "VALUE 0 7 0", "problem: VALUE 0: there is no such column\n"),
     ("problem", "USE 0 1 0 0", "USE 0 7 0 0", "problem: USE 3: there is no such limit\n"),
-    ("problem", "AMOUNTS 1 -5 -2", "AMOUNTS 1 -50000000000 -2", "problem: amount 1 (from 0, line by line) is not from -10000000000 to 10000000000\n"),
+    ("problem", "AMOUNTS 0 1 -5 -2", "AMOUNTS 0 1 -50000000000 -2", "problem: amount 1 (from 0, line by line) is not from -10000000000 to 10000000000\n"),
     ("prec", "1 1 0", "1 1 1", "precedence: block needs itself in precedence line 1\n"),
-    ("schedule", "SHARES 4", "SHARES 5", "schedule: ends early line 7\n"),
+    ("schedule", "SHARES 4", "SHARES 5", "schedule: ends early line 10\n"),
     ("schedule", "SHARE 1 1 0 0.5", "SHARE 2 1 0 0.5", "schedule: share 3 names no block, period or destination of the problem, or is not from 0 to 1\n"),
     (
         "schedule",
@@ -424,7 +468,7 @@ FAULTS = [
         "SHARE 0 0 1 0.6",
         "schedule: with share 1 more than a whole block goes to one destination in one period\n",
     ),
-    ("prices", "PRICE 0 0", "PRICE 0", "prices: wrong number of fields line 3\n"),
+    ("prices", "PRICE 0 0", "PRICE 0", "prices: wrong number of fields line 5\n"),
     ("prices", "PRICE 1.5 0", "PRICE -1.5 0", "prices: price 0 (from 0, line by line) is not from 0 to 1000000000\n"),
 ]
 
@@ -473,11 +517,10 @@ def test_an_argument_that_is_no_text(folder: Folder) -> None:
 
 def test_memory_is_refused(folder: Folder) -> None:
     """4,194,304 nodes need more than 60 MiB; the refusal is told, and nothing is written."""
-    folder.write("problem", "PROBLEM 1\nBLOCKS 1\nPERIODS 4\nDESTINATIONS 64\nCOLUMNS 0\nLIMITS 0\nVALUES 0\nUSES 0\nDISCOUNTS 1 1 1 1\nAMOUNTS\n")
-    blocks = 1_000_000
-    folder.write("problem", f"PROBLEM 1\nBLOCKS {blocks}\nPERIODS 4\nDESTINATIONS 64\nCOLUMNS 0\nLIMITS 0\nVALUES 0\nUSES 0\nDISCOUNTS 1 1 1 1\n" + "AMOUNTS\n" * blocks)
+    sizes = {"blocks": 1_000_000, "periods": 4, "destinations": 64}
+    folder.write("problem", sized(**sizes))
     folder.write("prec", "")
-    folder.write("schedule", "SCHEDULE 1\nSHARES 0\n")
+    folder.write("schedule", no_shares(**sizes))
     words = [PROGRAM, "check", *(word for name in FILES[:3] for word in (f"--{name}", name))]
     limit = 600 << 20
 

@@ -81,7 +81,15 @@ def planted(path, old, new):
 
 @pytest.mark.parametrize(
     "name, word, place",
-    [("problem", "AMOUNTS", 1), ("problem", "DISCOUNTS", 2), ("problem", "CAPACITIES", 3), ("shares", "SHARE", 2)],
+    [
+        ("problem", "AMOUNTS", 1),
+        ("problem", "AMOUNTS", 2),
+        ("shares", "PERIODS", 1),
+        ("prices", "LIMITS", 1),
+        ("problem", "DISCOUNTS", 2),
+        ("problem", "CAPACITIES", 3),
+        ("shares", "SHARE", 2),
+    ],
 )
 def test_texts_of_another_mine_are_found(plan_folder, name, word, place):
     """In a line of each kind a number is one more."""

@@ -175,8 +175,11 @@ def more_at(word, place, much=1):
     [
         ("problem", more_at("CAPACITIES", 1)),
         ("problem", more_at("DISCOUNTS", 2, -0.01)),
-        ("problem", more_at("AMOUNTS", 2)),
+        ("problem", more_at("AMOUNTS", 1)),
         ("problem", more_at("AMOUNTS", 3)),
+        ("problem", more_at("AMOUNTS", 4)),
+        ("shares", more_at("BLOCKS", 1)),
+        ("prices", more_at("PERIODS", 1)),
         ("shares", more_at("SHARE", 2)),
         ("shares", more_at("SHARE", 4, -0.1)),
         ("prec", lambda words: "" if words and int(words[0]) == 1 else None),

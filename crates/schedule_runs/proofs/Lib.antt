@@ -6,3 +6,4 @@ pub mod OneProblem
 pub mod OneBound
 pub mod OneSchedule
 pub mod OneAnswer
+pub mod ExampleTexts

@@ -97,7 +97,7 @@ lawful_at problem numbers listed j are inside =
 
 pub shares_are_not_refused : (text : List ℕ) (problem : Problem) (shares : List ℕ) (e : Refused) → BlamesATextFor e → SpellsShares text problem shares → RefusesSchedule problem text e → ⊥
 shares_are_not_refused text problem shares refusals.NoMemory blames p a = blames
-shares_are_not_refused text problem shares (refusals.Schedule f) blames p a = read_has_no_fault (shares_in text) p.numbers f p.read blames a
+shares_are_not_refused text problem shares (refusals.Schedule f) blames p a = read_has_no_fault (shares_in problem.blocks problem.periods problem.destinations text) p.numbers f p.read blames a
 shares_are_not_refused text problem shares (refusals.NoShare j) blames p a =
     let numbers = same_value p.numbers a.0 (sym p.read ∙ a.1) in
     a.2.1.broken (lawful_at problem a.0 p.listed j (subst (λ (ns : List ℤ). AreListed problem ns p.listed) numbers p.are_listed) a.2.0)
@@ -114,9 +114,9 @@ shares_are_not_refused text problem shares e blames p a = absurd a.2
 pub shares_are_refused_once : (text : List ℕ) (problem : Problem) (e f : Refused) → BlamesATextFor e → BlamesATextFor f → RefusesSchedule problem text e → RefusesSchedule problem text f → IsSameRefusal e f
 shares_are_refused_once text problem refusals.NoMemory f x y a b = absurd x
 shares_are_refused_once text problem e refusals.NoMemory x y a b = absurd y
-shares_are_refused_once text problem (refusals.Schedule f) (refusals.Schedule g) x y a b = ap (λ z. refusals.Schedule z) (fault_once (shares_in text) f g x y a b)
-shares_are_refused_once text problem (refusals.Schedule f) e x y a b = absurd (read_has_no_fault (shares_in text) b.0 f b.1 x a)
-shares_are_refused_once text problem e (refusals.Schedule g) x y a b = absurd (read_has_no_fault (shares_in text) a.0 g a.1 y b)
+shares_are_refused_once text problem (refusals.Schedule f) (refusals.Schedule g) x y a b = ap (λ z. refusals.Schedule z) (fault_once (shares_in problem.blocks problem.periods problem.destinations text) f g x y a b)
+shares_are_refused_once text problem (refusals.Schedule f) e x y a b = absurd (read_has_no_fault (shares_in problem.blocks problem.periods problem.destinations text) b.0 f b.1 x a)
+shares_are_refused_once text problem e (refusals.Schedule g) x y a b = absurd (read_has_no_fault (shares_in problem.blocks problem.periods problem.destinations text) a.0 g a.1 y b)
 shares_are_refused_once text problem (refusals.NoShare j) (refusals.NoShare k) x y a b =
     let numbers = same_value a.0 b.0 (sym a.1 ∙ b.1) in
     ap (λ z. refusals.NoShare z) (first_once (IsLawfulShare problem b.0) j k (subst (λ (ns : List ℤ). IsFirstWithout (IsLawfulShare problem ns) j) numbers a.2.1) b.2.1)

@@ -6,3 +6,4 @@ pub mod Refusals
 pub mod Runs
 pub mod OneAnswer
 pub mod Status
+pub mod ExampleTexts

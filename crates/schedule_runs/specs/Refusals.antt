@@ -72,8 +72,9 @@ RefusesNumbers problem numbers refusal = RefusesListed problem numbers refusal
 
 -- why a text has no shares of a problem: memory, its first fault, or the first share that is none of the problem or too large
 abbrev pub RefusesSchedule : Problem → List ℕ → Refused → Type 0
-RefusesSchedule problem text (refusals.Schedule fault) = FailsBy fault.refusal fault (shares_in text)
-RefusesSchedule problem text refusal = (numbers : List ℤ) × (shares_in text ≡ Ok numbers) × RefusesNumbers problem numbers refusal
+RefusesSchedule problem text (refusals.Schedule fault) = FailsBy fault.refusal fault (shares_in problem.blocks problem.periods problem.destinations text)
+RefusesSchedule problem text refusal =
+    (numbers : List ℤ) × (shares_in problem.blocks problem.periods problem.destinations text ≡ Ok numbers) × RefusesNumbers problem numbers refusal
 
 -- why there is no bound at prices: memory, or the first price or the first value of a node that is out of range
 abbrev pub RefusesPriceNumbers : Problem → List ℤ → Refused → Type 0

@@ -55,7 +55,7 @@ pub record AreSums (problem : Problem) (listed : List Share) (count : ℕ) (shar
 -- the text spells these shares of the problem's blocks
 pub record SpellsShares (text : List ℕ) (problem : Problem) (shares : List ℕ) : Type 0 where
   pub numbers : List ℤ
-  pub read : shares_in text ≡ Ok numbers
+  pub read : shares_in problem.blocks problem.periods problem.destinations text ≡ Ok numbers
   pub listed : List Share
   pub are_listed : AreListed problem numbers listed
   pub are_sums : AreSums problem listed (length listed) shares

@@ -132,7 +132,8 @@ pub(crate) fn read_shares(
     ensures spelled { IfOk result (λ v. SpellsShares text.now problem.now v.items) }
     ensures refused { IfErr result (RefusesSchedule problem.now text.now) }
 {
-    let numbers = match parse_shares(alloc, text) {
+    let (blocks, periods) = (problem.blocks(), problem.periods());
+    let numbers = match parse_shares(alloc, blocks, periods, problem.destinations(), text) {
         Ok(numbers) => numbers,
         Err(fault) => return Err(Refused::Schedule(fault)),
     };

@@ -11,7 +11,7 @@ use Rattle.minelib_reader.specs.Text.{Row}
 use Rattle.schedule_texts.specs.declared.section.Columns.{Columns}
 use Rattle.schedule_texts.specs.declared.word.Word.{Word}
 use Rattle.schedule_texts.specs.Words.{text_of}
-use Rattle.schedule_texts.specs.Section.{AddsNumbers, section_line, numeric_field, numeric_fields}
+use Rattle.schedule_texts.specs.Section.{AddsNumbers, own_fields, section_line, numeric_field, numeric_fields}
 
 abbrev Numbers : Type 0
 Numbers = Result (List ℤ) Fault
@@ -62,15 +62,15 @@ length_numbers line wholes (f ∷ fields) vs h =
     let b = passed (numeric_fields line (wholes - 1) fields) (λ others. Ok (a.value ∷ others)) vs a.behind in
     ap length (sym (same_value (a.value ∷ b.value) vs b.behind)) ∙ ap suc (length_numbers line (wholes - 1) fields b.value b.here)
 
--- a line whose word and width are right adds its numbers
-pub line_added : (word : Word) (columns : Columns) (r : Row) (first : List ℕ) (others : List (List ℕ)) (own old new : List ℤ) → r.fields ≡ first ∷ others → bytes_eq first (text_of word) ≡ true → (length others == columns.width) ≡ true
-    → numeric_fields r.line columns.wholes others ≡ Ok own → new ≡ old ++ own → AddsNumbers word columns r old new
+-- a line whose word, number and width are right adds its numbers
+pub line_added : (word : Word) (columns : Columns) (place : ℕ) (r : Row) (first : List ℕ) (others fields : List (List ℕ)) (own old new : List ℤ) → r.fields ≡ first ∷ others → bytes_eq first (text_of word) ≡ true
+    → own_fields columns.numbered place r.line others ≡ Ok fields → (length fields == columns.width) ≡ true → numeric_fields r.line columns.wholes fields ≡ Ok own → new ≡ old ++ own → AddsNumbers word columns place r old new
 unfolding section_line
-line_added word columns r first others own old new fields named wide numbers added = record {
+line_added word columns place r first others fields own old new are named after wide numbers added = record {
   own = own;
-  read = rw (fields, named, wide, numbers) refl;
+  read = rw (are, named, after, wide, numbers) refl;
   added = added;
-  wide = length_numbers r.line columns.wholes others own numbers ∙ eqb-true (length others) columns.width wide;
+  wide = length_numbers r.line columns.wholes fields own numbers ∙ eqb-true (length fields) columns.width wide;
 }
 
 pub if_ok_map : {A E : Type 0} (P Q : A → Type 0) (r : Result A E) → ((x : A) → P x → Q x) → IfOk r P → IfOk r Q

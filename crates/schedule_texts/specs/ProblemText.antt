@@ -1,16 +1,16 @@
 -- The text of a scheduling problem: its title, how many there are of each, and the sections of its numbers.
-use Rattle.std.specs.Prelude.{◌≡◌, ℕ, ℤ, List, Result, Ok}
+use Rattle.std.specs.Prelude.{◌≡◌, ℕ, ℤ, List, Result, Ok, true, false, codes}
 use Rattle.faults.specs.declared.fault.Fault.{Fault}
-use Rattle.faults.specs.declared.source.Source.TheVariants as sources
-use Rattle.minelib_reader.specs.Checks.{◌>>=◌}
-use Rattle.minelib_reader.specs.Text.{Row, rows_of, count_of_lines}
-use Rattle.report.specs.HeadLines.{title_line}
+use Rattle.faults.specs.declared.refusal.Refusal.TheVariants.{WrongHeader}
+use Rattle.minelib_reader.specs.Checks.{◌>>=◌, ok_if}
+use Rattle.minelib_reader.specs.Text.{Row, rows_of, count_of_lines, two_of}
+use Rattle.minelib_reader.specs.Upit.{are_words}
 use Rattle.schedule_texts.specs.declared.problem.Counts.{Counts}
 use Rattle.schedule_texts.specs.declared.section.Columns.{Columns}
 use Rattle.schedule_texts.specs.declared.word.Word.{Word}
 use Rattle.schedule_texts.specs.declared.word.Word.TheVariants as words
 use Rattle.schedule_texts.specs.Words.{text_of}
-use Rattle.schedule_texts.specs.Section.{count_of, due_row, no_row_left, section_of}
+use Rattle.schedule_texts.specs.Section.{count_of, due_row, in_text, no_row_left, section_of}
 
 abbrev pub counts : ℕ → ℕ → ℕ → ℕ → ℕ → ℕ → ℕ → Counts
 counts blocks periods destinations columns limits values uses =
@@ -31,13 +31,17 @@ lists sizes discounts capacities values uses amounts =
     record { sizes = sizes; discounts = discounts; capacities = capacities; values = values; uses = uses; amounts = amounts }
 
 abbrev pub columns : ℕ → ℕ → Columns
-columns width wholes = record { width = width; wholes = wholes }
+columns width wholes = record { width = width; wholes = wholes; numbered = false }
 
--- the title, and the number of the form
+-- decimals after the number of the line
+abbrev pub numbered_columns : ℕ → Columns
+numbered_columns width = record { width = width; wholes = 0; numbered = true }
+
+-- the title, which is this word and the number 2 of the form
 unfoldable pub titled : ℕ → Word → List Row → Result (List Row) Fault
 titled count word rows = do
   first ← due_row count rows
-  title ← title_line sources.None (text_of word) first.0
+  title ← ok_if (are_words (text_of word) (codes "2") (two_of first.0.fields)) (in_text WrongHeader first.0.line)
   Ok first.1
 
 unfoldable pub counts_of : ℕ → List Row → Result (Counts × List Row) Fault
@@ -57,7 +61,7 @@ sections_of count c rows = do
   capacities ← section_of count words.Capacities (columns c.periods 0) c.limits discounts.1
   values ← section_of count words.Value (columns 3 3) c.values capacities.1
   uses ← section_of count words.Use (columns 4 4) c.uses values.1
-  amounts ← section_of count words.Amounts (columns c.columns 0) c.blocks uses.1
+  amounts ← section_of count words.Amounts (numbered_columns c.columns) c.blocks uses.1
   Ok (lists c discounts.0 capacities.0 values.0 uses.0 amounts.0, amounts.1)
 
 unfoldable pub lists_of_rows : ℕ → List Row → Result Lists Fault

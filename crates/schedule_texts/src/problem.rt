@@ -2,7 +2,7 @@
 ghost use Rattle.std.specs.Prelude.{◌≡◌, ◌*◌, IfOk, length};
 ghost use Rattle.minelib_reader.specs.Answer.{Gives};
 ghost use Rattle.minelib_reader.specs.Text.{rows_at, lines_at};
-ghost use Rattle.schedule_texts.specs.ProblemText.{columns, counts_of, lists, lists_in, sections_of};
+ghost use Rattle.schedule_texts.specs.ProblemText.{columns, counts_of, lists, lists_in, numbered_columns, sections_of};
 
 use crate::section::{Columns, check_ended, check_titled, read_count, read_section};
 use crate::word::Word;
@@ -63,7 +63,22 @@ fn read_counts(rows: &mut TextRows) -> Result<Counts, Fault>
 fn decimals(width: u64) -> Columns
     ensures { result ≡ columns width 0 }
 {
-    Columns { width, wholes: 0 }
+    Columns {
+        width,
+        wholes: 0,
+        numbered: false,
+    }
+}
+
+/// Returns columns of decimals after the number of the line.
+fn numbered_decimals(width: u64) -> Columns
+    ensures { result ≡ numbered_columns width }
+{
+    Columns {
+        width,
+        wholes: 0,
+        numbered: true,
+    }
 }
 
 /// Returns columns of whole numbers.
@@ -73,6 +88,7 @@ fn wholes(width: u64) -> Columns
     Columns {
         width,
         wholes: width,
+        numbered: false,
     }
 }
 
@@ -101,7 +117,7 @@ fn read_lists(alloc: Global, counts: Counts, rows: &mut TextRows) -> Result<List
     let amounts = read_section(
         alloc,
         Word::Amounts,
-        decimals(counts.columns),
+        numbered_decimals(counts.columns),
         counts.blocks,
         rows,
     )?;

@@ -1,21 +1,25 @@
-//! A section of a text: lines of a word and numbers. Each line is checked in the order of `specs/Section.antt`.
+//! A section of a text: lines of a word and numbers, and the counts before it. Each line is checked in the order of `specs/Section.antt`.
 ghost use Rattle.std.specs.Prelude.{◌≡◌, ℕ, ℤ, List, Ok, ◌+◌, ◌*◌, ◌++◌, length, IfOk, IfErr};
 ghost use Rattle.minelib_reader.specs.Answer.{Gives, FailsBy};
 ghost use Rattle.minelib_reader.specs.Text.{row, rows_at, lines_at, fields_of};
 ghost use Rattle.schedule_texts.specs.ProblemText.{titled};
-ghost use Rattle.schedule_texts.specs.Section.{AddsNumbers, count_of, due_row, no_row_left, in_text, section_line, numeric_field, numeric_fields, section_of};
+ghost use Rattle.schedule_texts.specs.Section.{AddsNumbers, count_of, due_row, no_row_left, in_text, own_fields, same_count, section_line, numeric_field, numeric_fields, section_of};
 
 use crate::word::Word;
 use faults::{Fault, Refusal, Source};
-use minelib_reader::{Row, TextRows, decimal, next_field, whole_number};
-use report::{check_title, read_number};
+use minelib_reader::{Row, TextRows, decimal, next_field, two_fields, whole_number};
+use report::{check_count, read_number};
 use std::alloc::Global;
 
-/// How many numbers stand in a line, and how many of the first are whole numbers; the others are decimals.
+/// The numbers of a line.
 #[derive(Clone, Copy, Debug, PartialEq, Eq)]
 pub struct Columns {
+    /// How many there are.
     pub width: u64,
+    /// How many of the first are whole numbers; the others are decimals.
     pub wholes: u64,
+    /// Whether the number of the line in its section comes before them.
+    pub numbered: bool,
 }
 
 fn in_text(refusal: Refusal, line: u64) -> Fault
@@ -71,11 +75,37 @@ fn count_fields(text: &[u8]) -> u64
     count
 }
 
-/// Adds the numbers of a line behind its word.
+/// Returns the part of a line after the number of the line, if lines are numbered.
+#[tactic(auto, unfolding(crate::specs::Section::own_fields))]
+fn own_fields<'a>(numbered: bool, place: u64, line: u64, text: &'a [u8]) -> Result<&'a [u8], Fault>
+    ensures { Gives (λ rest. fields_of rest.now) result (own_fields numbered place line (fields_of text.now)) }
+{
+    if !numbered {
+        return Ok(text);
+    }
+    let Some((first, rest)) = next_field(text) else {
+        return Err(in_text(Refusal::WrongFieldCount, line));
+    };
+    let Some(number) = whole_number(first) else {
+        return Err(in_text(Refusal::NotWhole, line));
+    };
+    if number != place {
+        return Err(in_text(Refusal::IdOutOfPlace, line));
+    }
+    Ok(rest)
+}
+
+/// Adds the numbers of the line at a place of its section.
 #[tactic(auto, unfolding(crate::specs::Section::section_line))]
-fn read_line(word: Word, columns: Columns, r: Row, numbers: &mut Vec<i64>) -> Result<(), Fault>
-    ensures ok { IfOk result (λ _. AddsNumbers word columns (row r.entry.line (fields_of r.entry.text.now)) numbers.old.items numbers.new.items) }
-    ensures err { IfErr result (λ e. FailsBy e.refusal e (section_line word columns (row r.entry.line (fields_of r.entry.text.now)))) }
+fn read_line(
+    word: Word,
+    columns: Columns,
+    place: u64,
+    r: Row,
+    numbers: &mut Vec<i64>,
+) -> Result<(), Fault>
+    ensures ok { IfOk result (λ _. AddsNumbers word columns place (row r.entry.line (fields_of r.entry.text.now)) numbers.old.items numbers.new.items) }
+    ensures err { IfErr result (λ e. FailsBy e.refusal e (section_line word columns place (row r.entry.line (fields_of r.entry.text.now)))) }
 {
     let Some((first, rest)) = next_field(r.text) else {
         return Err(in_text(Refusal::WrongHeader, r.line));
@@ -83,10 +113,11 @@ fn read_line(word: Word, columns: Columns, r: Row, numbers: &mut Vec<i64>) -> Re
     if first != word.text() {
         return Err(in_text(Refusal::WrongHeader, r.line));
     }
-    if count_fields(rest) != columns.width {
+    let own = own_fields(columns.numbered, place, r.line, rest)?;
+    if count_fields(own) != columns.width {
         return Err(in_text(Refusal::WrongFieldCount, r.line));
     }
-    read_numbers(r.line, columns.wholes, rest, numbers)
+    read_numbers(r.line, columns.wholes, own, numbers)
 }
 
 /// Takes the next row, where one is due.
@@ -111,7 +142,7 @@ pub(crate) fn check_ended(rows: &mut TextRows) -> Result<(), Fault>
     }
 }
 
-/// Checks the title of a text.
+/// Checks the title of a text, which is this word and the number 2 of the form.
 #[tactic(auto, unfolding(crate::specs::ProblemText::titled))]
 pub(crate) fn check_titled(word: Word, rows: &mut TextRows) -> Result<(), Fault>
     ensures gives { Gives (λ _. rows_at rows.new.number rows.new.rest.now) result
@@ -119,7 +150,10 @@ pub(crate) fn check_titled(word: Word, rows: &mut TextRows) -> Result<(), Fault>
     ensures count { lines_at rows.new.number rows.new.rest.now ≡ lines_at rows.old.number rows.old.rest.now }
 {
     let row = next_due(rows)?;
-    check_title(Source::None, word.text(), row)
+    match two_fields(row.text) {
+        Some((first, form)) if first == word.text() && form == b"2".as_slice() => Ok(()),
+        _ => Err(in_text(Refusal::WrongHeader, row.line)),
+    }
 }
 
 /// Returns the whole number behind a word in the next line.
@@ -131,6 +165,17 @@ pub(crate) fn read_count(word: Word, rows: &mut TextRows) -> Result<u64, Fault>
 {
     let row = next_due(rows)?;
     read_number(Source::None, word.text(), row)
+}
+
+/// Checks that the next line has a word and this number.
+#[tactic(auto, unfolding(crate::specs::Section::same_count))]
+pub(crate) fn check_same_count(word: Word, number: u32, rows: &mut TextRows) -> Result<(), Fault>
+    ensures gives { Gives (λ _. rows_at rows.new.number rows.new.rest.now) result
+        (same_count (lines_at rows.old.number rows.old.rest.now) word number (rows_at rows.old.number rows.old.rest.now)) }
+    ensures count { lines_at rows.new.number rows.new.rest.now ≡ lines_at rows.old.number rows.old.rest.now }
+{
+    let row = next_due(rows)?;
+    check_count(Source::None, word.text(), number, row)
 }
 
 /// Returns the numbers of `count` lines, line by line.
@@ -147,9 +192,9 @@ pub(crate) fn read_section(
     ensures size { IfOk result (λ v. length v.items ≡ count * columns.width) }
 {
     let mut numbers = Vec::new(alloc);
-    for _ in 0..count {
+    for place in 0..count {
         let row = next_due(rows)?;
-        read_line(word, columns, row, &mut numbers)?;
+        read_line(word, columns, place, row, &mut numbers)?;
     }
     Ok(numbers)
 }

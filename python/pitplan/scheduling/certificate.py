@@ -4,7 +4,7 @@ from __future__ import annotations
 
 import math
 import subprocess
-from collections.abc import Iterable, Sequence
+from collections.abc import Iterable, Mapping, Sequence
 from dataclasses import dataclass
 from pathlib import Path
 from typing import Any, Optional
@@ -23,6 +23,8 @@ from .methods import PROVED
 
 # Numbers of the texts are millionths.
 UNIT = 10**6
+# The number of the form in the title of each text.
+FORM = 2
 # The greatest amount, capacity and price that the program reads, and how many nodes, destinations, columns, terms and capacities.
 MOST_AMOUNT, MOST_CAPACITY, MOST_PRICE = 10**16, 10**18, 10**15
 MOST_NODES, MOST_DESTINATIONS, MOST_COLUMNS, MOST_TERMS, MOST_CAPACITIES = 4_194_304, 64, 1_024, 1_024, 65_536
@@ -148,6 +150,16 @@ class Certificate:
     predecessors: Predecessors
     shares: Shares
     unit: int = 1
+
+    def counts(self, *words: str) -> dict[str, int]:
+        """Returns counts of the problem by their words in the texts."""
+        found = {
+            "BLOCKS": len(self.predecessors.starts) - 1,
+            "PERIODS": len(self.discounts),
+            "DESTINATIONS": self.destinations,
+            "LIMITS": len(self.rows),
+        }
+        return {word: found[word] for word in words}
 
 
 @dataclass(frozen=True)
@@ -397,6 +409,11 @@ def line(word: str, numbers: NDArray[np.int64]) -> str:
     return " ".join([word, *map(decimal, numbers.tolist())])
 
 
+def counted(counts: Mapping[str, int]) -> list[str]:
+    """Returns a line for each count."""
+    return [f"{word} {count}" for word, count in counts.items()]
+
+
 def problem_text(certificate: Certificate) -> str:
     """Returns the text of the problem. Raises PlanError if it is too large for the program."""
     columns = Columns()
@@ -409,17 +426,15 @@ def problem_text(certificate: Certificate) -> str:
     demand_size(certificate, len(columns.columns))
     amounts = np.stack(columns.columns, axis=1)
     counts = {
-        "BLOCKS": len(amounts),
-        "PERIODS": len(certificate.discounts),
-        "DESTINATIONS": certificate.destinations,
+        **certificate.counts("BLOCKS", "PERIODS", "DESTINATIONS"),
         "COLUMNS": amounts.shape[1],
-        "LIMITS": len(certificate.rows),
+        **certificate.counts("LIMITS"),
         "VALUES": len(values),
         "USES": len(uses),
     }
-    lines = ["PROBLEM 1", *(f"{word} {count}" for word, count in counts.items())]
+    lines = [f"PROBLEM {FORM}", *counted(counts)]
     lines += [line("DISCOUNTS", certificate.discounts), *(line("CAPACITIES", row.capacity) for row in certificate.rows)]
-    lines += [*values, *uses, *(line("AMOUNTS", of_block) for of_block in amounts)]
+    lines += [*values, *uses, *(line(f"AMOUNTS {block}", of_block) for block, of_block in enumerate(amounts))]
     return "\n".join(lines) + "\n"
 
 
@@ -430,16 +445,19 @@ def precedence_text(predecessors: Predecessors) -> str:
     return "".join(f"{block} {len(others)} {' '.join(map(str, others))}\n" for block, others in rows)
 
 
-def schedule_text(shares: Shares) -> str:
-    """Returns the text of the schedule."""
+def schedule_text(certificate: Certificate) -> str:
+    """Returns the text of the schedule, with the counts of its problem."""
+    shares = certificate.shares
     places = zip(shares.block.tolist(), shares.period.tolist(), shares.destination.tolist(), shares.share.tolist())
     lines = [f"SHARE {block} {period} {to} {decimal(share)}" for block, period, to, share in places]
-    return "\n".join(["SCHEDULE 1", f"SHARES {len(lines)}", *lines]) + "\n"
+    counts = {**certificate.counts("BLOCKS", "PERIODS", "DESTINATIONS"), "SHARES": len(lines)}
+    return "\n".join([f"SCHEDULE {FORM}", *counted(counts), *lines]) + "\n"
 
 
 def prices_text(certificate: Certificate) -> str:
-    """Returns the text of the prices."""
-    return "\n".join(["PRICES 1", *(line("PRICE", row.price) for row in certificate.rows)]) + "\n"
+    """Returns the text of the prices, with the counts of its problem."""
+    counts = counted(certificate.counts("LIMITS", "PERIODS"))
+    return "\n".join([f"PRICES {FORM}", *counts, *(line("PRICE", row.price) for row in certificate.rows)]) + "\n"
 
 
 # ---- files
@@ -450,7 +468,7 @@ def write(certificate: Certificate, names: Sequence[Any], stage: Path) -> None:
     texts = {
         "problem": problem_text(certificate),
         "prec": precedence_text(certificate.predecessors),
-        "schedule": schedule_text(certificate.shares),
+        "schedule": schedule_text(certificate),
         "prices": prices_text(certificate),
     }
     (stage / layout.CERTIFICATE).mkdir(parents=True, exist_ok=True)

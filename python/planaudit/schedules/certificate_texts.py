@@ -11,7 +11,7 @@ import numpy as np
 
 # The name of the rule, the key of records, and the folder.
 NAME, KEY, FOLDER = "certificate", "certificate", "certificate"
-UNFIT = "a share is of no block, period or destination of the problem"
+UNFIT = "texts are of different problems, or a share is of no block, period or destination of the problem"
 # Numbers of the texts have six decimals.
 UNIT = 1e-6
 # How texts with another unit of money than the currency are recorded.
@@ -47,7 +47,20 @@ class Texts:
     @cached_property
     def amounts(self) -> np.ndarray:
         """The amounts of each block, shape (blocks, columns)."""
-        return self.lines("problem", "AMOUNTS")
+        return self.lines("problem", "AMOUNTS")[:, 1:]
+
+    def counts(self, name: str) -> dict[str, str]:
+        """Returns the numbers of lines of a word and one number, by their words."""
+        return dict(words for words in self.words(name) if len(words) == 2)
+
+    @property
+    def of_one_problem(self) -> bool:
+        """Whether lines of amounts name their blocks in order, and schedule and prices have the counts of the problem."""
+        named = self.lines("problem", "AMOUNTS")[:, :1].ravel()
+        found, shares, prices = (self.counts(name) for name in ("problem", "shares", "prices"))
+        same = [shares.get(word, "") == found.get(word) for word in ("BLOCKS", "PERIODS", "DESTINATIONS")]
+        same += [prices.get(word, "") == found.get(word) for word in ("LIMITS", "PERIODS")]
+        return all(same) and bool((named == np.arange(len(named))).all())
 
     @cached_property
     def uses(self) -> np.ndarray:
@@ -78,8 +91,10 @@ class Texts:
 
     @property
     def fit(self) -> bool:
-        """Whether each share is of a block, period and destination of the problem."""
-        return bool((self.shares[:, :3] < (len(self.amounts), self.periods, self.destinations)).all())
+        """Whether the texts are of one problem, and each share is of a block, period and destination of it."""
+        return self.of_one_problem and bool(
+            (self.shares[:, :3] < (len(self.amounts), self.periods, self.destinations)).all()
+        )
 
     def terms(self, limit: Optional[int] = None) -> dict[tuple[int, int], np.ndarray]:
         """Returns the value of each block, or what it uses of a limit, by destination and lag, each of shape (blocks,)."""

@@ -1,4 +1,4 @@
--- A line is its word and then its numbers.
+-- A line is its word, its number if lines are numbered, and then its numbers.
 use Rattle.std.proofs.Common.{rules, arith, ◌≡◌, ℤ, List, Ok, ◌++◌, length, true}
 use Rattle.std.specs.Prelude.{◌==◌}
 use Rattle.std.specs.Str.{bytes_eq}
@@ -12,8 +12,9 @@ pub returns-clause-ok : goal.returns-clause-ok
 returns-clause-ok c =
     let r = row c.args.r.line (fields_of c.args.r.text.now) in
     let rest = c.in-Some.rest.now in
+    let fields = fields_of c.in_ok-own.own.now in
     let named : bytes_eq c.in-Some.first.now (text_of c.args.word) ≡ true = search rules in
-    let wide : (length (fields_of rest) == c.args.columns.width) ≡ true = search rules in
-    if_ok_map _ (λ _. AddsNumbers c.args.word c.args.columns r c.args.numbers.now.items c.read_numbers.new.numbers.items) c.read_numbers.result
-    (λ _ done. line_added c.args.word c.args.columns r c.in-Some.first.now (fields_of rest) done.0 c.args.numbers.now.items c.read_numbers.new.numbers.items c.in-Some.ensures.field named wide done.1 done.2)
+    let wide : (length fields == c.args.columns.width) ≡ true = search rules in
+    if_ok_map _ (λ _. AddsNumbers c.args.word c.args.columns c.args.place r c.args.numbers.now.items c.read_numbers.new.numbers.items) c.read_numbers.result
+    (λ _ done. line_added c.args.word c.args.columns c.args.place r c.in-Some.first.now (fields_of rest) fields done.0 c.args.numbers.now.items c.read_numbers.new.numbers.items c.in-Some.ensures.field named c.in_ok-own.ensures wide done.1 done.2)
     c.read_numbers.ensures.ok
