@@ -43,9 +43,10 @@ def test_value_and_bound_are_as_worked_out_by_hand(plan_folder):
     proved = record["certificate"]
     assert proved["value"] == pytest.approx((2600 + 1400 + 600 - 2 / 9 * 3000) / 1.1, abs=0.01)
     assert proved["bound"] == pytest.approx((7 / 9 * 2600 + 1400 + 600) / 1.1, abs=0.01)
-    assert any(
-        note.startswith("proved by pitschedule: the schedule keeps all precedences and limits") for note in notes
+    (note,) = (
+        it for it in notes if it.startswith("proved by pitschedule: the schedule keeps all precedences and limits")
     )
+    assert f"{proved['bound']:,.2f}. Each block of the texts is mined whole in one period, not before its" in note
     assert "Proved by pitschedule: the schedule keeps" in (folder / "report.html").read_text()
     assert lines(folder, "problem", "DISCOUNTS") == [[0.909091, 0.826446, 0.751315]]
     assert sorted(share for *_, share in lines(folder, "shares", "SHARE"))[:2] == [0.222223, 0.777777]

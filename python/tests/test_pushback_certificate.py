@@ -80,6 +80,17 @@ def test_what_lies_on_a_stockpile_at_the_start_by_hand(tmp_path):
     assert found.bound == pytest.approx((5500 + 60 - least) / 1.1 + (5500 + least) / 1.21, rel=ROUNDED)
 
 
+@pytest.mark.parametrize(
+    ("tonnes", "said"),
+    [(300, "Each block of the texts is mined whole in one period"), (100, "Blocks of the texts are mined in parts")],
+)
+def test_the_note_says_whether_blocks_are_mined_whole(tmp_path, tonnes, said):
+    """The upper bench has 200 t, of which a year takes all or half."""
+    limits = Limits({"feed_tonnes": 300, "total_tonnes": tonnes})
+    _, found = proved(two_benches(limits, 3), tmp_path)
+    assert f"{found.bound:,.2f}. {said}" in found.note
+
+
 # ---- random mines
 
 
@@ -142,7 +153,7 @@ def test_record_notes_and_report_have_what_is_proved(written):
         *(("feed_tonnes", "max"), ("stockpile_stockpile", "max")),
         *(("vertical_advance_1", "max"), ("vertical_advance_2", "max")),
     }
-    note = f"is worth {proved['value']:,.2f}; no schedule within them is worth more than {proved['bound']:,.2f}"
+    note = f"is worth {proved['value']:,.2f}; no schedule within them is worth more than {proved['bound']:,.2f}. Each block of the texts is mined whole in one period"
     assert any(note in it for it in json.loads((folder / "plan.json").read_text())["notes"])
     assert note in (folder / "report.html").read_text()
     assert wrong(folder) == set()

@@ -35,6 +35,9 @@ ROUNDS = 50
 WHOLE = "the schedule has no certificate"
 # What the lines of the program's answer begin with.
 ANSWER = ["SCHEDULE", "VALUE", "WHOLE BLOCKS", "BOUND"]
+# What a note says of a schedule of whole blocks, and of another.
+WHOLE_BLOCKS = "Each block of the texts is mined whole in one period, not before its predecessors, or never"
+PARTS_OF_BLOCKS = "Blocks of the texts are mined in parts, and a part may be mined before the rest of a predecessor"
 # The destination of waste.
 WASTE = 0
 
@@ -170,6 +173,8 @@ class Certified:
     ----------
     value, bound : float, optional
         The value of the schedule, rounded down, and the most that any schedule is worth, rounded up; None if the program is not installed.
+    is_whole : bool, optional
+        Whether each block of the texts is mined whole in one period, or never; None if the program is not installed.
     destinations : tuple
         Of the texts, in their order: stockpile, process, and the years until the process takes the ore.
     limits : tuple
@@ -182,6 +187,7 @@ class Certified:
 
     value: Optional[float]
     bound: Optional[float]
+    is_whole: Optional[bool] = None
     destinations: tuple[tuple[str, str, int], ...] = ()
     limits: tuple[tuple[str, str], ...] = ()
     unit: int = 1
@@ -202,7 +208,8 @@ class Certified:
         by = PROVED if self.recorded else "checked by a pitschedule that is not known to be proved: "
         return (
             f"{by}the schedule keeps all precedences and limits, and is worth {self.value:,.2f}; no schedule within them is worth "
-            f"more than {self.bound:,.2f}. Block values and limits are as in the folder certificate; they are verified, not proved"
+            f"more than {self.bound:,.2f}. {WHOLE_BLOCKS if self.is_whole else PARTS_OF_BLOCKS}. Block values and limits are as in "
+            "the folder certificate; they are verified, not proved"
         )
 
 
@@ -487,5 +494,7 @@ def checked(stage: Path, program: Optional[Path], unit: int = 1) -> Certified:
     if ran.returncode != 0 or [line.partition(":")[0] for line in lines] != ANSWER:
         said = (ran.stdout + ran.stderr).strip().replace("\n", "; ")
         raise ProgramError(f"{program}: the certificate is not that of a schedule: {said}")
-    value, bound = (unit * float(lines[place].partition(": ")[2]) for place in (1, 3))
-    return Certified(value, bound, unit=unit, recorded=is_proved(hash_of(program)))
+    _, value, whole, bound = (line.partition(": ")[2] for line in lines)
+    return Certified(
+        unit * float(value), unit * float(bound), whole == "yes", unit=unit, recorded=is_proved(hash_of(program))
+    )
