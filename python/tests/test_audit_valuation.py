@@ -5,12 +5,12 @@ from types import SimpleNamespace
 import numpy as np
 import pytest
 
-from planaudit.inputs.project import Calendar
+from planaudit.inputs.calendar import Calendar
 from planaudit.schedules.valuation import Periods
 
 NAN = float("nan")
 PROJECT = SimpleNamespace(
-    project=SimpleNamespace(shells=SimpleNamespace(calendar=Calendar(), discounting="end_of_year", discount_rate=0.1))
+    project=SimpleNamespace(calendar=Calendar(), shells={"discounting": "end_of_year", "discount_rate": 0.1})
 )
 
 

@@ -44,8 +44,9 @@ def test_a_converted_price_makes_the_same_plan(plan_folder, unit, given, same):
     assert by_given.values.revenue.any()
     pd.testing.assert_frame_equal(by_given.blocks, by_same.blocks)
     metal, natural = by_given.project.metals[0], by_same.project.metals[0]
+    units = {"unit": metal.unit, "price_per": metal.price_per}
     for price, expected in zip((metal.price, *metal.prices), (natural.price, *natural.prices)):
-        assert metal.by_quantity(price) == converted(metal, price) == expected
+        assert metal.by_quantity(price) == converted(units, price) == expected
 
 
 @pytest.mark.parametrize("per", ["t", "kg", "g", "lb", "oz"])
@@ -53,7 +54,7 @@ def test_a_converted_price_makes_the_same_plan(plan_folder, unit, given, same):
 def test_both_conversions_round_alike(plan_folder, per, unit):
     metal = replace(load(plan_folder(ore())).metals[0], unit=unit, price_per=per)
     for price in map(Decimal, ("0", "1", "3.85", "1927.4", "0.000001", "8818.490487395103")):
-        assert metal.by_quantity(price) == converted(metal, price)
+        assert metal.by_quantity(price) == converted({"unit": unit, "price_per": per}, price)
 
 
 def test_a_run_by_the_pound_is_verified_and_reads_back(plan_folder):

@@ -15,7 +15,6 @@ from pitplan.config.economics import Curve
 from pitplan.core.decimals import Exact
 from pitplan.economics import block_values, recovery_curves
 from pitplan.economics.recovery_curves import Head
-from planaudit.inputs import project
 from planaudit.money import feed
 from planaudit.money.feed import at_grade
 
@@ -80,7 +79,7 @@ def test_the_middle_of_two_millionths_is_the_even_one(points, millionths):
     curve = Curve(tuple((Decimal(grade), Decimal(share)) for grade, share in points))
     head = Head(Exact.of(1, 1), Exact.of(1, 1))
     assert recovery_curves.at_grades(curve, head).tolist() == [millionths]
-    assert at_grade(project.Curve(curve.points), Fraction(1)) == Decimal(millionths).scaleb(-6)
+    assert at_grade(curve.points, Fraction(1)) == Decimal(millionths).scaleb(-6)
 
 
 numbers = st.decimals(0, 5, places=3)
@@ -97,8 +96,7 @@ def test_as_numpy_has_it_but_for_a_millionth(named, grades, dilution):
     expected = np.interp([float(grade / (1 + dilution)) for grade in grades], *np.array(curve.points, dtype=float).T)
     found = recovery_curves.at_grades(curve, head)
     assert found.astype(float) / 1e6 == pytest.approx(expected, abs=5.01e-7)
-    again = project.Curve(curve.points)
-    exactly = [at_grade(again, Fraction(grade) / Fraction(1 + dilution)) for grade in grades]
+    exactly = [at_grade(curve.points, Fraction(grade) / Fraction(1 + dilution)) for grade in grades]
     assert [Decimal(int(parts)).scaleb(-6) for parts in found] == exactly
 
 
@@ -173,6 +171,6 @@ def test_a_tail_that_is_passed_over_is_found(plan_folder, monkeypatch):
 
 def test_recoveries_that_two_millionths_are_as_near_to_are_told_exactly():
     """Half a millionth above 0.5 at 1 %, and a fifth of one at 0.4 %."""
-    curve = project.Curve(((Decimal(0), Decimal("0.5")), (Decimal(2), Decimal("0.500001"))))
+    curve = ((Decimal(0), Decimal("0.5")), (Decimal(2), Decimal("0.500001")))
     shares, close = feed.by_grade(curve, np.array([1.0, 0.4]))
     assert close.tolist() == [True, False] and shares[1] == 0.5

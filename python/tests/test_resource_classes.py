@@ -50,10 +50,10 @@ def shells_of(path):
     ],
 )
 def test_without_a_rule_a_class_is_treated_by_its_name(code, treatment):
-    assert ClassRules().of(code) == treatment == audited.treatment(code, SimpleNamespace(classes=ClassRules()))
+    assert ClassRules().of(code) == treatment == audited.treatment(code, SimpleNamespace(classes={}))
     for other in ("ore", "waste", "refuse"):
-        rules = ClassRules({code: other})
-        assert rules.of(code) == other == audited.treatment(code, SimpleNamespace(classes=rules))
+        rules = {code: other}
+        assert ClassRules(rules).of(code) == other == audited.treatment(code, SimpleNamespace(classes=rules))
 
 
 def test_inferred_pillars_are_not_mined(plan_folder):

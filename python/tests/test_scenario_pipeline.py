@@ -2,7 +2,6 @@
 
 from dataclasses import replace
 from decimal import Decimal
-from types import SimpleNamespace
 
 import numpy as np
 import pandas as pd
@@ -482,7 +481,7 @@ def test_means_of_grades_are_exact_where_two_are_as_near(seed):
     expected = reblock.Parts(block, len(blocks), table["tonnes"].to_numpy()).grades(grades)
     centres = table.assign(block=block).groupby("block")[["x", "y", "z"]].mean()
     grid = {"shape": (2, 2, 3), "origin": (10.0, 10.0, 15.0), "size": (20.0, 20.0, 10.0)}
-    columns = SimpleNamespace(x="x", y="y", z="z", tonnes="tonnes")
+    columns = {name: name for name in ("x", "y", "z", "tonnes")}
     assert (mean_grades(table, centres, grades, columns, grid) == expected).all()
 
 

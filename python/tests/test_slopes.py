@@ -17,6 +17,7 @@ from pitplan.config.slopes import Slopes, Wall
 from pitplan.slopes import cone_templates, slope_patterns
 from pitplan.solver import mine_files
 from planaudit.ground import slopes as audited
+from planaudit.inputs.project_keys import wall_of
 
 CUBE, FLAT = (10.0, 10.0, 10.0), (20.0, 20.0, 15.0)
 
@@ -410,7 +411,9 @@ def test_a_block_has_at_most_250_precedences_by_default(angle, benches, preceden
     assert pattern.sentence().endswith("is steeper)" if wanted is None else f"; {WANTED.format(*wanted)}")
     for levels in (benches, benches + 1):
         cells = slope_patterns.cone(wall.angles, FLAT, levels)
-        assert audited.precedences(wall, FLAT, levels, 0.0) == len(slope_patterns.offsets_of(cells))
+        assert audited.precedences(wall_of({"angle": angle}), FLAT, levels, 0.0) == len(
+            slope_patterns.offsets_of(cells)
+        )
     assert wanted is None or len(slope_patterns.offsets_of(cells)) > slope_patterns.MOST_CHOSEN
     if wanted is not None:
         whole = slope_patterns.pattern_of(wall, FLAT, Slopes(wanted[1], False, (wall,)))

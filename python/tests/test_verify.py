@@ -19,7 +19,6 @@ from pitplan import Plan, PlanError, constraints, load, verify
 from pitplan.blockmodel import grid as grids, missing_blocks, reader
 from pitplan.cli import main
 from pitplan.commands.audited import demand
-from pitplan.config.slopes import Wall
 from pitplan.economics import weighing
 from pitplan.pits import best_worst_case
 from pitplan.results.folder import read_record
@@ -27,6 +26,7 @@ from pitplan.slopes import slope_patterns
 from planaudit.ground.slopes import flatness, high_walls
 from planaudit.inputs import answer, project_file
 from planaudit.inputs.matching import read_blocks
+from planaudit.inputs.project_keys import wall_of
 from planaudit.pits import sums
 from planaudit.rules import rule
 
@@ -485,7 +485,7 @@ def test_rows_without_rock_are_no_blocks_that_are_left_standing(plan_folder):
 
 def test_walls_between_azimuths_by_hand():
     """60 degrees to the east and 30 to the west: what they step back for a metre up is linear between, also over the north."""
-    wall = Wall(azimuths=((90.0, 60.0), (270.0, 30.0)))
+    wall = wall_of({"azimuths": [[90, 60], [270, 30]]})
     steep, flat = 1 / np.sqrt(3), np.sqrt(3)
     expected = [
         (steep + flat) / 2,
@@ -495,17 +495,17 @@ def test_walls_between_azimuths_by_hand():
         flat + (steep - flat) * 89 / 180,
     ]
     assert flatness(wall, np.array([0.0, 90, 180, 315, 359])) == pytest.approx(expected)
-    assert slope_patterns.cotangents(wall.angles, np.array([0.0, 90, 180, 315, 359])) == pytest.approx(expected)
+    assert slope_patterns.cotangents(wall["angles"], np.array([0.0, 90, 180, 315, 359])) == pytest.approx(expected)
 
 
 def test_high_walls_by_geometry():
     """Over one level walls of 45 degrees are the block above and the four beside it, so that they are steeper at the diagonals."""
-    wall = Wall(azimuths=((0.0, 45.0),))
+    wall = wall_of({"angle": 45})
     diagonal = np.degrees(np.arctan(np.sqrt(2)))
     assert high_walls(wall, (10.0, 10.0, 10.0), 1)[[0, 45, 90, 225]] == pytest.approx([45, diagonal, 45, diagonal])
     assert high_walls(wall, (20.0, 10.0, 20.0), 1)[[0, 90, 180]] == pytest.approx([45, 45, 45])
     # Steeper than a block is wide: no cell beside the block is within.
-    assert set(high_walls(Wall(azimuths=((0.0, 80.0),)), (10.0, 10.0, 10.0), 1)) == {90.0}
+    assert set(high_walls(wall_of({"angle": 80}), (10.0, 10.0, 10.0), 1)) == {90.0}
 
 
 def test_needs_that_steeper_walls_on_the_way_do_not_lead_to_are_found(plan_folder, monkeypatch):

@@ -9,7 +9,7 @@ from planaudit.blocks import own_columns
 from planaudit.ground import depletion
 from planaudit.inputs import surveys as survey
 from planaudit.inputs.answer import Answer
-from planaudit.inputs.project import ConstraintRules
+from planaudit.inputs.project import Section
 from planaudit.revenue_factors import factor_text
 from planaudit.rules import TOLD, Rule, rule
 
@@ -33,20 +33,20 @@ def verify(answer: Answer) -> Rule:
         f"{answer.called(row)} is excluded, and is mined from revenue factor {factor_text(first[row])}"
         for row in dug[:TOLD]
     ]
-    ground = ", with the mined-out blocks," if rules.as_mined else ""
+    ground = ", with the mined-out blocks," if rules["as_mined"] else ""
     holds = f"must-mine blocks{ground} are in every shell, and excluded blocks in none"
     return rule("fixed", holds, differences, len(left) + len(dug))
 
 
-def demanded(answer: Answer, rules: ConstraintRules) -> tuple[np.ndarray, np.ndarray]:
+def demanded(answer: Answer, rules: Section) -> tuple[np.ndarray, np.ndarray]:
     """Returns masks of must-mine and excluded blocks, shape (rows,)."""
     if "fixed" not in answer.found:
         rock = answer.tonnes > 0
-        must, never = marked(answer, rules.must_mine) & rock, marked(answer, rules.exclude)
-        if rules.as_mined is not None:
+        must, never = marked(answer, rules["must_mine"]) & rock, marked(answer, rules["exclude"])
+        if rules["as_mined"] is not None:
             must = must | depletion.surely_mined(answer, rules)
-        for area in rules.areas:
-            never = never | within(answer, survey.polygons(area.polygon), area.exclude == "inside")
+        for area in rules["areas"]:
+            never = never | within(answer, survey.polygons(area["polygon"]), area["exclude"] == "inside")
         answer.found["fixed"] = must, never & rock
     return answer.found["fixed"]
 
@@ -58,7 +58,7 @@ def marked(answer: Answer, column: str | None) -> np.ndarray:
 def within(answer: Answer, polygons: list[list[np.ndarray]], inside: bool) -> np.ndarray:
     """Returns whether the centroid of each block lies in a polygon, or outside all; False at the edge of one."""
     columns = answer.project.table
-    centres, place = np.unique(answer.rows[[columns.x, columns.y]].to_numpy(), axis=0, return_inverse=True)
+    centres, place = np.unique(answer.rows[[columns["x"], columns["y"]]].to_numpy(), axis=0, return_inverse=True)
     surely, perhaps = (np.zeros(len(centres), dtype=bool) for _ in range(2))
     for outline, *holes in polygons:
         (narrow, wide), cut = in_ring(centres, outline), [in_ring(centres, hole) for hole in holes]
@@ -83,9 +83,9 @@ def verify_places(answer: Answer) -> Rule:
     """Verifies that each block is in a cell of its own, at its centre, with the id of the cell and the planner's fields, and that revenue factors
     are those of the project."""
     rules, (differences, count) = answer.project.grid, own_columns.unlike(answer)
-    tolerance = rules.tolerance
-    if rules.azimuth is not None and rules.azimuth != answer.azimuth:
-        differences.append(f"grid north has azimuth {answer.azimuth:.10g} for {rules.azimuth:.10g} of the project")
+    tolerance = rules["tolerance"]
+    if rules["azimuth"] is not None and rules["azimuth"] != answer.azimuth:
+        differences.append(f"grid north has azimuth {answer.azimuth:.10g} for {rules['azimuth']:.10g} of the project")
         count += 1
     if told := unlike_top(answer):
         differences.append(told)
@@ -124,7 +124,7 @@ def unknown(values: np.ndarray, known: list[float]) -> np.ndarray:
 def unlike_top(answer: Answer) -> str:
     """Returns a difference if the highest level of the grid is not that of the highest row of the table, air and removed rows included; otherwise
     an empty text."""
-    column, highest = answer.project.table.z, answer.elevations[0]
+    column, highest = answer.project.table["z"], answer.elevations[0]
     found = max(float(rows[column].max()) for rows in (answer.rows, answer.beyond) if rows is not None)
     is_same = round((found - highest) / answer.size[2]) == 0
     return "" if is_same else f"the highest level of the grid is at {highest:.10g} m, that of the table at {found:.10g}"

@@ -2,6 +2,7 @@
 
 from __future__ import annotations
 
+from collections.abc import Mapping
 from typing import Optional
 
 import numpy as np
@@ -9,14 +10,14 @@ import pandas as pd
 
 from planaudit.inputs.answer import Answer
 from planaudit.inputs.matching import UNCUT
-from planaudit.inputs.project import MissingRock
+from planaudit.inputs.project import Section
 from planaudit.rules import TOLD, Rule, rule
 
 
 def verify(answer: Answer) -> Rule:
     """Verifies that every missing block is filled as the project defines it, and otherwise that none is."""
-    rock = answer.project.table.missing_blocks
-    if not isinstance(rock, MissingRock):
+    rock = answer.project.table["missing_blocks"]
+    if not isinstance(rock, Mapping):
         return rule("absent", "no missing block is filled", [])
     differences, count = unlike_cells(answer)
     for name, expected in words(answer, rock).items():
@@ -24,27 +25,27 @@ def verify(answer: Answer) -> Rule:
         off = np.flatnonzero((added.astype(str) if isinstance(expected, str) else added) != expected)
         differences += [f"{answer.called(answer.known + k)}: {name} {added.iloc[k]} for {expected}" for k in off[:TOLD]]
         count += len(off)
-    holds = f"every missing block is filled with {rock.tonnes:g} t"
+    holds = f"every missing block is filled with {rock['tonnes']:g} t"
     return rule("absent", f"{holds} and codes of the project, and no other cell is", differences, count)
 
 
-def words(answer: Answer, rock: MissingRock) -> dict[str, str | float]:
+def words(answer: Answer, rock: Section) -> dict[str, str | float]:
     """Returns the expected fields of a filled block: tonnes, unless a surface cuts them, codes, 1 as cost adjustment
     factor, and 0 in other columns, without centroid and id."""
     columns = answer.project.table
     told: dict[Optional[str], str | float] = {
-        columns.tonnes: rock.tonnes,
-        columns.rock_type: rock.rock_type,
-        columns.domain: rock.domain,
-        columns.resource_class: rock.resource_class,
-        **dict.fromkeys(answer.project.economics.adjusting, 1.0),
+        columns["tonnes"]: rock["tonnes"],
+        columns["rock_type"]: rock["rock_type"],
+        columns["domain"]: rock["domain"],
+        columns["class"]: rock["class"],
+        **dict.fromkeys(answer.project.adjusting, 1.0),
     }
     passed = {
-        columns.x,
-        columns.y,
-        columns.z,
-        columns.id,
-        *([columns.tonnes, UNCUT] if answer.project.cuts_blocks else []),
+        columns["x"],
+        columns["y"],
+        columns["z"],
+        columns["id"],
+        *([columns["tonnes"], UNCUT] if answer.project.cuts_blocks else []),
     }
     return {name: told.get(name, 0.0) for name in answer.rows.columns if name not in passed}
 
@@ -70,7 +71,7 @@ def unlike_cells(answer: Answer) -> tuple[list[str], int]:
     differences += [
         f"{answer.called(answer.known + k)} fills a cell above the highest of its column" for k in more[:TOLD]
     ]
-    named, cells = answer.project.table.id, np.ravel_multi_index(added, answer.shape)
+    named, cells = answer.project.table["id"], np.ravel_multi_index(added, answer.shape)
     called = answer.rows[named].iloc[answer.known :] if named else [f"absent-{cell}" for cell in cells]
     off = [f"block {name} is of the cell {cell}" for name, cell in zip(called, cells) if name != f"absent-{cell}"]
     return differences + off, len(lacking) + len(more) + len(off)

@@ -30,16 +30,20 @@ def verify(answer: Answer) -> Rule:
         revenue, processing = gains_by_floats(part)
         pays = rock_of(
             part,
-            np.flatnonzero(factor * revenue - processing > HAIR * revenue + 10.0**-answer.project.economics.decimals),
+            np.flatnonzero(
+                factor * revenue - processing > HAIR * revenue + 10.0 ** -answer.project.economics["decimals"]
+            ),
         )
         differences += [
             f"{part.called(row)} was removed, and pays at revenue factor {factor_text(factor)}" for row in pays[:TOLD]
         ]
         count += len(pays)
     fixed = answer.project.constraints
-    if fixed is not None and fixed.must_mine:
+    if fixed is not None and fixed["must_mine"]:
         part = replace(answer, rows=rows)
-        forced = rock_of(part, np.flatnonzero((rows[fixed.must_mine] > 0) & (rows[answer.project.table.tonnes] > 0)))
+        forced = rock_of(
+            part, np.flatnonzero((rows[fixed["must_mine"]] > 0) & (rows[answer.project.table["tonnes"]] > 0))
+        )
         differences += [f"{part.called(row)} was removed, and is must-mine" for row in forced[:TOLD]]
         count += len(forced)
     reaching = leading_off(answer)
@@ -61,7 +65,7 @@ def beyond_sides(answer: Answer) -> tuple[int, int, int, int]:
     """Returns how many rows of the model lie south and north of the grid, and how many columns west and east of it."""
     assert answer.beyond is not None
     columns, (_, rows, width) = answer.project.table, answer.shape
-    east, north = np.rint(steps_of(answer.beyond[[columns.x, columns.y]].to_numpy(), answer.record["grid"])).T
+    east, north = np.rint(steps_of(answer.beyond[[columns["x"], columns["y"]]].to_numpy(), answer.record["grid"])).T
     far = (-north.min(), north.max() - rows + 1, -east.min(), east.max() - width + 1)
     south, up, west, right = (max(0, int(steps)) for steps in far)
     return south, up, west, right
@@ -73,7 +77,7 @@ def leading_off(answer: Answer) -> np.ndarray:
     dug, entry = answer.dug[answer.cells], answer.entries[answer.cells]
     south, north, west, east = beyond_sides(answer)
     wrong = np.zeros(len(answer.rows), dtype=bool)
-    for number, wall in enumerate(answer.project.slopes.domains):
+    for number, wall in enumerate(answer.project.slopes["domains"]):
         mine = (entry == number) & (dug != UNDUG) & (dug != NOTHING)
         for up in range(1, answer.levels(wall) + 1):
             for run in runs(cone(wall, answer.size, up, answer.azimuth)):

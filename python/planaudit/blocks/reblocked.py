@@ -30,10 +30,10 @@ def verify(answer: Answer) -> Rule:
     if len(expected) != answer.known:
         return rule("reblocked", "rows are reblocked", [f"{answer.known:,} blocks for {len(expected):,}"])
     # Another rule verifies tonnes below a surface.
-    passed = (columns.x, columns.y, columns.z, *([columns.tonnes] if answer.project.cuts_blocks else []))
+    passed = (columns["x"], columns["y"], columns["z"], *([columns["tonnes"]] if answer.project.cuts_blocks else []))
     for name in [name for name in expected if name not in passed]:
         column = said[name].iloc[: answer.known].to_numpy()
-        slack = TONNES if name == columns.tonnes else GRADE
+        slack = TONNES if name == columns["tonnes"] else GRADE
         is_code = name in answer.project.codes
         other = (
             column != expected[name]
@@ -50,11 +50,11 @@ def verify(answer: Answer) -> Rule:
 
 def unlike_grid(parts: pd.DataFrame, project: Project, grid: dict[str, Any]) -> list[str]:
     """Returns differences of block size and edges from the project."""
-    columns, rules, found = project.table, project.table.reblock, []
+    columns, rules, found = project.table, project.table["reblock"], []
     assert rules is not None
-    if rules.counts is None and rules.size is None:
+    if rules["counts"] is None and rules["size"] is None:
         return unlike_parents(parts, project, grid)
-    levels, axes = grid["shape"][0], [columns.x, columns.y, columns.z]
+    levels, axes = grid["shape"][0], [columns["x"], columns["y"], columns["z"]]
     # Metres: of a rotated grid along its own axes from its first block, otherwise the planner's.
     first = np.array([0.0, 0.0, grid["origin"][2]]) if grid.get("azimuth") else np.array(grid["origin"])
     along = [parts[name].to_numpy() for name in axes]
@@ -63,39 +63,41 @@ def unlike_grid(parts: pd.DataFrame, project: Project, grid: dict[str, Any]) -> 
     for k, name in enumerate(axes):
         centres, size = np.sort(pd.unique(along[k])), grid["size"][k]
         edge = first[k] - size / 2 - (size * (levels - 1) if k == 2 else 0.0)
-        if rules.counts is not None:
-            own = size / rules.counts[k]
-            expected, start = own * rules.counts[k], centres[0] - own / 2
+        if rules["counts"] is not None:
+            own = size / rules["counts"][k]
+            expected, start = own * rules["counts"][k], centres[0] - own / 2
             # Whole blocks that no shell can reach may be removed.
             start += size * np.rint((edge - start) / size)
             steps = (centres - centres[0]) / own
-            if np.abs(steps - np.rint(steps)).max() * own > project.grid.tolerance * 2 or not on_steps(
+            if np.abs(steps - np.rint(steps)).max() * own > project.grid["tolerance"] * 2 or not on_steps(
                 np.diff(np.rint(steps))
             ):
-                found.append(f"{name}: blocks of {size:.10g} m are no {rules.counts[k]} of the table's")
+                found.append(f"{name}: blocks of {size:.10g} m are no {rules['counts'][k]} of the table's")
         else:
-            assert rules.size is not None and rules.corner is not None
+            assert rules["size"] is not None and rules["corner"] is not None
             corner = (
-                (steps_of(np.array([rules.corner]), grid)[0] * grid["size"] + first)[k]
+                (steps_of(np.array([rules["corner"]]), grid)[0] * grid["size"] + first)[k]
                 if grid.get("azimuth")
-                else rules.corner[k]
+                else rules["corner"][k]
             )
-            expected, start = rules.size[k], corner + size * np.rint((edge - corner) / size)
-        if abs(expected - size) > HAIR or abs(edge - start) > max(HAIR, project.grid.tolerance):
+            expected, start = rules["size"][k], corner + size * np.rint((edge - corner) / size)
+        if abs(expected - size) > HAIR or abs(edge - start) > max(HAIR, project.grid["tolerance"]):
             found.append(f"{name}: blocks of {size:.10g} m from {edge:.10g} on for {expected:.10g} from {start:.10g}")
     return found
 
 
 def unlike_parents(parts: pd.DataFrame, project: Project, grid: dict[str, Any]) -> list[str]:
     """Returns differences of the blocks from the largest cells, which are whole blocks along each axis along which they are as large."""
-    axes, found = [project.table.x, project.table.y, project.table.z], []
-    sides, steps = parts[list(project.table.rules.cell_size or ())].to_numpy(), steps_of(parts[axes].to_numpy(), grid)
+    axes, found = [project.table["x"], project.table["y"], project.table["z"]], []
+    sides, steps = parts[list(project.table["rules"].cell_size or ())].to_numpy(), steps_of(
+        parts[axes].to_numpy(), grid
+    )
     greatest = sides.max(axis=0)
     for k, name in enumerate(axes):
         size = grid["size"][k]
         whole = (sides == greatest).all(axis=1) if (sides == greatest).all(axis=1).any() else sides[:, k] == greatest[k]
         off = np.abs(steps[whole, k] - np.rint(steps[whole, k])).max() * size
-        if abs(greatest[k] - size) > HAIR or off > max(HAIR, project.grid.tolerance):
+        if abs(greatest[k] - size) > HAIR or off > max(HAIR, project.grid["tolerance"]):
             found.append(
                 f"{name}: blocks of {size:.10g} m for cells of {greatest[k]:.10g} m, which lie {off:.3g} m off them"
             )

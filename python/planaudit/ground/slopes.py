@@ -9,7 +9,7 @@ import numpy as np
 import pandas as pd
 
 from planaudit.inputs.answer import NOTHING, UNDUG, Answer
-from planaudit.inputs.project import Wall
+from planaudit.inputs.project import Section
 from planaudit.revenue_factors import factor_text
 from planaudit.rules import TOLD, Rule, rule
 
@@ -28,29 +28,30 @@ class Run:
     east: int
 
 
-def flatness(wall: Wall, azimuth: np.ndarray) -> np.ndarray:
+def flatness(wall: Section, azimuth: np.ndarray) -> np.ndarray:
     """Returns the cotangent of the slope angle at azimuths in degrees: linear between those given, and around the circle."""
-    if wall.bench:
+    if wall["bench"]:
         return np.full(
             np.shape(azimuth),
-            1 / math.tan(math.radians(wall.bench.face_angle)) + wall.bench.berm_width / wall.bench.height,
+            1 / math.tan(math.radians(wall["bench"]["face_angle"]))
+            + wall["bench"]["berm_width"] / wall["bench"]["height"],
         )
     # A face dips away from its wall.
-    turned = 180 if wall.azimuth_of == "dip" else 0
-    pairs = sorted(((azimuth + turned) % 360, angle) for azimuth, angle in wall.angles)
+    turned = 180 if wall["azimuth_of"] == "dip" else 0
+    pairs = sorted(((azimuth + turned) % 360, angle) for azimuth, angle in wall["angles"])
     given = [azimuth for azimuth, _ in pairs]
     back = [math.cos(math.radians(angle)) / math.sin(math.radians(angle)) for _, angle in pairs]
     return np.interp(azimuth, [given[-1] - 360, *given, given[0] + 360], [back[-1], *back, back[0]])
 
 
-def cone(wall: Wall, size: tuple[float, float, float], up: int, turn: float = 0.0) -> np.ndarray:
+def cone(wall: Section, size: tuple[float, float, float], up: int, turn: float = 0.0) -> np.ndarray:
     """Returns which cells lie in the cone a number of levels up: a boolean square, rows from the south, around the cell above. `turn` is the azimuth
     of the grid's north in degrees."""
-    if wall.pattern:
-        corner = NEIGHBOURS[wall.pattern]
+    if wall["pattern"]:
+        corner = NEIGHBOURS[wall["pattern"]]
         return np.array([[abs(north) + abs(east) <= corner for east in (-1, 0, 1)] for north in (-1, 0, 1)])
-    if wall.offsets:
-        steps = {(north, east) for east, north, above in wall.offsets if above == up}
+    if wall["offsets"]:
+        steps = {(north, east) for east, north, above in wall["offsets"] if above == up}
         far = max((max(abs(north), abs(east)) for north, east in steps), default=0)
         return np.array([[(north, east) in steps for east in range(-far, far + 1)] for north in range(-far, far + 1)])
     back = up * size[2] * max(flatness(wall, np.arange(0.0, 360.0, 0.25)))
@@ -99,7 +100,7 @@ def verify(answer: Answer) -> Rule:
     """Verifies that no shell leaves a block with tonnes, or unknown ground, in the whole cone of a block that it mines."""
     dug, entry, ranks = answer.dug, answer.entries, ranks_of(answer.dug)
     wrong = np.zeros(answer.shape, dtype=bool)
-    for number, wall in enumerate(answer.project.slopes.domains):
+    for number, wall in enumerate(answer.project.slopes["domains"]):
         mine = (entry == number) & (dug != UNDUG) & (dug != NOTHING)
         if not mine.any():
             continue
@@ -124,14 +125,14 @@ def verify_steepness(answer: Answer) -> Rule:
     """Verifies that without `precedence_benches` no slope error exceeds half a degree, unless their number is the largest, or a block would have too
     many precedences over a bench more."""
     slopes, differences = answer.project.slopes, []
-    if slopes.precedence_benches is not None:
+    if slopes["precedence_benches"] is not None:
         return rule(
-            "levels", f"slope precedences reach over {slopes.precedence_benches} benches, as in the project", []
+            "levels", f"slope precedences reach over {slopes['precedence_benches']} benches, as in the project", []
         )
-    for number, wall in enumerate(slopes.domains):
+    for number, wall in enumerate(slopes["domains"]):
         levels = answer.levels(wall)
         steeper = 0.0
-        if not wall.pattern and not wall.offsets:
+        if not wall["pattern"] and not wall["offsets"]:
             steeper = float((high_walls(wall, answer.size, levels, answer.azimuth) - asked(wall, answer.azimuth)).max())
         is_steeper = steeper > STEEPER + 1e-6 and levels < MOST_LEVELS
         if is_steeper and precedences(wall, answer.size, levels + 1, answer.azimuth) <= MOST_CHOSEN:
@@ -146,7 +147,7 @@ def verify_steepness(answer: Answer) -> Rule:
     )
 
 
-def precedences(wall: Wall, size: tuple[float, float, float], levels: int, turn: float) -> int:
+def precedences(wall: Section, size: tuple[float, float, float], levels: int, turn: float) -> int:
     """Returns how many precedences imply the whole cone: its cells between which and the block no lower cell lies that leads to them."""
     cones = [cone(wall, size, up, turn) for up in range(1, levels + 1)]
     found: set[tuple[int, int, int]] = set()
@@ -173,12 +174,12 @@ def leads(cones: list[np.ndarray], step: tuple[int, int, int], south: int, west:
     return north <= far and east <= far and bool(inside[far + north * south, far + east * west])
 
 
-def asked(wall: Wall, turn: float) -> np.ndarray:
+def asked(wall: Section, turn: float) -> np.ndarray:
     """Returns the required angles in degrees, by whole azimuth from the grid's north, which has the azimuth `turn`."""
     return np.degrees(np.arctan2(1.0, flatness(wall, (np.arange(360.0) + turn) % 360)))
 
 
-def high_walls(wall: Wall, size: tuple[float, float, float], levels: int, turn: float = 0.0) -> np.ndarray:
+def high_walls(wall: Section, size: tuple[float, float, float], levels: int, turn: float = 0.0) -> np.ndarray:
     """Returns the angles of high slopes, of cones upon cones, in the same way: those of the convex hull of the cone."""
     # Here, since it takes a tenth of a second, and not if the project sets the number of benches.
     from scipy.spatial import ConvexHull, QhullError
@@ -202,7 +203,7 @@ def needed_by(answer: Answer, blocks: np.ndarray) -> np.ndarray:
     """Returns the given blocks and all their predecessors, a boolean mask over cells."""
     found = blocks.copy()
     entries = answer.entries
-    walls, turn = answer.project.slopes.domains, answer.azimuth
+    walls, turn = answer.project.slopes["domains"], answer.azimuth
     cones = [[runs(cone(wall, answer.size, up, turn)) for up in range(1, answer.levels(wall) + 1)] for wall in walls]
     back = [[[Run(-it.north, -it.east, -it.west) for it in inside] for inside in of_wall] for of_wall in cones]
     for level in range(answer.shape[0] - 1, 0, -1):
@@ -235,5 +236,5 @@ def told(answer: Answer, wrong: np.ndarray) -> tuple[list[str], int]:
 
 
 def holds(answer: Answer) -> str:
-    most = max(answer.levels(wall) for wall in answer.project.slopes.domains)
+    most = max(answer.levels(wall) for wall in answer.project.slopes["domains"])
     return f"no block of any shell lacks a block of its slope cone, up to {most} benches above it"

@@ -14,7 +14,7 @@ import pandas as pd
 
 from planaudit.ground.triangles import cross, highest as highest_of
 from planaudit.inputs.answer import Answer
-from planaudit.inputs.project import SurveyFile
+from planaudit.inputs.project import Section
 from planaudit.inputs.rotated_grid import places_of, steps_of
 from planaudit.inputs.surveys import heights
 
@@ -24,7 +24,7 @@ HAIR = 1e-6
 MOST_ON_A_CIRCLE = 12
 
 
-def above(answer: Answer, file: SurveyFile) -> np.ndarray:
+def above(answer: Answer, file: Section) -> np.ndarray:
     """Returns whether the centroid of each block is above the surface, shape (rows,); False outside all points."""
     points, faces = heights(file, answer.record["grid"])
     height = means(answer, pd.DataFrame(points[: 0 if len(faces) else None], columns=["x", "y", "z"]))

@@ -14,7 +14,7 @@ from planaudit.ground.triangles import highest, near
 from planaudit.inputs import surveys as survey
 from planaudit.inputs.answer import Answer
 from planaudit.inputs.matching import UNCUT
-from planaudit.inputs.project import SurveyFile
+from planaudit.inputs.project import Section
 from planaudit.inputs.rotated_grid import steps_of
 from planaudit.rules import TOLD, Rule, rule
 
@@ -37,7 +37,7 @@ class Ground:
     shape: tuple[int, int, int]
 
     @staticmethod
-    def of(answer: Answer, file: SurveyFile, cells: Optional[np.ndarray] = None) -> Ground:
+    def of(answer: Answer, file: Section, cells: Optional[np.ndarray] = None) -> Ground:
         """Reads a file; of a raster only the part around the grid, or around some cells, shape (cells, 2) with column and row."""
         grid = answer.record["grid"]
         points, faces = survey.heights(file, grid, cells)
@@ -120,7 +120,7 @@ def volume_above(polygon: list[Corner], level: float) -> float:
 
 def verify(answer: Answer) -> Rule:
     """Verifies that blocks of sampled columns have the tonnes below the topography."""
-    file = answer.project.table.topography
+    file = answer.project.table["topography"]
     assert file is not None
     ground = Ground.of(answer, file)
     level, row, column = answer.cells
@@ -152,7 +152,7 @@ def some(count: int, most: int) -> np.ndarray:
 
 def air(answer: Answer, rows: np.ndarray, columns: np.ndarray, levels: np.ndarray) -> np.ndarray:
     """Returns whether cells, which may lie outside the grid, are wholly above the topography."""
-    file = answer.project.table.topography
+    file = answer.project.table["topography"]
     if file is None or not len(rows):
         return np.zeros(len(rows), dtype=bool)
     places, place = np.unique(np.stack([rows, columns], axis=1), axis=0, return_inverse=True)

@@ -2,28 +2,26 @@
 
 from __future__ import annotations
 
+from typing import Optional
+
 import numpy as np
 import pandas as pd
 
 from planaudit.inputs.codes import numbered
-from planaudit.inputs.project import Accepts, Project
+from planaudit.inputs.project import Project, Section
 
 
-def refused(rows: pd.DataFrame, project: Project, rules: Accepts) -> np.ndarray:
-    """Returns whether rules do not accept each row."""
-    table = project.table
+def refused(rows: pd.DataFrame, project: Project, rules: Optional[Section]) -> np.ndarray:
+    """Returns whether rules do not accept each row; without rules all are accepted."""
     found = np.zeros(len(rows), dtype=bool)
-    named = (
-        (rules.rock_type, table.rock_type),
-        (rules.domain, table.domain),
-        (rules.resource_class, table.resource_class),
-    )
-    for codes, column in named:
-        if codes:
-            place, names = numbered(rows[column])
-            found |= np.array([name not in codes for name in names], dtype=bool)[place]
-    for it in rules.grades:
-        grade = rows[it.column].to_numpy(dtype=float)
-        found |= grade < it.min if it.min is not None else False
-        found |= grade > it.max if it.max is not None else False
+    if rules is None:
+        return found
+    for key in ("rock_type", "domain", "class"):
+        if rules[key]:
+            place, names = numbered(rows[project.table[key]])
+            found |= np.array([name not in rules[key] for name in names], dtype=bool)[place]
+    for it in rules["grades"]:
+        grade = rows[it["column"]].to_numpy(dtype=float)
+        found |= grade < it["min"] if it["min"] is not None else False
+        found |= grade > it["max"] if it["max"] is not None else False
     return found

@@ -29,7 +29,7 @@ from planaudit.inputs.matching import (
     said_of,
     shares_of,
 )
-from planaudit.inputs.project import GRADE_UNITS, Project, Wall
+from planaudit.inputs.project import GRADE_UNITS, Project, Section
 from planaudit.inputs.record import PLAN, read_plan
 from planaudit.inputs.rotated_grid import centroids, steps_of
 from planaudit.inputs.run import Run
@@ -167,7 +167,7 @@ class Answer:
 
     @cached_property
     def tonnes(self) -> np.ndarray:
-        return self.rows[self.project.table.tonnes].to_numpy()
+        return self.rows[self.project.table["tonnes"]].to_numpy()
 
     @property
     def azimuth(self) -> float:
@@ -187,19 +187,21 @@ class Answer:
     @cached_property
     def codes(self) -> Codes:
         """The numbers of rock types and domains, as far as the table has them."""
-        columns = self.project.table.rock_type, self.project.table.domain
+        columns = self.project.table["rock_type"], self.project.table["domain"]
         return {name: numbered(self.rows[name]) for name in columns if name}
 
     @cached_property
     def undiluted(self) -> np.ndarray:
         """In-situ tonnes of each block that reach the mill if it is processed, without dilution."""
-        return self.tonnes * by_code(self.project.economics.mining_recovery, self.rows, self.project.table, self.codes)
+        return self.tonnes * by_code(
+            self.project.economics["mining_recovery"], self.rows, self.project.table, self.codes
+        )
 
     @cached_property
     def feed(self) -> np.ndarray:
         """Mill feed of each block if it is processed, in tonnes."""
         return self.undiluted * (
-            1 + by_code(self.project.economics.dilution, self.rows, self.project.table, self.codes)
+            1 + by_code(self.project.economics["dilution"], self.rows, self.project.table, self.codes)
         )
 
     @cached_property
@@ -208,13 +210,13 @@ class Answer:
         found = {}
         for number, metal in enumerate(self.project.metals):
             grades = [recovered(way.metals[number], self.rows, way, self.codes) for way in self.project.by_process]
-            found[metal.name] = self.undiluted * np.choose(self.process, grades) * float(GRADE_UNITS[metal.unit])
+            found[metal["name"]] = self.undiluted * np.choose(self.process, grades) * float(GRADE_UNITS[metal["unit"]])
         return found
 
     @cached_property
     def process(self) -> np.ndarray:
         """The number of each block's process at the base price, by blocks.csv; 0 with one process, or for waste."""
-        names = [process.name for process in self.project.processes]
+        names = [process["name"] for process in self.project.processes]
         if not names:
             return np.zeros(len(self.rows), dtype=np.int64)
         return self.said[PROCESS].map({name: k for k, name in enumerate(names)}).fillna(0).to_numpy(dtype=np.int64)
@@ -222,7 +224,7 @@ class Answer:
     @cached_property
     def feeds(self) -> dict[str, np.ndarray]:
         """Mill feed of each of several processes, by the name of the amount."""
-        names = [process.name for process in self.project.processes]
+        names = [process["name"] for process in self.project.processes]
         return {
             f"feed_tonnes_{name}": np.where(self.ore & (self.process == k), self.feed, 0.0)
             for k, name in enumerate(names)
@@ -231,7 +233,7 @@ class Answer:
     @property
     def amounts_of_ways(self) -> list[tuple[str, str]]:
         """The columns of revenue and processing cost of each process."""
-        names = [process.name for process in self.project.processes]
+        names = [process["name"] for process in self.project.processes]
         return [(f"revenue_{name}", f"processing_cost_{name}") for name in names] or [("revenue", "processing_cost")]
 
     @cached_property
@@ -254,9 +256,9 @@ class Answer:
     def earned(self) -> np.ndarray:
         """Block values less `mining_cost_added` of their pushback."""
         rules = self.project.pushbacks
-        if PUSHBACK not in self.said or rules is None or not rules.mining_cost_added:
+        if PUSHBACK not in self.said or rules is None or not rules["mining_cost_added"]:
             return self.worths
-        a_tonne = np.array([0.0, *map(float, rules.mining_cost_added)])
+        a_tonne = np.array([0.0, *map(float, rules["mining_cost_added"])])
         return self.worths - a_tonne[np.clip(self.said[PUSHBACK].to_numpy(), 0, len(a_tonne) - 1)] * self.tonnes
 
     @cached_property
@@ -276,7 +278,7 @@ class Answer:
     def steps(self) -> tuple[np.ndarray, np.ndarray, np.ndarray]:
         """Blocks east, north and down from the first block; whole numbers up to the tolerance."""
         columns = self.project.table
-        centres = centroids(self.rows, (columns.x, columns.y, columns.z))
+        centres = centroids(self.rows, (columns["x"], columns["y"], columns["z"]))
         east, north, up = steps_of(centres, self.record["grid"]).T
         return east, north, -up
 
@@ -291,7 +293,7 @@ class Answer:
         cube[self.cells] = np.where(self.tonnes > 0, np.where(factor > 0, factor, UNDUG), NOTHING)
         highest = np.where(known.any(axis=0), known.argmax(axis=0), 0)
         air = np.arange(self.shape[0])[:, None, None] < highest
-        if self.project.table.missing_blocks == "air":
+        if self.project.table["missing_blocks"] == "air":
             air = ~known
         cube[air] = NOTHING
         return cube
@@ -300,9 +302,9 @@ class Answer:
     def entries(self) -> np.ndarray:
         """The index of each cell's entry in `[[slopes.domains]]`, shape (levels, rows, columns). A cell without a row has the domain of the next
         block below it, otherwise above."""
-        column, walls = self.project.table.domain, self.project.slopes.domains
-        others = next((k for k, wall in enumerate(walls) if wall.domains is None), 0)
-        by_region = {name: k for k, wall in enumerate(walls) for name in wall.domains or ()}
+        column, walls = self.project.table["domain"], self.project.slopes["domains"]
+        others = next((k for k, wall in enumerate(walls) if wall["domain"] is None), 0)
+        by_region = {name: k for k, wall in enumerate(walls) for name in wall["domain"] or ()}
         place, names = self.codes[column] if column else (np.zeros(len(self.rows), dtype=np.int64), [""])
         cube = np.full(self.shape, -1, dtype=np.int16)
         cube[self.cells] = np.array([by_region.get(name, others) for name in names], dtype=np.int16)[place]
@@ -312,23 +314,23 @@ class Answer:
             np.copyto(cube[level], cube[level - 1], where=cube[level] < 0)
         return np.where(cube < 0, np.int16(others), cube)
 
-    def levels(self, wall: Wall) -> int:
+    def levels(self, wall: Section) -> int:
         """Returns the precedence benches of an entry of `[[slopes.domains]]`."""
-        if wall.pattern:
+        if wall["pattern"]:
             return 1
-        if wall.offsets:
-            return max(up for _, _, up in wall.offsets)
-        number = self.project.slopes.domains.index(wall)
-        return int(self.record["walls"][number].get("levels", self.project.slopes.precedence_benches))
+        if wall["offsets"]:
+            return max(up for _, _, up in wall["offsets"])
+        number = self.project.slopes["domains"].index(wall)
+        return int(self.record["walls"][number].get("levels", self.project.slopes["precedence_benches"]))
 
     def called(self, row: int) -> str:
         """Returns the name of a block: the planner's id, otherwise its centroid."""
-        name = self.project.table.id
+        name = self.project.table["id"]
         if name:
             return f"block {self.rows[name].iloc[row]}"
         columns = self.project.table
         return "the block at " + ", ".join(
-            f"{self.rows[axis].iloc[row]:.10g}" for axis in (columns.x, columns.y, columns.z)
+            f"{self.rows[axis].iloc[row]:.10g}" for axis in (columns["x"], columns["y"], columns["z"])
         )
 
 
@@ -353,11 +355,11 @@ def read(written: Path, folder: Optional[Path] = None, table: Optional[pd.DataFr
     try:
         record = read_plan(written)
         project = run.project(record)
-        found, expected = len(record.get("walls", project.slopes.domains)), len(project.slopes.domains)
+        found, expected = len(record.get("walls", project.slopes["domains"])), len(project.slopes["domains"])
         if found < expected:
             why = f"walls: found {found}, expected {expected} as in the project"
             raise AuditError(f"{written / PLAN}: {why}: run pitplan shells again")
-        own = [own_name(name) for name in (*project.columns, project.table.tonnes)]
+        own = [own_name(name) for name in (*project.columns, project.table["tonnes"])]
         results = (*said_of(project), *FREE, PUSHBACK, YEAR, BIN, MINED, *shares_of(project), *own)
         blocks = read_blocks(written / "tables/blocks.csv", project, results)
         rows = rows_of(project, blocks, record["grid"], table)

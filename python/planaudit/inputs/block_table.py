@@ -19,7 +19,7 @@ import pandas as pd
 from planaudit.errors import AuditError, PackageError
 from planaudit.inputs import classes, models, plain_tables, row_rules
 from planaudit.inputs.formulas import value_of
-from planaudit.inputs.project import Project, TableColumns
+from planaudit.inputs.project import Project, Section
 from planaudit.inputs.text_layout import TextLayout, layout_of
 
 SEPARATORS = ",;\t|"
@@ -39,28 +39,30 @@ def read(project: Project) -> pd.DataFrame:
     AuditError
         With file, row and column, if a column is missing or a field is not a number.
     """
-    table, rules = project.table, project.table.rules
+    table, rules = project.table, project.table["rules"]
     frame = with_rules(project)
-    kept = row_rules.within(frame, rules, (table.x, table.y, table.z))
+    kept = row_rules.within(frame, rules, (table["x"], table["y"], table["z"]))
     amounts = [name for name in frame if name in {*project.columns, *rules.numbers} - set(project.codes)]
     for name in amounts:
-        if rules.meaning(name, table.empty) == "missing":
+        if rules.meaning(name, table["empty"]) == "missing":
             kept &= frame[name].notna().to_numpy()
     frame = frame if kept.all() else frame[kept]
     whole = {
-        name: without_gaps(frame[name], table.file, is_zero(name, table))
+        name: without_gaps(frame[name], table["file"], is_zero(name, table))
         for name in amounts
-        if name not in project.economics.adjusting
+        if name not in project.adjusting
     }
     # Without a copy of the other columns.
     frame = pd.DataFrame({name: whole.get(name, frame[name].array) for name in frame}, frame.index, copy=False)
-    is_of_parents = table.reblock is not None and table.reblock.counts is None and table.reblock.size is None
+    is_of_parents = (
+        table["reblock"] is not None and table["reblock"]["counts"] is None and table["reblock"]["size"] is None
+    )
     cells = rules.cell_size or () if is_of_parents else ()
     frame = with_tonnes(frame, project)
-    for name in project.economics.adjusting:
+    for name in project.adjusting:
         frame[name] = factors(frame, name, project)
     demand_classes(frame, project)
-    return columns_of(frame, [*project.columns, table.tonnes, *cells])
+    return columns_of(frame, [*project.columns, table["tonnes"], *cells])
 
 
 def columns_of(frame: pd.DataFrame, names: Iterable[str], rows: Optional[np.ndarray] = None) -> pd.DataFrame:
@@ -72,60 +74,60 @@ def columns_of(frame: pd.DataFrame, names: Iterable[str], rows: Optional[np.ndar
 def demand_classes(frame: pd.DataFrame, project: Project) -> None:
     """Raises AuditError as `read` if a block with tonnes has a class that the project refuses."""
     table = project.table
-    refused = classes.treated_as("refuse", frame, project) & (frame[table.tonnes].to_numpy() > 0)
+    refused = classes.treated_as("refuse", frame, project) & (frame[table["tonnes"]].to_numpy() > 0)
     if refused.any():
         row = int(refused.argmax())
-        code = frame[str(table.resource_class)].iloc[row]
-        where = f"{table.file} row {frame.index[row]} column {table.resource_class}"
+        code = frame[str(table["class"])].iloc[row]
+        where = f"{table['file']} row {frame.index[row]} column {table['class']}"
         raise AuditError(f'{where}: found "{code}", which [classes] refuses: correct the class')
 
 
 def with_rules(project: Project) -> pd.DataFrame:
     """Returns the rows of the file with mapped codes and calculated columns; numbers with nan for a null that is not read as 0."""
-    table, rules = project.table, project.table.rules
+    table, rules = project.table, project.table["rules"]
     needed = rules.needed(project.columns)
     texts = [name for name in needed if name in project.codes or name in rules.mapped]
-    frame = read_columns(table.file, table, texts, needed, [*project.columns, *rules.numbers])
+    frame = read_columns(table["file"], table, texts, needed, [*project.columns, *rules.numbers])
     for name in needed:
-        is_number = frame[name].dtype.kind == "f" and name not in project.economics.adjusting
+        is_number = frame[name].dtype.kind == "f" and name not in project.adjusting
         if is_number and is_zero(name, table) and frame[name].hasnans:
             frame[name] = frame[name].fillna(0.0)
     for name in [name for name in rules.mapped if name in frame]:
-        frame[name] = row_rules.mapped(frame[name], rules.mapped[name], str(table.file))
+        frame[name] = row_rules.mapped(frame[name], rules.mapped[name], str(table["file"]))
     for name, text in rules.calculated.items():
         value = value_of(text, frame)
         frame[name] = row_rules.as_code(value) if name in project.codes else value
     return frame
 
 
-def is_zero(name: str, table: TableColumns) -> bool:
+def is_zero(name: str, table: Section) -> bool:
     """Returns whether a null in a column of numbers is read as 0, as in no centroid and no cell size."""
-    never = (table.x, table.y, table.z, *(table.rules.cell_size or ()))
-    return table.rules.meaning(name, table.empty) == "zero" and name not in never
+    never = (table["x"], table["y"], table["z"], *(table["rules"].cell_size or ()))
+    return table["rules"].meaning(name, table["empty"]) == "zero" and name not in never
 
 
 def factors(frame: pd.DataFrame, name: str, project: Project) -> np.ndarray:
     """Returns cost adjustment factors, 1 for a block without tonnes and without a factor. Raises AuditError as `read`, with tonnes too if its field
     is empty, or a factor is negative."""
     found = frame[name].to_numpy()
-    wrong = (found < 0) | np.isinf(found) | (np.isnan(found) & (frame[project.table.tonnes].to_numpy() > 0))
+    wrong = (found < 0) | np.isinf(found) | (np.isnan(found) & (frame[project.table["tonnes"]].to_numpy() > 0))
     if wrong.any():
         row = int(wrong.argmax())
         said = "is empty" if np.isnan(found[row]) else f"found {found[row]:g}"
-        where = f"{project.table.file} row {frame.index[row]} column {name}"
+        where = f"{project.table['file']} row {frame.index[row]} column {name}"
         raise AuditError(f"{where}: {said}, expected a cost adjustment factor from 0: correct the field")
     return np.where(np.isnan(found), 1.0, found)
 
 
 def read_columns(
-    file: Path, table: TableColumns, codes: list[str], wanted: list[str], numeric: Optional[list[str]] = None
+    file: Path, table: Section, codes: list[str], wanted: list[str], numeric: Optional[list[str]] = None
 ) -> pd.DataFrame:
     """Returns columns of a file in the format of the table.
 
     Parameters
     ----------
     file : Path
-    table : TableColumns
+    table : Section
     codes : list of str
         Columns of texts: without blanks around them, "" for a null.
     wanted : list of str
@@ -154,7 +156,7 @@ def read_columns(
     frame = columns_of(frame, wanted).set_axis(pd.RangeIndex(first, first + len(frame)), copy=False)
     has_comma = has_commas(table, layout.separator if layout else ",")
     for name in wanted:
-        nulls = table.rules.codes_of(name)
+        nulls = table["rules"].codes_of(name)
         if name in codes:
             frame[name] = without_nulls(frame[name], nulls)
         else:
@@ -201,15 +203,13 @@ def stripped(codes: pd.Series) -> pd.Series:
     return texts.str.strip() if has_blanks else texts
 
 
-def delimited(
-    file: Path, table: TableColumns, layout: TextLayout, columns: tuple[list[str], list[str]]
-) -> pd.DataFrame:
+def delimited(file: Path, table: Section, layout: TextLayout, columns: tuple[list[str], list[str]]) -> pd.DataFrame:
     """Returns columns of a text; `columns` are the codes, without blanks around them, and the wanted columns."""
     codes, wanted = columns
     kinds = {name: plain_tables.CODE if name in codes else plain_tables.OR_EMPTY for name in wanted}
-    if table.id in codes and not table.rules.codes_of(table.id) and table.id not in table.rules.mapped:
-        kinds[table.id] = plain_tables.STRIPPED_ID
-    plain = plain_tables.read(file, layout, kinds) if table.encoding is None else None
+    if table["id"] in codes and not table["rules"].codes_of(table["id"]) and table["id"] not in table["rules"].mapped:
+        kinds[table["id"]] = plain_tables.STRIPPED_ID
+    plain = plain_tables.read(file, layout, kinds) if table["encoding"] is None else None
     if plain is not None:
         return plain
     try:
@@ -258,18 +258,18 @@ def opened(file: Path) -> Iterator[IO[bytes]]:
             yield plain
 
 
-def header(file: Path, table: TableColumns) -> list[str]:
+def header(file: Path, table: Section) -> list[str]:
     """Returns the names of the columns of a file."""
     layout = layout_by(file, table)
     return list(layout.names) if layout else []
 
 
-def layout_by(file: Path, table: TableColumns) -> Optional[TextLayout]:
+def layout_by(file: Path, table: Section) -> Optional[TextLayout]:
     """Returns the layout of a text; None of another file."""
     if is_parquet(file) or models.is_model(file):
         return None
     with text_of(file, table) as text:
-        return layout_of(iter(text.readline, ""), table.separator, table.header_row, table.first_row)
+        return layout_of(iter(text.readline, ""), table["separator"], table["header_row"], table["first_row"])
 
 
 def is_parquet(file: Path) -> bool:
@@ -277,13 +277,13 @@ def is_parquet(file: Path) -> bool:
 
 
 @contextmanager
-def text_of(file: Path, table: TableColumns) -> Iterator[io.TextIOWrapper]:
+def text_of(file: Path, table: Section) -> Iterator[io.TextIOWrapper]:
     """Opens a text in the encoding of the project; otherwise that of its byte-order mark, or UTF-8 with bytes of Windows-1252."""
     with opened(file) as data:
         start = data.read(2)
     is_utf_16 = start in (codecs.BOM_UTF16_LE, codecs.BOM_UTF16_BE)
-    encoding = table.encoding or ("utf-16" if is_utf_16 else "utf-8-sig")
-    errors = "strict" if table.encoding or is_utf_16 else MIXED
+    encoding = table["encoding"] or ("utf-16" if is_utf_16 else "utf-8-sig")
+    errors = "strict" if table["encoding"] or is_utf_16 else MIXED
     with opened(file) as data, io.TextIOWrapper(data, encoding=encoding, errors=errors, newline="") as text:
         yield text
 
@@ -305,9 +305,9 @@ def guessed_separator(file: Path, encoding: str) -> str:
     return max(SEPARATORS, key=line.count)
 
 
-def has_commas(table: TableColumns, separator: str) -> bool:
+def has_commas(table: Section, separator: str) -> bool:
     """Returns whether a comma may be a decimal mark."""
-    return table.decimal == "," or (table.decimal is None and separator != ",")
+    return table["decimal"] == "," or (table["decimal"] is None and separator != ",")
 
 
 def numbers(fields: pd.Series, file: str, is_comma: bool) -> np.ndarray:
@@ -347,23 +347,26 @@ def without_gaps(fields: pd.Series, file: Path, may_be_empty: bool) -> np.ndarra
 
 def with_tonnes(frame: pd.DataFrame, project: Project) -> pd.DataFrame:
     """Returns the rows with their tonnes, and with grades of whole blocks if the project gives those of the ore in them."""
-    table, rules = project.table, project.table.rules
+    table, rules = project.table, project.table["rules"]
     share = [] if rules.rock_percent is None else [frame[rules.rock_percent[0]].to_numpy()]
-    if table.density or share:
-        factors = [*(factors_by_density(frame, project) if table.density else [frame[table.tonnes].to_numpy()]), *share]
-        frame[table.tonnes] = product(factors, rules.rock_percent[1] if rules.rock_percent else 1, TONNES_PLACES)
+    if table["density"] or share:
+        factors = [
+            *(factors_by_density(frame, project) if table["density"] else [frame[table["tonnes"]].to_numpy()]),
+            *share,
+        ]
+        frame[table["tonnes"]] = product(factors, rules.rock_percent[1] if rules.rock_percent else 1, TONNES_PLACES)
     for metal in project.metals if rules.ore_percent else ():
         assert rules.ore_percent is not None
         ore = frame[rules.ore_percent[0]].to_numpy()
-        frame[metal.column] = product([frame[metal.column].to_numpy(), ore], rules.ore_percent[1], GRADE_PLACES)
+        frame[metal["column"]] = product([frame[metal["column"]].to_numpy(), ore], rules.ore_percent[1], GRADE_PLACES)
     return frame
 
 
 def factors_by_density(frame: pd.DataFrame, project: Project) -> list[np.ndarray]:
     """Returns the density of each row, and what its volume is the product of."""
-    names = [project.table.volume] if project.table.volume else list(project.table.rules.cell_size or ())
-    sides = [frame[name].to_numpy() for name in names] or [np.full(len(frame), it) for it in project.grid.size or ()]
-    return [frame[project.table.density].to_numpy(), *sides]
+    names = [project.table["volume"]] if project.table["volume"] else list(project.table["rules"].cell_size or ())
+    sides = [frame[name].to_numpy() for name in names] or [np.full(len(frame), it) for it in project.grid["size"] or ()]
+    return [frame[project.table["density"]].to_numpy(), *sides]
 
 
 def product(factors: list[np.ndarray], divisor: int, places: int) -> np.ndarray:

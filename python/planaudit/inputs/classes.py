@@ -14,14 +14,14 @@ NOT_A_RESERVE = {"inferred", "inf", "unclassified", "unclass", "potential", "exp
 
 def treatment(code: str, project: Project) -> str:
     """Returns ore, waste or refuse."""
-    if code in project.classes.given:
-        return project.classes.given[code]
+    if code in project.classes:
+        return project.classes[code]
     return "waste" if code.casefold() in NOT_A_RESERVE else "ore"
 
 
 def treated_as(word: str, rows: pd.DataFrame, project: Project) -> np.ndarray:
     """Returns whether each row is of a class with this treatment; of no row without classes."""
-    column = project.table.resource_class
+    column = project.table["class"]
     if column is None:
         return np.zeros(len(rows), dtype=bool)
     place, names = numbered(rows[column])

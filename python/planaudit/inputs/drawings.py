@@ -10,12 +10,12 @@ from dataclasses import dataclass, field
 from fnmatch import fnmatch
 from functools import lru_cache
 from pathlib import Path
-from typing import Any
+from typing import Any, Optional
 
 import numpy as np
 
 from planaudit.errors import AuditError, PackageError
-from planaudit.inputs.project import SurveyFile
+from planaudit.inputs.project import Section
 
 MAPS, RASTERS = (".gpkg", ".shp", ".geojson", ".json"), (".tif", ".tiff", ".asc")
 # Metres: the gap of a closed line, and the distance of chords from their arc.
@@ -52,30 +52,31 @@ def package(name: str, debian: str) -> Any:
         raise PackageError(f"{name} is not installed: apt-get install {debian}") from error
 
 
-def layers_of(file: SurveyFile) -> list[Layer]:
+def layers_of(survey: Section) -> list[Layer]:
     """Returns the layers that the project names, all if it names none."""
-    state = file.path.stat()
-    found = all_layers(file, (state.st_mtime_ns, state.st_size))
-    names = [it.lower() for it in file.layers] or ["*"]
+    state = survey["file"].stat()
+    found = all_layers(survey["file"], survey["height"], (state.st_mtime_ns, state.st_size))
+    names = [it.lower() for it in survey["layer"]] or ["*"]
     return [layer for name, layer in found.items() if any(fnmatch(name.lower(), it) for it in names)]
 
 
 @lru_cache(maxsize=2)
-def all_layers(file: SurveyFile, state: tuple[int, int]) -> dict[str, Layer]:
-    """Returns all layers by name, once for a file that stays in this state."""
-    ending = file.path.suffix.lower()
-    read = of_drawing if ending == ".dxf" else of_strings if ending == ".str" else of_map
+def all_layers(path: Path, height: Optional[str], state: tuple[int, int]) -> dict[str, Layer]:
+    """Returns all layers by name, once for a file that stays in this state. `height` is the field of a map with heights."""
+    ending = path.suffix.lower()
     try:
-        return read(file)
+        if ending == ".dxf":
+            return of_drawing(path)
+        return of_strings(path) if ending == ".str" else of_map(path, height)
     except (AuditError, OSError, MemoryError):
         raise
     except Exception as error:
-        raise AuditError(f"{file.path}: cannot be read: {type(error).__name__} {error}") from error
+        raise AuditError(f"{path}: cannot be read: {type(error).__name__} {error}") from error
 
 
-def heights_of(file: SurveyFile) -> tuple[np.ndarray, np.ndarray]:
+def heights_of(survey: Section) -> tuple[np.ndarray, np.ndarray]:
     """Returns points, shape (n, 3), and triangles as their numbers, shape (n, 3): the triangles of the layers if they have some."""
-    layers = layers_of(file)
+    layers = layers_of(survey)
     corners = [face for layer in layers for face in layer.faces]
     if not corners:
         points = [it for layer in layers for it in layer.points]
@@ -84,11 +85,11 @@ def heights_of(file: SurveyFile) -> tuple[np.ndarray, np.ndarray]:
     return places, np.unique(np.sort(numbers.reshape(-1, 3), axis=1), axis=0)
 
 
-def of_drawing(file: SurveyFile) -> dict[str, Layer]:
+def of_drawing(path: Path) -> dict[str, Layer]:
     """Returns the layers of the model space of a drawing."""
     ezdxf, paths = package("ezdxf", "python3-ezdxf"), package("ezdxf.path", "python3-ezdxf")
     found: dict[str, Layer] = defaultdict(Layer)
-    for entity in ezdxf.readfile(file.path).modelspace():
+    for entity in ezdxf.readfile(path).modelspace():
         kind, layer = entity.dxftype(), found[entity.dxf.layer]
         if kind == "3DFACE":
             layer.add_face(entity.wcs_vertices())
@@ -111,11 +112,11 @@ def of_drawing(file: SurveyFile) -> dict[str, Layer]:
     return found
 
 
-def of_strings(file: SurveyFile) -> dict[str, Layer]:
+def of_strings(path: Path) -> dict[str, Layer]:
     """Returns the strings of a file by number. A line has number, north, east and elevation; the number 0 ends a segment."""
     found: dict[str, Layer] = defaultdict(Layer)
     segment: list[tuple[str, float, float, float]] = []
-    with open(file.path, encoding="latin-1") as text:
+    with open(path, encoding="latin-1") as text:
         for fields in list(csv.reader(text))[HEAD:]:
             if not fields or not any(map(str.strip, fields)):
                 continue
@@ -128,20 +129,20 @@ def of_strings(file: SurveyFile) -> dict[str, Layer]:
     return found
 
 
-def of_map(file: SurveyFile) -> dict[str, Layer]:
+def of_map(path: Path, height: Optional[str]) -> dict[str, Layer]:
     """Returns the layers of a map."""
     gdal = package("osgeo.gdal", "python3-gdal")
     gdal.UseExceptions()
-    source, found = gdal.OpenEx(str(file.path), gdal.OF_VECTOR), {}
+    source, found = gdal.OpenEx(str(path), gdal.OF_VECTOR), {}
     for number in range(source.GetLayerCount()):
         features = source.GetLayer(number)
         layer = found[features.GetName()] = Layer()
         for feature in features:
             shape = feature.GetGeometryRef()
             if shape is not None:
-                height = None if file.height is None else feature.GetField(file.height)
+                level = None if height is None else feature.GetField(height)
                 for part in parts_of(shape.GetLinearGeometry()):
-                    add_part(layer, part, height)
+                    add_part(layer, part, level)
     return found
 
 

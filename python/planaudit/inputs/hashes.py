@@ -7,7 +7,7 @@ from collections.abc import Iterator
 from pathlib import Path
 
 from planaudit.inputs.answer import Answer
-from planaudit.inputs.project import Project, SurveyFile
+from planaudit.inputs.project import Project, Section
 from planaudit.inputs.record import hash_of
 from planaudit.rules import Rule, rule
 
@@ -48,12 +48,12 @@ def unlike_report(answer: Answer) -> Iterator[str]:
 def inputs_of(project: Project, first: Path) -> list[Path]:
     """Returns the project's file, its table and its survey files."""
     rules = project.constraints
-    surveys = [project.table.topography, *((rules.topography, rules.as_mined) if rules else ())]
-    surveys += [area.polygon for area in rules.areas] if rules else []
-    return [first, project.table.file, *(path for survey in surveys if survey for path in parts_of(survey))]
+    surveys = [project.table["topography"], *((rules["topography"], rules["as_mined"]) if rules else ())]
+    surveys += [area["polygon"] for area in rules["areas"]] if rules else []
+    return [first, project.table["file"], *(path for survey in surveys if survey for path in parts_of(survey))]
 
 
-def parts_of(survey: SurveyFile) -> list[Path]:
+def parts_of(survey: Section) -> list[Path]:
     """Returns the files of a survey: the heights of a shapefile's fields are in a file of their own."""
-    fields = survey.path.with_suffix(".dbf")
-    return [survey.path, fields] if survey.height is not None and fields.is_file() else [survey.path]
+    fields = survey["file"].with_suffix(".dbf")
+    return [survey["file"], fields] if survey["height"] is not None and fields.is_file() else [survey["file"]]

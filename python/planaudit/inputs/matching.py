@@ -3,6 +3,7 @@
 from __future__ import annotations
 
 import csv
+from collections.abc import Mapping
 from pathlib import Path
 from typing import Any, Optional
 
@@ -11,7 +12,7 @@ import pandas as pd
 
 from planaudit.errors import AuditError
 from planaudit.inputs import block_table, plain_tables
-from planaudit.inputs.project import MissingRock, Project
+from planaudit.inputs.project import Project
 from planaudit.inputs.reblocking import divided, together, written_rows
 from planaudit.inputs.rotated_grid import centroids, nearest_cells
 from planaudit.inputs.tables import PERIOD, YEAR, demand_numbers
@@ -37,7 +38,7 @@ TableRows = tuple[pd.DataFrame, Optional[pd.DataFrame], Optional[pd.DataFrame]]
 
 def shares_of(project: Project) -> list[str]:
     """Returns the columns of blocks.csv with the share of a block that goes to each process; to the mill if the project names no process."""
-    return [f"{SHARE}{name}" for name in [process.name for process in project.processes] or ["mill"]]
+    return [f"{SHARE}{name}" for name in [process["name"] for process in project.processes] or ["mill"]]
 
 
 def said_of(project: Project) -> tuple[str, ...]:
@@ -45,7 +46,7 @@ def said_of(project: Project) -> tuple[str, ...]:
     hauled = HAULED if project.haulage else ()
     if not project.processes:
         return (*SAID, *hauled)
-    of_each = (f"{name}_{process.name}" for process in project.processes for name in ("revenue", "processing_cost"))
+    of_each = (f"{name}_{process['name']}" for process in project.processes for name in ("revenue", "processing_cost"))
     return (*SAID, *hauled, PROCESS, *of_each)
 
 
@@ -59,14 +60,14 @@ def rows_of(
     """Returns the blocks of the table in the grid of the results; with reblocking the rows before it, otherwise None; and the blocks outside the
     grid if some were removed, otherwise None. The table is read unless it is given. Raises AuditError as `beside`."""
     frame = block_table.read(project) if table is None else table
-    if project.table.reblock is None:
+    if project.table["reblock"] is None:
         inside, beyond = divided(frame, project, grid)
         return inside, None, beyond
     inside, beyond = divided(together(frame, project, grid), project, grid)
     own = written.rename(columns={own_name(name): name for name in frame.columns})
     found = written_rows(inside, own.loc[:, ~own.columns.duplicated(keep="last")], project, grid, source)
     # Blocks are cut after reblocking.
-    tonnes = project.table.tonnes
+    tonnes = project.table["tonnes"]
     return (
         found if not project.cuts_blocks else found.assign(**{tonnes: inside[tonnes].to_numpy().round(6)}),
         frame,
@@ -80,16 +81,18 @@ def read_blocks(path: Path, project: Project, said: Optional[tuple[str, ...]] = 
     """
     columns = project.table
     codes = {own_name(name): str for name in project.codes}
-    wanted = {*(said or ()), *(own_name(name) for name in (columns.x, columns.y, columns.z))}
+    wanted = {*(said or ()), *(own_name(name) for name in (columns["x"], columns["y"], columns["z"]))}
     is_whole = (
-        said is None or isinstance(columns.missing_blocks, MissingRock) or bool(columns.reblock or project.cuts_blocks)
+        said is None
+        or isinstance(columns["missing_blocks"], Mapping)
+        or bool(columns["reblock"] or project.cuts_blocks)
     )
-    word = project.shells.calendar.word
+    word = project.calendar.word
     wanted = {word if name == YEAR else name for name in wanted}
     texts = [*codes, PROCESS]
     kinds = dict.fromkeys(texts, plain_tables.TEXT)
-    if columns.id:
-        kinds[own_name(columns.id)] = plain_tables.ID
+    if columns["id"]:
+        kinds[own_name(columns["id"])] = plain_tables.ID
     found = plain_blocks(path, None if is_whole else wanted, kinds)
     if found is None:
         found = pd.read_csv(
@@ -158,7 +161,7 @@ def beside(
         If a block of one is not in the other; `source` names the file of results.
     """
     columns = project.table
-    axes = (columns.x, columns.y, columns.z)
+    axes = (columns["x"], columns["y"], columns["z"])
     centres, answered = centroids(table, axes), centroids(written, [own_name(name) for name in axes])
     row_of = np.full(int(np.prod(grid["shape"])), -1, dtype=np.int64)
     row_of[nearest_cells(answered, grid)] = np.arange(len(written))
@@ -169,7 +172,7 @@ def beside(
     if lost or (times > 1).any():
         raise AuditError(f"{source}: {lost:,} blocks of the table are not in it: has the table changed since?")
     more = np.flatnonzero(times == 0)
-    if len(more) and not isinstance(columns.missing_blocks, MissingRock):
+    if len(more) and not isinstance(columns["missing_blocks"], Mapping):
         raise AuditError(f"{source}: {len(more):,} of its blocks are not in the table: has the table changed since?")
     known, rows, order = len(table), table, np.concatenate([at, more])
     if len(more):
@@ -177,8 +180,7 @@ def beside(
         own = own.loc[:, ~own.columns.duplicated(keep="last")]
         rows = pd.concat([table, own.iloc[more].reindex(columns=table.columns, fill_value=0.0)], ignore_index=True)
     if project.cuts_blocks:
-        uncut = np.concatenate(
-            [table[columns.tonnes], np.full(len(more), getattr(columns.missing_blocks, "tonnes", 0.0))]
-        )
-        rows = rows.assign(**{UNCUT: uncut, columns.tonnes: written[own_name(columns.tonnes)].to_numpy()[order]})
+        filled = columns["missing_blocks"]["tonnes"] if len(more) else 0.0
+        uncut = np.concatenate([table[columns["tonnes"]], np.full(len(more), filled)])
+        rows = rows.assign(**{UNCUT: uncut, columns["tonnes"]: written[own_name(columns["tonnes"])].to_numpy()[order]})
     return rows, known, order

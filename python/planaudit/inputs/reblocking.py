@@ -11,7 +11,7 @@ import pandas as pd
 
 from planaudit.errors import AuditError
 from planaudit.inputs.block_table import columns_of
-from planaudit.inputs.project import Project, TableColumns
+from planaudit.inputs.project import Project, Section
 from planaudit.inputs.rotated_grid import centroids, nearest_cells, places_of, steps_of
 
 # Decimals of grades; and the distance from a half, in their last place, within which a mean is computed exactly.
@@ -23,30 +23,30 @@ PIECE = 1 << 20
 def together(parts: pd.DataFrame, project: Project, grid: dict[str, Any]) -> pd.DataFrame:
     """Returns one row per cell with rows, from the floor up, from the south, from the west."""
     columns, fixed = project.table, project.constraints
-    cells = Cells.of_rows(parts, (columns.x, columns.y, columns.z), grid)
-    sums = project.schedule.limits if project.schedule else ()
-    of_a_tonne = {*(metal.column for metal in project.metals), *(it.column for it in sums if it.per_tonne)}
-    of_a_tonne |= {*project.economics.adjusting, *(it.column for it in project.feed_grades if it.code is None)}
+    cells = Cells.of_rows(parts, (columns["x"], columns["y"], columns["z"]), grid)
+    sums = project.schedule["limits"] if project.schedule else ()
+    of_a_tonne = {*(metal["column"] for metal in project.metals), *(it["column"] for it in sums if it["per_tonne"])}
+    of_a_tonne |= {*project.adjusting, *(it["column"] for it in project.feed_grades if it["code"] is None)}
     of_a_tonne |= {*project.penalised, *project.of_dumps}
-    tonnes = parts[columns.tonnes].to_numpy()
+    tonnes = parts[columns["tonnes"]].to_numpy()
     whole = cells.sums(tonnes)
-    found = {columns.tonnes: whole}
+    found = {columns["tonnes"]: whole}
     for name in of_a_tonne:
         content = cells.sums(parts[name].to_numpy() * tonnes)
         found[name] = np.divide(content, whole, out=np.zeros(len(whole)), where=whole != 0)
-    for name in {it.column for it in sums if not it.per_tonne}:
+    for name in {it["column"] for it in sums if not it["per_tonne"]}:
         found[name] = cells.sums(parts[name].to_numpy())
-    for code in filter(None, (columns.rock_type, columns.domain, columns.resource_class)):
+    for code in [columns[key] for key in ("rock_type", "domain", "class") if columns[key]]:
         found[code] = of_most(parts[code], tonnes, cells)
-    for mark in filter(None, (fixed.must_mine, fixed.exclude) if fixed else ()):
+    for mark in [fixed[key] for key in ("must_mine", "exclude") if fixed[key]] if fixed else []:
         found[mark] = parts[mark].groupby(cells.of_row).max().to_numpy()
     east, north, up = cells.places
-    found[columns.x], found[columns.y] = places_of(np.stack([east, north], axis=1), grid).T
-    found[columns.z] = grid["origin"][2] + grid["size"][2] * up
-    if columns.id:
+    found[columns["x"]], found[columns["y"]] = places_of(np.stack([east, north], axis=1), grid).T
+    found[columns["z"]] = grid["origin"][2] + grid["size"][2] * up
+    if columns["id"]:
         # From the west, the south and the floor of the whole table, of which blocks may be removed.
         from_one = [(axis - axis.min() + 1).tolist() for axis in cells.places]
-        found[columns.id] = np.array([f"{east}-{north}-{up}" for east, north, up in zip(*from_one)], dtype=object)
+        found[columns["id"]] = np.array([f"{east}-{north}-{up}" for east, north, up in zip(*from_one)], dtype=object)
     return pd.DataFrame(found, copy=False)
 
 
@@ -110,7 +110,7 @@ def of_most(codes: pd.Series, tonnes: np.ndarray, cells: Cells) -> np.ndarray:
 
 
 def mean_grades(
-    parts: pd.DataFrame, blocks: pd.DataFrame, grades: np.ndarray, columns: TableColumns, grid: dict[str, Any]
+    parts: pd.DataFrame, blocks: pd.DataFrame, grades: np.ndarray, columns: Section, grid: dict[str, Any]
 ) -> np.ndarray:
     """Returns the grades of blocks: means of their rows by tonnes, to nine decimals, shape (blocks, metals).
 
@@ -118,7 +118,7 @@ def mean_grades(
     """
     row_of = np.full(int(np.prod(grid["shape"])), -1)
     row_of[cells_of(blocks, columns, grid)] = np.arange(len(blocks))
-    block, tonnes = row_of[cells_of(parts, columns, grid)], parts[columns.tonnes].to_numpy()
+    block, tonnes = row_of[cells_of(parts, columns, grid)], parts[columns["tonnes"]].to_numpy()
     order = np.argsort(block, kind="stable")
     starts = np.searchsorted(block[order], np.arange(len(blocks) + 1))
     whole, found = np.bincount(block, tonnes, minlength=len(blocks)), np.zeros((len(blocks), grades.shape[1]))
@@ -133,9 +133,9 @@ def mean_grades(
     return found / 10**GRADE_PLACES
 
 
-def cells_of(frame: pd.DataFrame, columns: TableColumns, grid: dict[str, Any]) -> np.ndarray:
+def cells_of(frame: pd.DataFrame, columns: Section, grid: dict[str, Any]) -> np.ndarray:
     """Returns the cells in which the centroids of rows lie."""
-    steps = steps_of(frame[[columns.x, columns.y, columns.z]].to_numpy(), grid)
+    steps = steps_of(frame[[columns["x"], columns["y"], columns["z"]]].to_numpy(), grid)
     east, north, up = np.floor(steps + 0.5).astype(np.int64).T
     return np.ravel_multi_index((-up, north, east), grid["shape"])
 
@@ -152,7 +152,7 @@ def written_rows(
 ) -> pd.DataFrame:
     """Returns the rows of results for cells with rows of the table, in the order of `together`. Raises AuditError if one is missing from the file
     `source`."""
-    axes = (project.table.x, project.table.y, project.table.z)
+    axes = (project.table["x"], project.table["y"], project.table["z"])
     row_of = np.full(int(np.prod(grid["shape"])), -1, dtype=np.int64)
     row_of[nearest_cells(centroids(written, axes), grid)] = np.arange(len(written))
     at = row_of[nearest_cells(centroids(expected, axes), grid)]
@@ -169,7 +169,7 @@ def divided(frame: pd.DataFrame, project: Project, grid: dict[str, Any]) -> tupl
     Raises AuditError if the number of these is not that of the removed blocks.
     """
     columns = project.table
-    east, north, up = np.rint(steps_of(centroids(frame, (columns.x, columns.y, columns.z)), grid)).T
+    east, north, up = np.rint(steps_of(centroids(frame, (columns["x"], columns["y"], columns["z"])), grid)).T
     levels, rows, width = grid["shape"]
     inside = (east >= 0) & (east < width) & (north >= 0) & (north < rows) & (up <= 0) & (up > -levels)
     beyond = np.count_nonzero(~inside)

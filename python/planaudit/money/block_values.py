@@ -16,7 +16,7 @@ from planaudit.inputs import acceptance, classes
 from planaudit.inputs.answer import Answer
 from planaudit.inputs.block_table import columns_of
 from planaudit.inputs.matching import PROCESS
-from planaudit.inputs.project import GRADE_UNITS, Curve, Project, Recovery
+from planaudit.inputs.project import GRADE_UNITS, Project
 from planaudit.money import haulage, smelter
 from planaudit.money.feed import at_grade, by_code, of_code
 from planaudit.rules import TOLD, Rule, rule
@@ -50,7 +50,7 @@ def unlike(answer: Answer, names: tuple[str, str]) -> tuple[list[str], int, int]
 
     Floats tell the rounding of an amount unless it is near a half of its last decimal. These amounts are computed by exact decimals.
     """
-    unit, rows, differences, count = 10.0**-answer.project.economics.decimals, len(answer.rows), [], 0
+    unit, rows, differences, count = 10.0 ** -answer.project.economics["decimals"], len(answer.rows), [], 0
     near = np.zeros(rows, dtype=bool)
     for name, due in zip((MINING, *names), by_floats(answer, names[0])):
         said, units = answer.said[name].to_numpy(), due / unit
@@ -71,8 +71,8 @@ def unlike(answer: Answer, names: tuple[str, str]) -> tuple[list[str], int, int]
 
 def unlike_best(answer: Answer) -> list[str]:
     """Returns blocks whose process, or its revenue and cost, are not those of the best process at the base price."""
-    names = [process.name for process in answer.project.processes]
-    unit = 10**answer.project.economics.decimals
+    names = [process["name"] for process in answer.project.processes]
+    unit = 10 ** answer.project.economics["decimals"]
     told = [np.rint(answer.said[list(pair)].to_numpy() * unit).astype(np.int64) for pair in answer.amounts_of_ways]
     gains = np.stack([amounts[:, 0] - amounts[:, 1] for amounts in told])
     # Of several with equal value it is the one with the least revenue.
@@ -112,15 +112,15 @@ def sample(answer: Answer) -> np.ndarray:
 def more_for_depth(answer: Answer, elevation: float) -> Decimal:
     """Returns the mining cost per tonne that is added for depth, by the elevation of the centroid."""
     money = answer.project.economics
-    if money.mining_cost_by_elevation:
-        return between(money.mining_cost_by_elevation, Fraction(repr(round(float(elevation), 6))))
-    if not money.mining_cost_per_bench:
+    if money["mining_cost_by_elevation"]:
+        return between(money["mining_cost_by_elevation"], Fraction(repr(round(float(elevation), 6))))
+    if not money["mining_cost_per_bench"]:
         return Decimal(0)
-    reference, height = money.mining_cost_reference, answer.size[2]
+    reference, height = money["mining_cost_reference"], answer.size[2]
     # The top bench of the grid is that of the table by the rule of blocks. A reference on a boundary is the toe of its bench.
     at = answer.toes[0] if reference is None else float(reference)
     toe = elevation - height / 2
-    return money.mining_cost_per_bench * max(0, math.floor((at - toe) / height + 1e-9))
+    return money["mining_cost_per_bench"] * max(0, math.floor((at - toe) / height + 1e-9))
 
 
 def between(pairs: tuple[tuple[Decimal, Decimal], ...], elevation: Fraction) -> Decimal:
@@ -143,22 +143,22 @@ class Costs:
     processing: Decimal
     mining_recovery: Decimal
     dilution: Decimal
-    recoveries: tuple[Recovery, ...]
+    recoveries: tuple[Any, ...]
     tails: tuple[Decimal, ...]
 
     @staticmethod
     def of(project: Project, rock: str, region: str) -> Costs:
         money, metals = project.economics, project.metals
         shares = [
-            metal.recovery.get(rock, Decimal(0)) if isinstance(metal.recovery, dict) else metal.recovery
+            metal["recovery"].get(rock, Decimal(0)) if isinstance(metal["recovery"], dict) else metal["recovery"]
             for metal in metals
         ]
-        tails = [of_code(metal.tail_grade, rock, "") for metal in metals]
+        tails = [of_code(metal["tail_grade"], rock, "") for metal in metals]
         return Costs(
-            of_code(money.mining_cost, rock, region),
-            of_code(money.processing_cost, rock, region),
-            of_code(money.mining_recovery, rock, region),
-            of_code(money.dilution, rock, region),
+            of_code(money["mining_cost"], rock, region),
+            of_code(money["processing_cost"], rock, region),
+            of_code(money["mining_recovery"], rock, region),
+            of_code(money["dilution"], rock, region),
             tuple(shares),
             tuple(tails),
         )
@@ -166,7 +166,7 @@ class Costs:
     def recovered(self, number: int, grade: Decimal) -> Decimal:
         """Returns the recovered grade of a metal per undiluted tonne that reaches the mill."""
         share, tail = self.recoveries[number], self.tails[number]
-        if isinstance(share, Curve):
+        if isinstance(share, tuple):
             share = at_grade(share, Fraction(grade) / Fraction(1 + self.dilution))
         return (max(grade - tail * (1 + self.dilution), Decimal(0)) if tail else grade) * share
 
@@ -221,23 +221,23 @@ class Exactly:
         project, columns = answer.project, answer.project.table
         named = [
             answer.rows[name].astype(str).tolist() if name else [""] * len(answer.rows)
-            for name in (columns.rock_type, columns.domain)
+            for name in (columns["rock_type"], columns["domain"])
         ]
         codes = list(zip(*named))
         costs = {code: Costs.of(project, *code) for code in set(codes)}
         is_waste = classes.treated_as("waste", answer.rows, project) | acceptance.refused(
             answer.rows, project, project.accepts
         )
-        grades = [np.where(is_waste, 0.0, answer.rows[metal.column]).tolist() for metal in project.metals]
+        grades = [np.where(is_waste, 0.0, answer.rows[metal["column"]]).tolist() for metal in project.metals]
         depths = [more_for_depth(answer, z) for z in answer.elevations]
         rules = project.haulage
         roads = (haulage.roads_of(answer, rules) if rules else np.zeros(len(answer.rows))).tolist()
         factors = list(
-            zip(*(factors_of(answer, name).tolist() for name in (project.economics.mcaf, project.economics.pcaf)))
+            zip(*(factors_of(answer, name).tolist() for name in (project.economics["mcaf"], project.economics["pcaf"])))
         )
         levels = answer.cells[0].tolist()
         others = elements_of(answer)
-        rates = [(smelter.paid(it, it.price), smelter.all_charged(it, it.price)) for it in project.metals]
+        rates = [(smelter.paid(it, it["price"]), smelter.all_charged(it, it["price"])) for it in project.metals]
         tonnes = answer.tonnes.tolist()
         return Exactly(answer, tonnes, grades, codes, costs, levels, depths, roads, factors, others, rates)
 
@@ -264,14 +264,14 @@ class Exactly:
             if not grade:
                 continue
             paid, charged = self.rates[number]
-            quantity = undiluted * costs.recovered(number, exact(grade)) * GRADE_UNITS[metal.unit]
+            quantity = undiluted * costs.recovered(number, exact(grade)) * GRADE_UNITS[metal["unit"]]
             revenue += quantity * paid
             selling += quantity * charged
             if elements:
                 contents = [undiluted * exact(it) for it in elements]
                 selling += smelter.penalty_exactly(metal, quantity, contents)
         mining, processing = tonnes * a_tonne[0], undiluted * (1 + costs.dilution) * a_tonne[1] + selling
-        amounts = (mining, revenue - revenue * project.economics.royalty, processing)
+        amounts = (mining, revenue - revenue * project.economics["royalty"], processing)
         mining, revenue, processing = [amount.quantize(self.unit, ROUND_HALF_EVEN) for amount in amounts]
         return mining, revenue, processing if revenue else Decimal(0)
 
@@ -279,21 +279,21 @@ class Exactly:
         """Returns the mining cost per tonne, and the processing cost per tonne of mill feed with royalty and haulage."""
         waste = ore = Decimal(0)
         if rules := self.answer.project.haulage:
-            waste, ore = (haulage.a_tonne(place.road, kind) for kind in (rules.waste, rules.ore))
+            waste, ore = (haulage.a_tonne(place.road, kind) for kind in (rules["waste"], rules["ore"]))
         mining = costs.mining * exact(place.mcaf) + self.depths[place.level] + waste
-        royalty = self.answer.project.economics.royalty_per_tonne
+        royalty = self.answer.project.economics["royalty_per_tonne"]
         return mining, costs.processing * exact(place.pcaf) + royalty + ore - waste
 
     @cached_property
     def unit(self) -> Decimal:
-        return Decimal(1).scaleb(-self.answer.project.economics.decimals)
+        return Decimal(1).scaleb(-self.answer.project.economics["decimals"])
 
 
 def elements_of(answer: Answer) -> list[tuple[tuple[float, ...], ...]]:
     """Returns the grades of the elements that smelters penalise of each block, by metal."""
     by_metal = []
     for metal in answer.project.metals:
-        columns = [it.column for it in metal.smelter.penalties] if metal.smelter else []
+        columns = [it["column"] for it in metal["smelter"]["penalties"]] if metal["smelter"] else []
         lists = [answer.rows[name].to_numpy(dtype=float).tolist() for name in columns]
         by_metal.append(list(zip(*lists)) if lists else [()] * len(answer.rows))
     return list(zip(*by_metal))
@@ -311,10 +311,10 @@ def by_floats(answer: Answer, revenue: str | None = None) -> tuple[np.ndarray, n
     """
     money, columns = answer.project.economics, answer.project.table
     deeper = np.array([float(more_for_depth(answer, z)) for z in answer.elevations])
-    adjusted = by_code(money.mining_cost, answer.rows, columns, answer.codes) * factors_of(answer, money.mcaf)
+    adjusted = by_code(money["mining_cost"], answer.rows, columns, answer.codes) * factors_of(answer, money["mcaf"])
     a_tonne = adjusted + deeper[answer.cells[0]]
     if rules := answer.project.haulage:
-        a_tonne = a_tonne + haulage.rate(haulage.roads_of(answer, rules), rules.waste)
+        a_tonne = a_tonne + haulage.rate(haulage.roads_of(answer, rules), rules["waste"])
     gain, cost = gains_by_floats(answer)
     if revenue is not None:
         cost = np.where(answer.said[revenue] > 0, cost, 0.0)
@@ -326,11 +326,11 @@ def gains_by_floats(answer: Answer) -> tuple[np.ndarray, np.ndarray]:
     project, money, columns = answer.project, answer.project.economics, answer.project.table
     revenue, selling = np.zeros(len(answer.rows)), np.zeros(len(answer.rows))
     for metal in project.metals:
-        quantity = answer.quantities[metal.name]
-        revenue += quantity * float(smelter.paid(metal, metal.price)) * (1 - float(money.royalty))
-        selling += quantity * float(smelter.all_charged(metal, metal.price)) + smelter.penalties(answer, metal)
-    adjusted = by_code(money.processing_cost, answer.rows, columns, answer.codes) * factors_of(answer, money.pcaf)
-    a_tonne = adjusted + float(money.royalty_per_tonne)
+        quantity = answer.quantities[metal["name"]]
+        revenue += quantity * float(smelter.paid(metal, metal["price"])) * (1 - float(money["royalty"]))
+        selling += quantity * float(smelter.all_charged(metal, metal["price"])) + smelter.penalties(answer, metal)
+    adjusted = by_code(money["processing_cost"], answer.rows, columns, answer.codes) * factors_of(answer, money["pcaf"])
+    a_tonne = adjusted + float(money["royalty_per_tonne"])
     if rules := project.haulage:
-        a_tonne = a_tonne + haulage.rate(haulage.roads_of(answer, rules), rules.ore, rules.waste)
+        a_tonne = a_tonne + haulage.rate(haulage.roads_of(answer, rules), rules["ore"], rules["waste"])
     return revenue, answer.feed * a_tonne + selling

@@ -15,12 +15,12 @@ def factor(project: Project, number: int, part: float = 1.0, rate: Any = None) -
 
     By year it flows at the end or the middle of each year, or of the period if that is shorter; in several years as much in each.
     """
-    settings = project.shells
-    rate = settings.discount_rate if rate is None else rate
-    start, length, growth = settings.calendar.end(number - 1), settings.calendar.length(number), 1 + rate
-    if settings.discounting == "continuous":
+    calendar, discounting = project.calendar, project.shells["discounting"]
+    rate = project.shells["discount_rate"] if rate is None else rate
+    start, length, growth = calendar.end(number - 1), calendar.length(number), 1 + rate
+    if discounting == "continuous":
         return mean(start, start + part * length, rate)
-    late = 0.5 if settings.discounting == "mid_year" else 0.0
+    late = 0.5 if discounting == "mid_year" else 0.0
     if length <= 1:
         return growth ** -(start + (1 - late) * length)
     shares = [min(1.0, part * length - year) for year in range(math.ceil(part * length))] or [1.0]
@@ -42,4 +42,4 @@ def mean_above(start: float, end: float, rate: Any) -> Any:
 
 def at_start(project: Project, number: int) -> float:
     """Returns the discount factor of cash at the start of a period."""
-    return (1 + project.shells.discount_rate) ** -project.shells.calendar.end(number - 1)
+    return (1 + project.shells["discount_rate"]) ** -project.calendar.end(number - 1)

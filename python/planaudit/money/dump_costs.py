@@ -12,6 +12,6 @@ def as_waste(answer: Answer) -> np.ndarray:
     """Returns the cost of each whole block in its cheapest dump, shape (rows,); 0 without dumps, or if none accepts it."""
     found = np.full(len(answer.rows), np.inf)
     for it in answer.project.dumps:
-        is_open = ~refused(answer.rows, answer.project, it.accepts)
-        found[is_open] = np.minimum(found[is_open], it.cost)
+        is_open = ~refused(answer.rows, answer.project, it["accepts"])
+        found[is_open] = np.minimum(found[is_open], it["cost"])
     return np.where(np.isinf(found), 0.0, found) * answer.tonnes

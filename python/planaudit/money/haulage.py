@@ -9,7 +9,7 @@ import numpy as np
 
 from planaudit.inputs.answer import Answer
 from planaudit.inputs.matching import HAULED
-from planaudit.inputs.project import Haulage, Road
+from planaudit.inputs.project import Section
 from planaudit.inputs.rotated_grid import places_of
 from planaudit.rules import TOLD, Rule, rule
 
@@ -28,14 +28,17 @@ def verify(answer: Answer, chosen: np.ndarray) -> Rule:
     differences = [
         f"{answer.called(row)}: haul_distance {told[row]:.10g} for {expected[row]:.10g}" for row in off[:TOLD]
     ]
-    count, unit = len(off), Decimal(1).scaleb(-answer.project.economics.decimals)
-    for name, tonnes, kinds in ((WASTE, answer.tonnes, (rules.waste,)), (MORE, answer.feed, (rules.ore, rules.waste))):
+    count, unit = len(off), Decimal(1).scaleb(-answer.project.economics["decimals"])
+    for name, tonnes, kinds in (
+        (WASTE, answer.tonnes, (rules["waste"],)),
+        (MORE, answer.feed, (rules["ore"], rules["waste"])),
+    ):
         said, due = answer.said[name].to_numpy(), tonnes * rate(told, *kinds)
         far = np.flatnonzero(~(np.abs(said - due) <= 0.51 * float(unit) + 1e-12 * np.abs(due)))
         differences += [f"{answer.called(row)}: {name} {said[row]:.10g} for {due[row]:.10g}" for row in far[:TOLD]]
         count += len(far)
     for row in chosen.tolist() if not count else []:
-        due_exactly = Decimal(repr(float(answer.tonnes[row]))) * a_tonne(told[row], rules.waste)
+        due_exactly = Decimal(repr(float(answer.tonnes[row]))) * a_tonne(told[row], rules["waste"])
         if not math.isclose(
             float(due_exactly.quantize(unit, ROUND_HALF_EVEN)), answer.said[WASTE].iloc[row], rel_tol=1e-15
         ):
@@ -44,26 +47,26 @@ def verify(answer: Answer, chosen: np.ndarray) -> Rule:
     return rule("haulage", holds, differences, max(count, len(differences)))
 
 
-def lengths(answer: Answer, rules: Haulage) -> np.ndarray:
+def lengths(answer: Answer, rules: Section) -> np.ndarray:
     """Returns the haul distance of each row in metres: in plan from the centroid to the exit, and the ramp from the floor of its bench."""
     grid = answer.record["grid"]
     level, row, column = answer.cells
     x, y = places_of(np.stack([column, row], axis=1), grid).T
     floor = grid["origin"][2] - (level + 0.5) * grid["size"][2]
-    away = np.sqrt((x - float(rules.pit_exit[0])) ** 2 + (y - float(rules.pit_exit[1])) ** 2)
-    return away + np.abs(float(rules.pit_exit[2]) - floor) / float(rules.ramp_gradient)
+    away = np.sqrt((x - float(rules["pit_exit"][0])) ** 2 + (y - float(rules["pit_exit"][1])) ** 2)
+    return away + np.abs(float(rules["pit_exit"][2]) - floor) / float(rules["ramp_gradient"])
 
 
-def rate(metres: np.ndarray, road: Road, less: Road | None = None) -> np.ndarray:
+def rate(metres: np.ndarray, road: Section, less: Section | None = None) -> np.ndarray:
     """Returns the haulage cost per tonne over distances to the exit and beyond, less that of another material."""
-    cost = float(road.cost) / 1000 * (metres + float(road.ex_pit_distance))
+    cost = float(road["cost"]) / 1000 * (metres + float(road["ex_pit_distance"]))
     return cost if less is None else cost - rate(metres, less)
 
 
-def a_tonne(metres: float, road: Road) -> Decimal:
-    return road.cost / 1000 * (Decimal(repr(float(metres))) + road.ex_pit_distance)
+def a_tonne(metres: float, road: Section) -> Decimal:
+    return road["cost"] / 1000 * (Decimal(repr(float(metres))) + road["ex_pit_distance"])
 
 
-def roads_of(answer: Answer, rules: Haulage) -> np.ndarray:
+def roads_of(answer: Answer, rules: Section) -> np.ndarray:
     """Returns the haul distances of the folder, which `verify` checks; if it has none those by geometry, to a millimetre."""
     return answer.said[ROAD].to_numpy() if ROAD in answer.said else lengths(answer, rules).round(3)

@@ -45,7 +45,7 @@ def with_best(told: pd.DataFrame, answer: Answer) -> pd.DataFrame:
     gain = (revenue - cost).round(6)
     best = np.where(gain == gain.max(axis=1, keepdims=True), revenue, np.inf).argmin(axis=1)
     at = np.arange(len(told)), best
-    name = np.where(gain[at] > 0, np.array([process.name for process in processes], dtype=object)[best], "")
+    name = np.where(gain[at] > 0, np.array([process["name"] for process in processes], dtype=object)[best], "")
     return told.assign(revenue=revenue[at], processing_cost=cost[at], **{PROCESS: name})
 
 
@@ -62,7 +62,7 @@ class AtPrice:
 
 def at_price(answer: Answer) -> AtPrice:
     """Returns the amounts of blocks with one process, with money rounded as the project sets it: by floats, and exactly if these are near a half."""
-    unit = 10.0**-answer.project.economics.decimals
+    unit = 10.0 ** -answer.project.economics["decimals"]
     amounts = np.stack(money.by_floats(answer)) / unit
     rounded = np.rint(amounts)
     close = np.abs(np.abs(amounts - np.floor(amounts)) - 0.5) < 1e-9 + 1e-14 * np.abs(amounts)
@@ -71,7 +71,7 @@ def at_price(answer: Answer) -> AtPrice:
     for row in rows:
         assert exactly is not None
         rounded[:, row] = [
-            float(amount / Decimal(1).scaleb(-answer.project.economics.decimals)) for amount in exactly.amounts(row)
+            float(amount / Decimal(1).scaleb(-answer.project.economics["decimals"])) for amount in exactly.amounts(row)
         ]
     mining, revenue, processing = rounded * unit
     pays = revenue > np.where(revenue > 0, processing, 0.0)

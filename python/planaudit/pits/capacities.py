@@ -32,30 +32,30 @@ class Wait(NamedTuple):
 
 def capacities(project: Project) -> np.ndarray:
     """Returns the yearly capacity of each process by [shells] or [[processes]]."""
-    return np.array([process.capacity for process in project.processes] or [project.shells.processing_capacity])
+    return np.array([process["capacity"] for process in project.processes] or [project.shells["processing_capacity"]])
 
 
 def years_listed(project: Project) -> range:
-    return range(1, 1 + max(1, project.shells.calendar.count))
+    return range(1, 1 + max(1, project.calendar.count))
 
 
 def capacities_by_year(project: Project) -> np.ndarray:
     """Returns the capacity of each process in each listed period, shape (periods, processes); the last one continues."""
     found = []
     for year in years_listed(project):
-        period = project.shells.period(year)
+        period = project.calendar.period(year)
         if project.processes:
-            own = {} if period is None else period.capacity
-            found.append([own.get(process.name, process.capacity) for process in project.processes])
+            own = {} if period is None else period["capacity"]
+            found.append([own.get(process["name"], process["capacity"]) for process in project.processes])
         else:
-            given = None if period is None else period.processing_capacity
-            found.append([project.shells.processing_capacity if given is None else given])
-    return np.array(found, dtype=float) * project.shells.calendar.lengths(len(found))[:, None]
+            given = None if period is None else period["processing_capacity"]
+            found.append([project.shells["processing_capacity"] if given is None else given])
+    return np.array(found, dtype=float) * project.calendar.lengths(len(found))[:, None]
 
 
 def mining_by_year(project: Project) -> np.ndarray:
     """Returns the mining capacity of each listed period, infinite without one; the last one continues."""
-    base = math.inf if project.shells.mining_capacity is None else project.shells.mining_capacity
-    periods = [project.shells.period(year) for year in years_listed(project)]
-    found = [base if it is None or it.mining_capacity is None else it.mining_capacity for it in periods]
-    return np.array(found) * project.shells.calendar.lengths(len(found))
+    base = math.inf if project.shells["mining_capacity"] is None else project.shells["mining_capacity"]
+    periods = [project.calendar.period(year) for year in years_listed(project)]
+    found = [base if it is None or it["mining_capacity"] is None else it["mining_capacity"] for it in periods]
+    return np.array(found) * project.calendar.lengths(len(found))

@@ -22,7 +22,7 @@ EQUAL, TINY = 1e-9, 1e-3
 
 
 def cases_of(project: Project) -> tuple[str, ...]:
-    return (BEST, WORST, *([SPECIFIED] if project.shells.specified else []))
+    return (BEST, WORST, *([SPECIFIED] if project.shells["specified"] else []))
 
 
 @dataclass(frozen=True)
@@ -79,7 +79,7 @@ class Benches:
     def waits(self) -> list[Wait]:
         """The capacities that a year may use up, for each set of processes that the mine may wait for."""
         project = self.answer.project
-        rock, most = self.amounts["total_tonnes"], project.shells.mining_capacity
+        rock, most = self.amounts["total_tonnes"], project.shells["mining_capacity"]
         mining = [] if most is None else [Capacity(rock / most, mining_by_year(project) / most)]
         by_year, base = capacities_by_year(project), capacities(project)
         if self.kinds is None:
@@ -104,10 +104,10 @@ class Benches:
         if case == BEST:
             return Pieces(inside, np.arange(len(inside)))
         pushback = np.zeros(len(inside), dtype=np.int64)
-        rules = self.answer.project.shells.specified
+        rules = self.answer.project.shells["specified"]
         if case == SPECIFIED and rules is not None:
-            pushback = (self.factor[inside][:, None] > np.array(rules.pushbacks) + 1e-9).sum(axis=1)
-        turn = self.level[inside] + (rules.bench_lag if case == SPECIFIED and rules is not None else 0) * pushback
+            pushback = (self.factor[inside][:, None] > np.array(rules["pushbacks"]) + 1e-9).sum(axis=1)
+        turn = self.level[inside] + (rules["bench_lag"] if case == SPECIFIED and rules is not None else 0) * pushback
         _, piece = np.unique(np.column_stack([turn, pushback, self.level[inside]]), axis=0, return_inverse=True)
         return Pieces(inside, piece.ravel())
 
@@ -211,7 +211,7 @@ def processed(benches: Benches, ore: Kinds, shares: np.ndarray, year: np.ndarray
     """Returns the amounts of years, at the base price, whose ore goes to its best destinations at the prices of the year."""
     project = benches.answer.project
     more = [premiums(project, int(number)) for number in year]
-    names = [*(f"recovered_{metal.name}" for metal in project.metals), *differing(project)]
+    names = [*(f"recovered_{metal['name']}" for metal in project.metals), *differing(project)]
     gains = np.array([[it.get(name, 0.0) for name in names] for it in more]).reshape(len(year), len(names))
     gain = ore.amounts[:, 0] + np.einsum("ym,ymkp->ykp", gains, ore.amounts[:, 1:])
     by_year = capacities_by_year(project)
@@ -219,7 +219,7 @@ def processed(benches: Benches, ore: Kinds, shares: np.ndarray, year: np.ndarray
     fed = np.einsum("yk,ykp->yp", ore.feed, flows)
     sums = np.einsum("ymkp,ykp->ym", ore.amounts, flows)
     found = {"total_tonnes": shares @ benches.amounts["total_tonnes"], "feed_tonnes": fed.sum(axis=1)}
-    found |= {f"feed_tonnes_{process.name}": fed[:, number] for number, process in enumerate(project.processes)}
+    found |= {f"feed_tonnes_{process['name']}": fed[:, number] for number, process in enumerate(project.processes)}
     found |= {name: sums[:, number + 1] for number, name in enumerate(names)}
     factors = mining_factors(project, int(year.max()))[year - 1]
     return {**found, "cash_flow": factors * (shares @ benches.mining) + shares @ benches.dumping + sums[:, 0]}

@@ -18,7 +18,7 @@ Texts = dict[str, list[str]]
 
 def verify(answer: Answer) -> Rule:
     """Verifies that each table with discounted amounts names the project's convention."""
-    differences, due = [], answer.project.shells.discounting
+    differences, due = [], answer.project.shells["discounting"]
     for name in NAMES:
         path = answer.folder / TABLES / name
         if not path.is_file():
@@ -42,7 +42,7 @@ def texts_of(path: Path) -> tuple[set[str], Texts]:
 def unlike_outline(answer: Answer, name: str, table: Texts) -> list[str]:
     """Returns differences of the column `outline`, which tables have if pushbacks have a minimum mining width."""
     rules = answer.project.pushbacks
-    if rules is None or not (rules.min_mining_width or rules.min_bottom_width):
+    if rules is None or not (rules["min_mining_width"] or rules["min_bottom_width"]):
         return [f"{name}: has a column outline, and pushbacks are shells"] if "outline" in table else []
     if "outline" not in table:
         return [f"{name}: has no column outline"]

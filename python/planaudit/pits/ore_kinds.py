@@ -76,7 +76,7 @@ class Ore:
         answer = self.answer
         found = [
             np.stack([recovered(way.metals[number], answer.rows, way)[self.rows] for way in answer.project.by_process])
-            * (answer.undiluted[self.rows] * float(GRADE_UNITS[metal.unit]))
+            * (answer.undiluted[self.rows] * float(GRADE_UNITS[metal["unit"]]))
             for number, metal in enumerate(answer.project.metals)
         ]
         found += [costs[:, self.rows] for costs in ore_costs.of_blocks(answer).values()]

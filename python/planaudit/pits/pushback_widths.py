@@ -36,8 +36,8 @@ def verify(answer: Answer) -> Rule:
 def holds(answer: Answer) -> str:
     asked, wide = answer.project.pushbacks, []
     for metres, of_what in (
-        (asked and asked.min_mining_width, "its pushback"),
-        (asked and asked.min_bottom_width, "the pit up to its pushback"),
+        (asked and asked["min_mining_width"], "its pushback"),
+        (asked and asked["min_bottom_width"], "the pit up to its pushback"),
     ):
         if metres:
             wide.append(
@@ -71,8 +71,8 @@ def too_narrow(answer: Answer, cube: np.ndarray, room: np.ndarray, number: int) 
     if asked is None:
         return [], 0
     for wide, there in (
-        (asked.min_mining_width, cube == number),
-        (asked.min_bottom_width, (cube > 0) & (cube <= number)),
+        (asked["min_mining_width"], cube == number),
+        (asked["min_bottom_width"], (cube > 0) & (cube <= number)),
     ):
         if wide is not None:
             covered = np.stack([cells_in(level, blocks_across(answer, wide)) for level in there | room])

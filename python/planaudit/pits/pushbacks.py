@@ -60,7 +60,7 @@ def verify_places(answer: Answer) -> Rule:
     holds = "each block is in the pushback of the first shell that holds it"
     off = np.flatnonzero(expected != said)
     if answer.project.pushbacks is not None and (
-        answer.project.pushbacks.min_mining_width or answer.project.pushbacks.min_bottom_width
+        answer.project.pushbacks["min_mining_width"] or answer.project.pushbacks["min_bottom_width"]
     ):
         holds = "there is a pushback for each shell, and each block is in one of them or in none"
         off = np.flatnonzero((said < 0) | (said > len(factors)))
@@ -74,18 +74,18 @@ def unlike_rules(answer: Answer, factors: list[float]) -> list[str]:
     if asked is None:
         return ["the project has no pushbacks"]
     found = []
-    last = asked.ultimate_pit or answer.project.shells.selected or BASE_PRICE
-    if asked.revenue_factors is not None:
-        last = max(asked.revenue_factors)
+    last = asked["ultimate_pit"] or answer.project.shells["selected"] or BASE_PRICE
+    if asked["revenue_factors"] is not None:
+        last = max(asked["revenue_factors"])
         found += [
             f"revenue factor {factor_text(factor)} is not in the project"
             for factor in factors
-            if factor not in asked.revenue_factors
+            if factor not in asked["revenue_factors"]
         ]
-    if asked.mining_cost_added and len(factors) != len(asked.mining_cost_added):
-        found.append(f"{len(factors)} pushbacks, expected {len(asked.mining_cost_added)} as in mining_cost_added")
-    if asked.count is not None and len(factors) > asked.count:
-        found.append(f"{len(factors)} pushbacks, expected at most {asked.count}")
+    if asked["mining_cost_added"] and len(factors) != len(asked["mining_cost_added"]):
+        found.append(f"{len(factors)} pushbacks, expected {len(asked['mining_cost_added'])} as in mining_cost_added")
+    if asked["count"] is not None and len(factors) > asked["count"]:
+        found.append(f"{len(factors)} pushbacks, expected at most {asked['count']}")
     if factors[-1] > last:
         found.append(f"the last pushback is of revenue factor {factor_text(factors[-1])} for {factor_text(last)}")
     return found
@@ -104,7 +104,7 @@ def verify_sums(answer: Answer) -> Rule:
         lost = float(answer.worths[sums.within(answer, said["revenue_factor"])].sum() - until[place])
         is_last = number == answer.pushbacks.index[-1]
         due = {"deferred_value": 0.0 if is_last else lost, "value_lost_to_width": lost if is_last else 0.0}
-        if answer.project.pushbacks and answer.project.pushbacks.mining_cost_added:
+        if answer.project.pushbacks and answer.project.pushbacks["mining_cost_added"]:
             due["mining_cost_added"] = float(more[place])
             said = {"mining_cost_added": np.nan, **said}
         where, mine = f"pushback {number}", pushback == number

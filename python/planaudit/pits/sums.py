@@ -84,8 +84,8 @@ def added(answer: Answer, group: np.ndarray, count: int) -> dict[str, np.ndarray
     found |= {CASH: worths, GROSS: np.abs(worths)} | {name: amounts[rows] for name, amounts in answer.feeds.items()}
     undiluted = np.where(ore, answer.undiluted[rows], 0.0)
     for metal in answer.project.metals:
-        found[f"head_grade_{metal.name}"] = undiluted * answer.rows[metal.column].to_numpy()[rows]
-        found[f"recovered_{metal.name}"] = np.where(ore, answer.quantities[metal.name][rows], 0.0)
+        found[f"head_grade_{metal['name']}"] = undiluted * answer.rows[metal["column"]].to_numpy()[rows]
+        found[f"recovered_{metal['name']}"] = np.where(ore, answer.quantities[metal["name"]][rows], 0.0)
     return {name: np.bincount(group[rows], amounts, count) for name, amounts in found.items()}
 
 
@@ -123,7 +123,7 @@ def unlike_worth(answer: Answer) -> list[str]:
 def chosen(answer: Answer, factor: float, rows: np.ndarray) -> tuple[np.ndarray, np.ndarray]:
     """Returns revenue and processing cost of blocks in the best process at a revenue factor; 0 if none pays. With a cut-off at the base price the
     process is that of the base price."""
-    is_moving = answer.project.economics.cutoff == "per_revenue_factor"
+    is_moving = answer.project.economics["cutoff"] == "per_revenue_factor"
     ways, price = (answer.amounts_of_ways, factor) if is_moving else ([("revenue", "processing_cost")], BASE_PRICE)
     revenue = processing = gain = np.zeros(len(rows), dtype=np.int64)
     for names in ways:
@@ -140,14 +140,14 @@ def lost_digits(answer: Answer) -> Decimal:
     """Returns the relative error that a sum may have: 0, unless amounts have more digits than a float of blocks.csv holds."""
     names = ["mining_cost", *(name for pair in answer.amounts_of_ways for name in pair)]
     greatest = max(float(answer.said[name].max()) for name in names)
-    return Decimal(0) if greatest * 10**answer.project.economics.decimals < EXACT_WHOLE else Decimal("1e-15")
+    return Decimal(0) if greatest * 10 ** answer.project.economics["decimals"] < EXACT_WHOLE else Decimal("1e-15")
 
 
 def millionths(answer: Answer, name: str) -> np.ndarray:
     """Returns amounts in millionths: int64, or Python's integers if 64 bits could not hold them at every revenue factor. They have no more
     decimals than the project keeps."""
     if name not in answer.whole:
-        decimals = answer.project.economics.decimals
+        decimals = answer.project.economics["decimals"]
         whole = np.rint(answer.said[name].to_numpy() * 10**decimals).astype(np.int64)
         factors = (*answer.factors, *map(float, answer.shells.index))
         most = int(np.abs(whole).max(initial=0)) * 10 ** (6 - decimals) * max(PER_MILLE, *map(per_mille, factors))
@@ -167,7 +167,7 @@ def first_processed(answer: Answer) -> np.ndarray:
     """Returns for each block the least revenue factor at which it is mined and processing it pays; 0 if there is none."""
     first = answer.said["revenue_factor"].to_numpy()
     expected = np.zeros(len(first))
-    if answer.project.economics.cutoff == "per_revenue_factor":
+    if answer.project.economics["cutoff"] == "per_revenue_factor":
         for factor in sorted(answer.factors, reverse=True):
             inside = within(answer, factor)
             expected[inside[np.asarray(chosen(answer, factor, inside)[0] > 0, dtype=bool)]] = factor

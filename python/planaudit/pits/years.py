@@ -41,7 +41,7 @@ def over_capacity(answer: Answer, years: pd.DataFrame) -> list[str]:
     project, found = answer.project, []
     of_processes = capacities_by_year(project)
     limits = {"feed_tonnes": of_processes.sum(axis=1), "total_tonnes": mining_by_year(project)}
-    limits |= {f"feed_tonnes_{process.name}": of_processes[:, k] for k, process in enumerate(project.processes)}
+    limits |= {f"feed_tonnes_{process['name']}": of_processes[:, k] for k, process in enumerate(project.processes)}
     for name, by_year in limits.items():
         most = by_year[np.minimum(years["year"].to_numpy(dtype=np.int64), len(by_year)) - 1]
         for row in np.flatnonzero(years[name].to_numpy() > most * (1 + 1e-9) + CENT):
@@ -90,7 +90,7 @@ def verify_npv(answer: Answer, pits: Pits) -> Rule:
     for factor in answer.shells.index:
         best = pits[BEST, float(factor)]
         due = {f"npv_{case}": pits[case, float(factor)].npv for case in cases_of(answer.project)}
-        due |= {"years": answer.project.shells.calendar.time(best.life)}
+        due |= {"years": answer.project.calendar.time(best.life)}
         said = {name: answer.shells[name][factor] for name in due}
 
         def slack(name: str, amount: float, of_npv: float = best.slack) -> float:

@@ -41,7 +41,7 @@ class SingleBlocks(BlockAmounts):
     def keys(self) -> pd.DataFrame:
         """The level of each block from the top, its row, and its codes."""
         answer, table = self.answer, self.answer.project.table
-        codes = [name for name in (table.rock_type, table.resource_class) if name]
+        codes = [name for name in (table["rock_type"], table["class"]) if name]
         found = {"level": answer.cells[0][self.inside], "block": self.inside}
         return pd.DataFrame(found | {own_name(it): answer.rows[it].astype(str).to_numpy()[self.inside] for it in codes})
 
@@ -82,7 +82,11 @@ def recovered_of(flow: MaterialFlow) -> dict[str, np.ndarray]:
     index = pd.MultiIndex.from_product([flow.names, range(1, last + 1)])
     sums = rows.groupby(["destination", "year"])
     return {
-        metal.name: sums[f"recovered_{metal.name}"].sum().reindex(index, fill_value=0.0).to_numpy().reshape(-1, last)
+        metal["name"]: sums[f"recovered_{metal['name']}"]
+        .sum()
+        .reindex(index, fill_value=0.0)
+        .to_numpy()
+        .reshape(-1, last)
         for metal in flow.answer.project.metals
     }
 

@@ -9,7 +9,7 @@ from typing import Any
 import numpy as np
 
 from planaudit.inputs.answer import Answer
-from planaudit.inputs.project import FeedGrade
+from planaudit.inputs.project import Section, limit_key
 from planaudit.inputs.tables import YEAR
 from planaudit.schedules.grade_limits import GradeLimit, codes_of, grade_limits, grade_name, most_of
 from planaudit.schedules.limits import Shares, shares_of
@@ -25,7 +25,7 @@ class Graded:
 
     Attributes
     ----------
-    limit : FeedGrade
+    limit : Section
     sides : tuple of GradeLimit
         Its limits, one for each value that some period has.
     content, feed : array, shape (rows,)
@@ -34,7 +34,7 @@ class Graded:
         Whether it has a revenue there.
     """
 
-    limit: FeedGrade
+    limit: Section
     sides: tuple[GradeLimit, ...]
     content: np.ndarray
     feed: np.ndarray
@@ -42,7 +42,7 @@ class Graded:
 
     @property
     def called(self) -> str:
-        return "_".join(word for word in self.limit.key if word)
+        return "_".join(word for word in limit_key(self.limit) if word)
 
     def excess(self) -> Iterator[tuple[str, np.ndarray]]:
         """Yields each limit and the content of blocks above the maximum or below the minimum; without revenue never below 0."""
@@ -56,12 +56,14 @@ def graded(answer: Answer, shares: Shares) -> Iterator[Graded]:
     revenues, limits = [revenue for revenue, _ in answer.amounts_of_ways], grade_limits(answer.project)
     for limit in answer.project.feed_grades:
         sides = tuple(it for it in limits if it.shown in (grade_name(limit, "max"), grade_name(limit, "min")))
-        number = next(number for number, (name, _) in enumerate(shares) if name == limit.process)
+        number = next(number for number, (name, _) in enumerate(shares) if name == limit["process"])
         share = shares[number][1]
-        if limit.code is None:
-            content = np.asarray(answer.rows[limit.column].to_numpy(), dtype=float) * answer.undiluted
+        if limit["code"] is None:
+            content = np.asarray(answer.rows[limit["column"]].to_numpy(), dtype=float) * answer.undiluted
         else:
-            content = np.where(codes_of(answer.rows, answer.project, limit.column) == limit.code, answer.feed, 0.0)
+            content = np.where(
+                codes_of(answer.rows, answer.project, limit["column"]) == limit["code"], answer.feed, 0.0
+            )
         yield Graded(limit, sides, share * content, share * answer.feed, (answer.said[revenues[number]] > 0).to_numpy())
 
 

@@ -111,10 +111,10 @@ def verify_limits(answer: Answer, told: dict[str, Any], sums: pd.DataFrame) -> R
             if amount > allowed * (1 + 1e-8) + CENT:
                 differences.append(f"year {year}: {name} {amount:.10g} above {allowed:.10g}")
     rules = answer.project.schedule
-    expected = {"ramp_up": list(rules.ramp_up) if rules else [1.0]} | (
-        {"years": rules.years} if rules and rules.years else {}
+    expected = {"ramp_up": list(rules["ramp_up"]) if rules else [1.0]} | (
+        {"years": rules["years"]} if rules and rules["years"] else {}
     )
-    said = told | {"years": answer.project.shells.calendar.end(told["years"])}
+    said = told | {"years": answer.project.calendar.end(told["years"])}
     differences += [
         f"{FILE}: {name} {said[name]} for {amount}" for name, amount in expected.items() if said[name] != amount
     ]

@@ -49,7 +49,7 @@ def verify(answer: Answer, told: dict[str, Any]) -> Rule:
     if prices.empty:
         differences = [] if told["upper_bound"] == 0 else [f"{told['upper_bound']:.12g} for 0: {FILE} has no rows"]
         return rule(NAME, HOLDS, differences)
-    if answer.project.constraints is not None and answer.project.constraints.as_mined is not None:
+    if answer.project.constraints is not None and answer.project.constraints["as_mined"] is not None:
         # Which blocks it makes must-mine blocks is known here only up to the error of sampled volumes.
         return rule(NAME, "not recomputed for a model with an as-mined surface", [])
     bound = Bound(answer, prices, int(told["years"]))
@@ -237,5 +237,5 @@ class Bound:
 def is_of_all(answer: Answer, name: str) -> bool:
     """Returns whether an amount counts all material, and not only what is processed."""
     rules = answer.project.schedule
-    totals = {f"sum_{it.name}" for it in (rules.limits if rules else ()) if it.of == "total"}
+    totals = {f"sum_{it['name']}" for it in (rules["limits"] if rules else ()) if it["of"] == "total"}
     return name == "total_tonnes" or name in totals

@@ -12,7 +12,7 @@ import numpy as np
 import pandas as pd
 
 from planaudit.inputs.answer import Answer
-from planaudit.inputs.project import GRADE_UNITS, Metal, Project
+from planaudit.inputs.project import GRADE_UNITS, Project, Section
 from planaudit.inputs.tables import read_table
 from planaudit.money import haulage, smelter
 from planaudit.money.block_values import factors_of, more_for_depth
@@ -63,23 +63,23 @@ class CashFlow:
         table, at, rules = self.project.table, blocks.inside, self.project.haulage
         roads = haulage.roads_of(answer, rules) if rules else np.zeros(len(answer.rows))
         deeper = np.array([float(more_for_depth(answer, z)) for z in answer.elevations])[answer.cells[0]]
-        mined = by_code(money.mining_cost, answer.rows, table) * factors_of(answer, money.mcaf)
+        mined = by_code(money["mining_cost"], answer.rows, table) * factors_of(answer, money["mcaf"])
         found = {
             "mining": mined[at],
             "depth": deeper[at],
-            "hauled": haulage.rate(roads, rules.waste)[at] if rules else 0.0,
+            "hauled": haulage.rate(roads, rules["waste"])[at] if rules else 0.0,
         }
         found = {name: rate * blocks.tonnes for name, rate in found.items()} | {"blocks": np.ones(len(at))}
         found["added"] = -blocks.mining_cash - answer.said["mining_cost"].to_numpy()[at]
         for number, way in enumerate(self.project.by_process):
-            cost = by_code(way.economics.processing_cost, answer.rows, table) * factors_of(answer, money.pcaf)
-            more = haulage.rate(roads, rules.ore, rules.waste)[at] if rules else 0.0
+            cost = by_code(way.economics["processing_cost"], answer.rows, table) * factors_of(answer, money["pcaf"])
+            more = haulage.rate(roads, rules["ore"], rules["waste"])[at] if rules else 0.0
             feed = blocks.feed * blocks.takes[number]
             found |= {f"processing {number}": cost[at] * feed, f"hauled {number}": more * feed}
             alone = replace(answer, project=way)
-            for metal in [metal for metal in way.metals if metal.smelter and metal.smelter.penalties]:
+            for metal in [metal for metal in way.metals if metal["smelter"] and metal["smelter"]["penalties"]]:
                 charged = smelter.penalties(alone, metal)[at] * blocks.takes[number]
-                found[f"{smelter.PENALTIES} {metal.name} {number}"] = charged
+                found[f"{smelter.PENALTIES} {metal['name']} {number}"] = charged
         keys = self.flow.keys
         sums = pd.concat([blocks.keys, pd.DataFrame(found)], axis=1).groupby(keys).sum()
         sums = pd.concat([sums, self.of_opening(list(sums))]) if self.flow.opening.given else sums
@@ -92,9 +92,9 @@ class CashFlow:
         for number in range(len(lots.takes)):
             found[f"processing {number}"] = lots.processing(number) * lots.takes[number]
             for metal in lots.project.metals:
-                if f"{smelter.PENALTIES} {metal.name} {number}" in found:
+                if f"{smelter.PENALTIES} {metal['name']} {number}" in found:
                     charged = lots.penalties(number, metal) * lots.takes[number]
-                    found[f"{smelter.PENALTIES} {metal.name} {number}"] = charged
+                    found[f"{smelter.PENALTIES} {metal['name']} {number}"] = charged
         return found
 
     def by_process(self, name: str) -> np.ndarray:
@@ -116,12 +116,14 @@ class CashFlow:
         lot, feed = flow.whole, flow.whole["feed_tonnes"].to_numpy()
         found: Lines = {"total_tonnes": from_pit * lot["total_tonnes"], "waste_tonnes": waste * lot["total_tonnes"]}
         found["feed_tonnes"] = fed * feed
-        found["royalty"] = fed * feed * float(project.economics.royalty_per_tonne)
+        found["royalty"] = fed * feed * float(project.economics["royalty_per_tonne"])
         for number, metal in enumerate(project.metals):
-            found[f"contained_{metal.name}"] = fed * lot[f"contained_{metal.name}"]
-            found[f"recovered_{metal.name}"] = flow.recovered(metal.name)
+            found[f"contained_{metal['name']}"] = fed * lot[f"contained_{metal['name']}"]
+            found[f"recovered_{metal['name']}"] = flow.recovered(metal["name"])
             found |= self.sold(number)
-            found["royalty"] = found["royalty"] + found[f"revenue_{metal.name}"] * float(project.economics.royalty)
+            found["royalty"] = found["royalty"] + found[f"revenue_{metal['name']}"] * float(
+                project.economics["royalty"]
+            )
         found["mining_cost_ore"] = from_pit * ~waste * whole["mining"]
         found["mining_cost_waste"] = waste * whole["mining"]
         found["mining_cost_depth"], found["mining_cost_added"] = from_pit * whole["depth"], from_pit * whole["added"]
@@ -132,9 +134,9 @@ class CashFlow:
         for number, name in enumerate(flow.blocks.processes):
             of_process = np.where(flow.process == number, self.by_process("processing"), 0.0)
             found[f"processing_cost_{name or MILL}"] = of_process * self.dearer(PROCESSING)
-        found["stacking_cost"] = np.where(fed, 0.0, flow.of_stockpile(lambda it: it.stacking_cost, 0.0)) * feed
+        found["stacking_cost"] = np.where(fed, 0.0, flow.of_stockpile(lambda it: it["stacking_cost"], 0.0)) * feed
         found["dump_cost"] = flow.dumping * lot["total_tonnes"]
-        found["reclaim_cost"] = np.where(fed, flow.of_stockpile(lambda it: it.reclaim_cost, 0.0), 0.0) * feed
+        found["reclaim_cost"] = np.where(fed, flow.of_stockpile(lambda it: it["reclaim_cost"], 0.0), 0.0) * feed
         return {name: np.asarray(values) for name, values in found.items()}
 
     @cached_property
@@ -148,7 +150,7 @@ class CashFlow:
         years, place = self.years
         return np.array([float(value(year)) for year in years], dtype=float)[place]
 
-    def at_prices(self, metal: Metal, value: Callable[[Decimal], Decimal]) -> np.ndarray:
+    def at_prices(self, metal: Section, value: Callable[[Decimal], Decimal]) -> np.ndarray:
         """Returns a value at the price of each row's year."""
         return self.by_year(lambda year: value(price_in(self.project, metal, year)))
 
@@ -156,30 +158,30 @@ class CashFlow:
         """Returns for a metal, by number, its revenue and selling cost, and what a smelter pays for and charges: in the process of each row."""
         found: Lines = {}
         for process, way in enumerate(self.project.by_process):
-            recovered = np.where(self.flow.process == process, self.flow.recovered(way.metals[number].name), 0.0)
+            recovered = np.where(self.flow.process == process, self.flow.recovered(way.metals[number]["name"]), 0.0)
             for name, values in self.sold_by(way.metals[number], recovered).items():
                 found[name] = found.get(name, 0.0) + values
         metal = self.project.metals[number]
-        if metal.smelter is None:
-            found.pop(f"payable_{metal.name}")
-        if metal.smelter and metal.smelter.penalties:
-            penalties = self.by_process(f"{smelter.PENALTIES} {metal.name}")
-            found[f"{smelter.PENALTIES}_{metal.name}"] = penalties * self.dearer(SELLING)
+        if metal["smelter"] is None:
+            found.pop(f"payable_{metal['name']}")
+        if metal["smelter"] and metal["smelter"]["penalties"]:
+            penalties = self.by_process(f"{smelter.PENALTIES} {metal['name']}")
+            found[f"{smelter.PENALTIES}_{metal['name']}"] = penalties * self.dearer(SELLING)
         return found
 
     def dearer(self, cost: str) -> np.ndarray:
         """Returns the factor of a cost in the year of each row."""
         return self.by_year(lambda year: factor_in(self.project, cost, year))
 
-    def sold_by(self, metal: Metal, recovered: np.ndarray) -> Lines:
+    def sold_by(self, metal: Section, recovered: np.ndarray) -> Lines:
         """Returns the same for a metal as one process sells it, without penalties."""
-        found = {f"revenue_{metal.name}": recovered * self.at_prices(metal, partial(smelter.paid, metal))}
-        found[f"payable_{metal.name}"] = recovered * float(smelter.paid_share(metal))
+        found = {f"revenue_{metal['name']}": recovered * self.at_prices(metal, partial(smelter.paid, metal))}
+        found[f"payable_{metal['name']}"] = recovered * float(smelter.paid_share(metal))
         dry = float(smelter.dry_tonnes(metal))
-        found |= {f"concentrate_tonnes_{metal.name}": recovered * dry} if dry else {}
-        for name in smelter.charged(metal, metal.price):
+        found |= {f"concentrate_tonnes_{metal['name']}": recovered * dry} if dry else {}
+        for name in smelter.charged(metal, metal["price"]):
             line = recovered * self.at_prices(metal, partial(smelter.charged_as, metal, name))
-            found[f"{name}_{metal.name}"] = line if name == smelter.PARTICIPATION else line * self.dearer(SELLING)
+            found[f"{name}_{metal['name']}"] = line if name == smelter.PARTICIPATION else line * self.dearer(SELLING)
         return found
 
     def of(self, method: str, years: np.ndarray) -> tuple[Lines, Lines]:
@@ -192,15 +194,15 @@ class CashFlow:
         fed = (self.flow.process >= 0)[mine]
         # Half of the last decimal of a mining cost, and of a revenue and a processing cost.
         blocks = self.whole["blocks"].to_numpy()[mine] * share * (0.5 * self.dearer("mining_cost")[mine] + fed)
-        loose["rounding"] = by_years(blocks * 10.0**-self.project.economics.decimals, year, years)
+        loose["rounding"] = by_years(blocks * 10.0 ** -self.project.economics["decimals"], year, years)
         return lines, {name: it + AMOUNT + 1e-9 * np.abs(lines.get(name, 0.0)) for name, it in loose.items()}
 
     def due(self, name: str) -> bool:
         """Whether a line is written."""
         project, money = self.project, self.project.economics
-        added = not self.answer.is_by_block and project.pushbacks and project.pushbacks.mining_cost_added
+        added = not self.answer.is_by_block and project.pushbacks and project.pushbacks["mining_cost_added"]
         optional = {
-            "mining_cost_depth": money.mining_cost_per_bench or money.mining_cost_by_elevation,
+            "mining_cost_depth": money["mining_cost_per_bench"] or money["mining_cost_by_elevation"],
             "haulage_cost": project.haulage,
             "mining_cost_added": added,
             "stacking_cost": self.flow.blocks.stockpiles,
@@ -217,15 +219,15 @@ def by_years(amounts: np.ndarray, year: np.ndarray, years: np.ndarray) -> np.nda
     return np.array([sums.get(it, 0.0) for it in years.tolist()], dtype=float)
 
 
-def prices(project: Project, metal: Metal, years: np.ndarray) -> np.ndarray:
+def prices(project: Project, metal: Section, years: np.ndarray) -> np.ndarray:
     """Returns the price of a metal in given years, in its own unit."""
     return np.array([float(price_in(project, metal, int(year))) for year in years], dtype=float)
 
 
-def units_of(metal: Metal) -> float:
+def units_of(metal: Section) -> float:
     """Returns how many units of its price a tonne or gram of a metal has."""
-    of_quantity = "g" if metal.unit == "gram_per_tonne" else "t"
-    return float(KILOGRAMS[of_quantity] / KILOGRAMS[metal.price_per or of_quantity])
+    of_quantity = "g" if metal["unit"] == "gram_per_tonne" else "t"
+    return float(KILOGRAMS[of_quantity] / KILOGRAMS[metal["price_per"] or of_quantity])
 
 
 def verify(flow: MaterialFlow, methods: list[str]) -> Rule:
@@ -274,7 +276,7 @@ def due_of(found: CashFlow, method: str, said: pd.DataFrame, years: pd.DataFrame
     costs = ["royalty", *(name for name in written if name in OTHER_COSTS or name.startswith(COSTS))]
     revenue = [name for name in written if name.startswith("revenue_")]
     earned, bound = total(written, revenue) - total(written, costs), slack["rounding"]
-    if project.economics.decimals < MOST_DECIMALS:
+    if project.economics["decimals"] < MOST_DECIMALS:
         expected["rounding"], loose["rounding"] = np.zeros(len(said)), bound
         earned, bound = earned + written["rounding"], np.zeros(len(said))
     expected["operating_cash_flow"] = earned
@@ -296,17 +298,21 @@ def ratios(project: Project, said: Lines) -> tuple[Lines, Lines]:
     mining = [name for name in said if name.startswith("mining_cost_") or name == "haulage_cost"]
     site = [name for name in said if name in OTHER_COSTS or name.startswith(("mining_cost_", "processing_cost_"))]
     selling = [name for name in said if name.startswith(OF_SELLING)]
-    credit = total(said, [f"revenue_{metal.name}" for metal in project.metals[1:]])
+    credit = total(said, [f"revenue_{metal['name']}" for metal in project.metals[1:]])
     whole, feed, ore = total(said, site), said["feed_tonnes"], said["total_tonnes"] - said["waste_tonnes"]
     parts = {"strip_ratio": (said["waste_tonnes"], ore, 1.0)}
     for metal in project.metals:
-        parts[f"head_grade_{metal.name}"] = (said[f"contained_{metal.name}"], feed, float(GRADE_UNITS[metal.unit]))
-        found[f"price_{metal.name}"] = prices(project, metal, said["year"])
+        parts[f"head_grade_{metal['name']}"] = (
+            said[f"contained_{metal['name']}"],
+            feed,
+            float(GRADE_UNITS[metal["unit"]]),
+        )
+        found[f"price_{metal['name']}"] = prices(project, metal, said["year"])
     parts["cost_per_tonne_mined"] = (total(said, mining), said["total_tonnes"], 1.0)
     parts["cost_per_tonne_fed"] = (whole, feed, 1.0)
     c1 = whole + total(said, selling) - credit
-    sold = "payable" if first.smelter else "recovered"
-    parts["c1_cost"] = (c1, said[f"{sold}_{first.name}"], units_of(first))
+    sold = "payable" if first["smelter"] else "recovered"
+    parts["c1_cost"] = (c1, said[f"{sold}_{first['name']}"], units_of(first))
     loose = {}
     with np.errstate(divide="ignore", invalid="ignore"):
         for name, (amount, per, unit) in parts.items():

@@ -78,7 +78,7 @@ class BlockCertificate:
 
     def unlike_shares(self) -> Iterator[str]:
         """Yields the blocks whose years or shares differ from blocks.csv."""
-        names = [process.name for process in self.answer.project.processes] or ["mill"]
+        names = [process["name"] for process in self.answer.project.processes] or ["mill"]
         year = self.written[YEAR].to_numpy()
         own = np.zeros_like(self.shares)
         mined = np.flatnonzero(year > 0)
@@ -98,7 +98,7 @@ class BlockCertificate:
             yield "discount factors differ"
         capacities, prices = self.texts.lines("problem", "CAPACITIES"), self.texts.prices
         sides = [key for key in dict.fromkeys(zip(bound.prices["limit"], bound.prices["side"])) if key[0] != MUST_MINE]
-        names = ["", *([process.name for process in self.answer.project.processes] or ["mill"])]
+        names = ["", *([process["name"] for process in self.answer.project.processes] or ["mill"])]
         record = {"limits": [list(it) for it in sides], "destinations": [["", name, 0] for name in names]}
         yield from (f"{name} {told[KEY][name]} for {due}" for name, due in record.items() if told[KEY][name] != due)
         if len(sides) != len(capacities) or len(sides) != len(prices):

@@ -81,7 +81,7 @@ class CertifiedBenches:
         missing = np.setdiff1d(np.flatnonzero(self.pays), self.ore)
         if len(missing):
             yield f"{len(missing)} blocks that pay are missing, such as {self.bound.answer.said['id'].to_numpy()[self.bound.blocks.inside[missing[0]]]}"
-        lots = [f"opening {it.name}" for _, it, _ in OpeningLots(self.bound.blocks).given]
+        lots = [f"opening {it['name']}" for _, it, _ in OpeningLots(self.bound.blocks).given]
         if [self.names[place] for place in self.lot_places] != lots:
             yield f"lots {[self.names[place] for place in self.lot_places]} for {lots}"
         yield from self.unlike_precedences()

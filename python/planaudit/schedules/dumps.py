@@ -8,9 +8,9 @@ from typing import TYPE_CHECKING
 import numpy as np
 import pandas as pd
 
-from planaudit.inputs.project import Dump, Project
+from planaudit.inputs.project import Project, Section
 from planaudit.inputs.tables import read_table
-from planaudit.schedules.periods import given
+from planaudit.schedules.periods import UNLIMITED, given
 
 if TYPE_CHECKING:
     from planaudit.schedules.material_flow import MaterialFlow
@@ -28,14 +28,14 @@ def limits_of(project: Project, years: int) -> dict[str, Sides]:
     """Returns by the name of each limit of a dump its minimum and maximum in each year, infinite without one."""
     found: dict[str, Sides] = {}
     for it in project.dumps:
-        periods = [project.shells.period(year) for year in range(1, years + 1)]
-        pairs = [period.dumps.get(it.name, (None, None)) if period else (None, None) for period in periods]
-        lengths = np.array([project.shells.calendar.length(year) for year in range(1, years + 1)])
-        least, most = given([pair[0] for pair in pairs], 0.0), given([pair[1] for pair in pairs], np.inf)
+        periods = [project.calendar.period(year) for year in range(1, years + 1)]
+        sides = [period["dumps"].get(it["name"], UNLIMITED) if period else UNLIMITED for period in periods]
+        lengths = np.array([project.calendar.length(year) for year in range(1, years + 1)])
+        least, most = given([side["min"] for side in sides], 0.0), given([side["max"] for side in sides], np.inf)
         if least.any() or np.isfinite(most).any():
-            found[f"{DUMP}{it.name}"] = least * lengths, most * lengths
-        if it.capacity is not None:
-            found[f"{DUMPED}{it.name}"] = np.zeros(years), np.full(years, it.capacity)
+            found[f"{DUMP}{it['name']}"] = least * lengths, most * lengths
+        if it["capacity"] is not None:
+            found[f"{DUMPED}{it['name']}"] = np.zeros(years), np.full(years, it["capacity"])
     return found
 
 
@@ -61,7 +61,7 @@ def differences(flow: MaterialFlow) -> Iterator[str]:
     for method, years in last.items():
         yield from beyond(flow, str(method), years)
     said = read_table(flow.answer.folder / "tables" / FILE, ["method", "dump"])
-    due = [(method, it.name) for method in last for it in project.dumps]
+    due = [(method, it["name"]) for method in last for it in project.dumps]
     there = {key: rows for key, rows in said.groupby(["method", "dump"])}
     if set(there) != set(due):
         yield f"{FILE}: has {len(there)} dumps of methods for {len(due)}, or others"
@@ -70,12 +70,12 @@ def differences(flow: MaterialFlow) -> Iterator[str]:
         yield from unlike_balance(flow, (str(method), dump), there[method, dump])
 
 
-def refused(flow: MaterialFlow, dump: Dump) -> Iterator[str]:
+def refused(flow: MaterialFlow, dump: Section) -> Iterator[str]:
     """Yields lots that are placed although the dump does not accept all of their blocks."""
-    placed = (flow.rows["destination"] == dump.name) & (flow.rows["total_tonnes"] > AMOUNT)
-    for row in flow.rows[placed & (flow.whole[f"unaccepted {dump.name}"] > 0)].itertuples():
+    placed = (flow.rows["destination"] == dump["name"]) & (flow.rows["total_tonnes"] > AMOUNT)
+    for row in flow.rows[placed & (flow.whole[f"unaccepted {dump['name']}"] > 0)].itertuples():
         at = f"{row.method}, year {row.year}, pushback {row.pushback}, bench {row.bench:.10g}, bin {row.bin}"
-        yield f"flows.csv: {at}: {dump.name} does not accept these blocks"
+        yield f"flows.csv: {at}: {dump['name']} does not accept these blocks"
 
 
 def beyond(flow: MaterialFlow, method: str, last: int) -> Iterator[str]:
@@ -99,7 +99,7 @@ def unlike_balance(flow: MaterialFlow, at: tuple[str, str], rows: pd.DataFrame) 
         return
     placed, slack = used(flow, f"{DUMP}{name}", method, last)
     held, loose = used(flow, f"{DUMPED}{name}", method, last)
-    capacity = next(it.capacity for it in flow.answer.project.dumps if it.name == name)
+    capacity = next(it["capacity"] for it in flow.answer.project.dumps if it["name"] == name)
     room = np.full(last, np.nan) if capacity is None else np.maximum(capacity - held.to_numpy(), 0.0)
     expected = {
         "in_tonnes": (placed.to_numpy(), slack.to_numpy()),

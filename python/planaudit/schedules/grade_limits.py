@@ -8,7 +8,7 @@ from typing import Optional
 import numpy as np
 import pandas as pd
 
-from planaudit.inputs.project import FeedGrade, Project
+from planaudit.inputs.project import Project, Section, limit_key
 
 
 @dataclass(frozen=True)
@@ -41,32 +41,30 @@ class GradeLimit:
 
 def grade_limits(project: Project) -> list[GradeLimit]:
     """Returns the limits of all processes: one for each value that some period has."""
-    count, found = max(1, project.shells.calendar.count), []
+    count, found = max(1, project.calendar.count), []
     for limit in project.feed_grades:
         for side, sign in (("max", 1.0), ("min", -1.0)):
             by_period = project.grades_by_period(limit, side, count)
             shown = grade_name(limit, side)
             for grade in dict.fromkeys(it for it in by_period if it is not None):
                 name = shown if all(it == grade for it in by_period) else f"{shown}@{grade:.10g}"
-                found.append(GradeLimit(name, shown, limit.process, limit.column, sign, grade, limit.code))
+                found.append(GradeLimit(name, shown, limit["process"], limit["column"], sign, grade, limit["code"]))
     return found
 
 
 def most_of(project: Project, limit: GradeLimit, years: int) -> np.ndarray:
     """Returns the most of a limit's amount in each period: 0 where it applies, otherwise infinite."""
     side = "max" if limit.sign > 0 else "min"
-    given = [it for it in project.feed_grades if it.key == (limit.process, limit.column, limit.code)][0]
+    given = [it for it in project.feed_grades if limit_key(it) == (limit.process, limit.column, limit.code)][0]
     applies = [grade == limit.grade for grade in project.grades_by_period(given, side, years)]
     return np.where(applies, 0.0, np.inf)
 
 
-def grade_name(limit: FeedGrade, side: str) -> str:
+def grade_name(limit: Section, side: str) -> str:
     """Returns the name of a limited head grade, such as grade_mill_as_ppm_max."""
-    return "_".join(["grade", *(word for word in limit.key if word), side])
+    return "_".join(["grade", *(word for word in limit_key(limit) if word), side])
 
 
 def codes_of(rows: pd.DataFrame, project: Project, key: str) -> np.ndarray:
     """Returns the codes of rows by the key of [table] that names their column."""
-    table = project.table
-    columns = {"rock_type": table.rock_type, "domain": table.domain, "class": table.resource_class}
-    return np.asarray(rows[columns[key]].astype(str).to_numpy())
+    return np.asarray(rows[project.table[key]].astype(str).to_numpy())

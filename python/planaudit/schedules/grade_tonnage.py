@@ -9,7 +9,7 @@ import pandas as pd
 
 from planaudit.inputs.answer import Answer
 from planaudit.inputs.matching import PUSHBACK
-from planaudit.inputs.project import GRADE_UNITS, Metal
+from planaudit.inputs.project import GRADE_UNITS, Section
 from planaudit.inputs.tables import YEAR, read_table
 from planaudit.rules import TOLD, Rule, rule
 from planaudit.schedules.cutoff_table import GRADE, MONEY, Material
@@ -38,12 +38,12 @@ def verify(answer: Answer) -> Rule:
 
 def unlike_curves(answer: Answer, said: pd.DataFrame) -> Iterator[str]:
     """Yields rows that differ from the sums over blocks, and missing parts or classes."""
-    column = answer.project.table.resource_class
+    column = answer.project.table["class"]
     weighs = answer.tonnes > 0
     codes = {"all": weighs} if not column else masks_of(answer.rows[column].astype(str), weighs)
     masks = {(part, name): mask & code for part, mask in parts_of(answer).items() for name, code in codes.items()}
     masks = {key: mask for key, mask in masks.items() if mask.any()}
-    metals = {metal.name: metal for metal in answer.project.metals}
+    metals = {metal["name"]: metal for metal in answer.project.metals}
     groups = dict(list(said.groupby(["part", "class", "metal"])))
     if set(groups) != {(*key, name) for key in masks for name in metals}:
         yield f"{FILE}: parts, classes and metals are not those of the blocks"
@@ -64,12 +64,12 @@ def masks_of(codes: pd.Series, mask: np.ndarray) -> dict[str, np.ndarray]:
     return {str(name): mask & (place == number) for number, name in enumerate(names)}
 
 
-def above(answer: Answer, mask: np.ndarray, metal: Metal, cutoffs: np.ndarray) -> dict[str, np.ndarray]:
+def above(answer: Answer, mask: np.ndarray, metal: Section, cutoffs: np.ndarray) -> dict[str, np.ndarray]:
     """Returns by name the tonnes of the blocks of a mask, and their tonnes times the grade of each metal, at or above rising cut-offs of one."""
     tonnes = answer.tonnes[mask]
-    grades = {it.name: answer.rows[it.column].to_numpy(dtype=float)[mask] for it in answer.project.metals}
+    grades = {it["name"]: answer.rows[it["column"]].to_numpy(dtype=float)[mask] for it in answer.project.metals}
     # How many of the cut-offs each block reaches.
-    reached = np.searchsorted(cutoffs, grades[metal.name], side="right")
+    reached = np.searchsorted(cutoffs, grades[metal["name"]], side="right")
     amounts = {TONNES: tonnes} | {name: tonnes * grade for name, grade in grades.items()}
     sums = {name: np.bincount(reached, amount, len(cutoffs) + 1) for name, amount in amounts.items()}
     return {name: found[::-1].cumsum()[::-1][1:] for name, found in sums.items()}
@@ -94,10 +94,10 @@ def unlike(rows: pd.DataFrame, answer: Answer, sums: dict[str, np.ndarray]) -> I
     whole = sums[TONNES]
     due = {"tonnes": (whole, AMOUNT)}
     for metal in answer.project.metals:
-        content = sums[metal.name]
-        due[f"in_situ_{metal.name}"] = content * float(GRADE_UNITS[metal.unit]), AMOUNT
+        content = sums[metal["name"]]
+        due[f"in_situ_{metal['name']}"] = content * float(GRADE_UNITS[metal["unit"]]), AMOUNT
         grade = np.divide(content, whole, out=np.full(len(whole), np.nan), where=whole != 0)
-        due[f"grade_{metal.name}"] = grade, GRADE
+        due[f"grade_{metal['name']}"] = grade, GRADE
     for name, (expected, slack) in due.items():
         said = rows[name].to_numpy(dtype=float)
         off = np.abs(said - expected) > slack + 1e-9 * np.abs(expected)
@@ -109,11 +109,11 @@ def unlike_marks(answer: Answer, said: pd.DataFrame) -> Iterator[str]:
     """Yields marked cut-offs of other processes, rock types and metals than the project has, or that do not earn what they are to cover."""
     due = {}
     for material, name, metal in materials(answer):
-        factor = 1 + material.of(material.project.economics.dilution)
+        factor = 1 + material.of(material.project.economics["dilution"])
         for kind, cost in material.costs.items():
             words = [kind.removesuffix("_grade"), name, *([material.rock] if material.rock else [])]
             if np.isfinite(factor * cost) and material.earned(metal, 1e12, 0.0) > 0:
-                due[metal.name, " ".join(words)] = material, metal, cost, factor
+                due[metal["name"], " ".join(words)] = material, metal, cost, factor
     rows = said[said["mark"] != ""]
     if set(zip(rows["metal"], rows["mark"])) != set(due):
         yield f"{FILE}: marks are not those of the processes and rock types"
@@ -126,10 +126,10 @@ def unlike_marks(answer: Answer, said: pd.DataFrame) -> Iterator[str]:
             yield f"{FILE}: {of_metal}, {mark}: {grade:.10g} does not earn {cost:.10g} per tonne of feed"
 
 
-def materials(answer: Answer) -> Iterator[tuple[Material, str, Metal]]:
+def materials(answer: Answer) -> Iterator[tuple[Material, str, Section]]:
     """Yields each rock type that yields anything in a process, with the process and each of its recovered metals."""
-    column, processes = answer.project.table.rock_type, answer.project.processes
-    names = [process.name for process in processes] or [MILL]
+    column, processes = answer.project.table["rock_type"], answer.project.processes
+    names = [process["name"] for process in processes] or [MILL]
     for name, alone, (revenue, _) in zip(names, answer.project.by_process, answer.amounts_of_ways):
         taken = answer.said[revenue].to_numpy() > 0
         rocks = sorted(set(answer.rows[column].astype(str).to_numpy()[taken])) if column else [""] * bool(taken.any())

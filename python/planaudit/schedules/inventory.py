@@ -42,7 +42,7 @@ def unlike_rows(flow: MaterialFlow) -> Iterator[str]:
     said = read_table(flow.answer.folder / "tables" / FILE, texts)
     # What lay on stockpiles at the start is of pushback 0, and of no bench.
     said = said.fillna(dict.fromkeys(texts, "") | {"bench": 0.0})
-    kinds = [f"{kind}_{metal.name}" for kind in ("in_situ", "contained", "recovered") for metal in metals]
+    kinds = [f"{kind}_{metal['name']}" for kind in ("in_situ", "contained", "recovered") for metal in metals]
     groups = flow.rows.fillna({"bench": 0.0}).groupby(keys)
     sums, count = groups[["total_tonnes", "feed_tonnes", *kinds]].sum(), groups.size()
     if set(map(tuple, said[keys].to_numpy())) != set(sums.index) or len(said) != len(sums):
@@ -52,18 +52,18 @@ def unlike_rows(flow: MaterialFlow) -> Iterator[str]:
     sums, slack = sums.reindex(at).reset_index(drop=True), flow.rounded * count.reindex(at).to_numpy() + AMOUNT
     expected = {name: (sums[name].to_numpy(), slack + 1e-9 * sums[name].to_numpy()) for name in sums}
     for metal in metals:
-        unit = float(GRADE_UNITS[metal.unit])
+        unit = float(GRADE_UNITS[metal["unit"]])
         for grade, content, whole in (("grade", "in_situ", "total_tonnes"), ("head_grade", "contained", "feed_tonnes")):
-            amount, tonnes = sums[f"{content}_{metal.name}"].to_numpy() / unit, sums[whole].to_numpy()
+            amount, tonnes = sums[f"{content}_{metal['name']}"].to_numpy() / unit, sums[whole].to_numpy()
             with np.errstate(divide="ignore", invalid="ignore"):
                 due = np.where(tonnes > slack, amount / tonnes, np.nan)
-                expected[f"{grade}_{metal.name}"] = due, GRADE + slack * (1 / unit + due) / tonnes
+                expected[f"{grade}_{metal['name']}"] = due, GRADE + slack * (1 / unit + due) / tonnes
     process = said["destination"].map(flow.names).fillna(0).to_numpy(dtype=int)
     for number, metal in enumerate(metals):
-        if metal.smelter:
-            values, loose = expected[f"recovered_{metal.name}"]
+        if metal["smelter"]:
+            values, loose = expected[f"recovered_{metal['name']}"]
             paid = np.array([float(paid_share(way.metals[number])) for way in flow.answer.project.by_process])
-            expected[f"payable_{metal.name}"] = values * paid[process], loose + AMOUNT
+            expected[f"payable_{metal['name']}"] = values * paid[process], loose + AMOUNT
     if missing := set(expected) - set(said.columns):
         yield f"{FILE}: columns {sorted(missing)} are missing"
         return
@@ -78,7 +78,7 @@ def unlike_rows(flow: MaterialFlow) -> Iterator[str]:
 
 def categories(flow: MaterialFlow, rows: pd.DataFrame) -> np.ndarray:
     """Returns what each row counts as."""
-    column = flow.answer.project.table.resource_class
+    column = flow.answer.project.table["class"]
     code = rows[own_name(column)].str.casefold() if column else pd.Series("measured", index=rows.index)
     feed = np.where(code.isin(NOT_A_RESERVE), "not_reserve", "ore")
     is_fed = rows["destination"].isin(flow.names)

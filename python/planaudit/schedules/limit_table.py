@@ -85,7 +85,7 @@ class LimitTable:
         """Yields differences of the rows of a method, whose last year is given."""
         rules = self.answer.project.schedule
         numbers = np.unique(self.answer.said["pushback"].to_numpy())
-        sinking = [f"{ADVANCE}{it}" for it in numbers if it > 0] if rules and rules.vertical_advance_rate else []
+        sinking = [f"{ADVANCE}{it}" for it in numbers if it > 0] if rules and rules["vertical_advance_rate"] else []
         shown = {it.name: name for name, limits in self.grades.items() for it in limits}
         finite = [
             shown.get(name, name)
@@ -155,8 +155,8 @@ class LimitTable:
         if name.startswith(ADVANCE):
             project = self.answer.project
             assert project.schedule is not None
-            rate = float(project.schedule.vertical_advance_rate or np.nan)
-            return np.nan, rate * project.shells.calendar.length(year)
+            rate = float(project.schedule["vertical_advance_rate"] or np.nan)
+            return np.nan, rate * project.calendar.length(year)
         if name.startswith(STOCK):
             piles = stock_limits(self.answer.project, max(year, int(self.years)))[name.removeprefix(STOCK)]
             most = float(piles[1][year - 1])

@@ -11,7 +11,7 @@ import pandas as pd
 from planaudit.inputs.acceptance import refused
 from planaudit.inputs.answer import Answer
 from planaudit.inputs.matching import BIN, PUSHBACK, own_name
-from planaudit.inputs.project import GRADE_UNITS, Stockpile
+from planaudit.inputs.project import GRADE_UNITS, Section
 from planaudit.money import ore_costs
 from planaudit.money.feed import recovered
 from planaudit.money.smelter import net
@@ -39,7 +39,7 @@ class BlockAmounts:
     @property
     def processes(self) -> list[str]:
         """The processes by name; "" if the project names none."""
-        return [process.name for process in self.answer.project.processes] or [""]
+        return [process["name"] for process in self.answer.project.processes] or [""]
 
     @cached_property
     def tonnes(self) -> np.ndarray:
@@ -49,7 +49,7 @@ class BlockAmounts:
     def mining_cash(self) -> np.ndarray:
         """What mining each block earns, below 0: its mining cost and what its pushback adds."""
         answer, rules = self.answer, self.answer.project.pushbacks
-        a_tonne = np.array([0.0, *(map(float, rules.mining_cost_added) if rules else ())])
+        a_tonne = np.array([0.0, *(map(float, rules["mining_cost_added"]) if rules else ())])
         pushback = np.minimum(answer.said[PUSHBACK].to_numpy()[self.inside], len(a_tonne) - 1)
         added = a_tonne[pushback] if len(a_tonne) > 1 else 0.0
         return -answer.said["mining_cost"].to_numpy()[self.inside] - added * self.tonnes
@@ -62,21 +62,23 @@ class BlockAmounts:
         )
 
     @property
-    def stockpiles(self) -> tuple[Stockpile, ...]:
+    def stockpiles(self) -> tuple[Section, ...]:
         rules = self.answer.project.schedule
-        return rules.stockpiles if rules else ()
+        return rules["stockpiles"] if rules else ()
 
     @cached_property
     def refused(self) -> dict[str, np.ndarray]:
         """Whether a stockpile, by name, does not accept each block."""
         answer = self.answer
-        return {it.name: refused(answer.rows, answer.project, it.accepts)[self.inside] for it in self.stockpiles}
+        return {it["name"]: refused(answer.rows, answer.project, it["accepts"])[self.inside] for it in self.stockpiles}
 
     @cached_property
     def unaccepted(self) -> dict[str, np.ndarray]:
         """Whether a dump, by name, does not accept each block."""
         answer = self.answer
-        return {it.name: refused(answer.rows, answer.project, it.accepts)[self.inside] for it in answer.project.dumps}
+        return {
+            it["name"]: refused(answer.rows, answer.project, it["accepts"])[self.inside] for it in answer.project.dumps
+        }
 
     @cached_property
     def net_prices(self) -> dict[str, np.ndarray]:
@@ -84,7 +86,7 @@ class BlockAmounts:
         found: dict[str, list[float]] = {}
         for way in self.answer.project.by_process:
             for metal in way.metals:
-                found.setdefault(metal.name, []).append(float(net(metal, metal.price, way.economics.royalty)))
+                found.setdefault(metal["name"], []).append(float(net(metal, metal["price"], way.economics["royalty"])))
         return {name: np.array(values) for name, values in found.items()}
 
     @cached_property
@@ -113,7 +115,9 @@ class BlockAmounts:
         """Metal in the feed of each block, in tonnes or grams, by metal."""
         answer = self.answer
         return {
-            metal.name: self.column(metal.column) * answer.undiluted[self.inside] * float(GRADE_UNITS[metal.unit])
+            metal["name"]: self.column(metal["column"])
+            * answer.undiluted[self.inside]
+            * float(GRADE_UNITS[metal["unit"]])
             for metal in answer.project.metals
         }
 
@@ -125,7 +129,7 @@ class BlockAmounts:
             grades = np.stack(
                 [recovered(way.metals[number], answer.rows, way)[self.inside] for way in answer.project.by_process]
             )
-            found[metal.name] = grades * answer.undiluted[self.inside] * float(GRADE_UNITS[metal.unit])
+            found[metal["name"]] = grades * answer.undiluted[self.inside] * float(GRADE_UNITS[metal["unit"]])
         return found
 
     def column(self, name: str) -> np.ndarray:
@@ -135,8 +139,8 @@ class BlockAmounts:
     def of_mining(self, name: str) -> np.ndarray:
         """Returns what mining each block adds to a limited amount."""
         for it in self.sums:
-            if name == f"sum_{it.name}" and it.of == "total":
-                return self.column(it.column) * (self.tonnes if it.per_tonne else 1.0)
+            if name == f"sum_{it['name']}" and it["of"] == "total":
+                return self.column(it["column"]) * (self.tonnes if it["per_tonne"] else 1.0)
         return self.tonnes if name == "total_tonnes" else np.zeros(len(self.inside))
 
     def of_process(self, name: str, process: int) -> np.ndarray:
@@ -149,8 +153,8 @@ class BlockAmounts:
         if name.startswith("recovered_"):
             return self.recovered[name.removeprefix("recovered_")][process] * self.takes[process]
         for it in self.sums:
-            if name == f"sum_{it.name}" and it.of in ("feed", called):
-                return self.column(it.column) * (undiluted if it.per_tonne else 1.0) * self.takes[process]
+            if name == f"sum_{it['name']}" and it["of"] in ("feed", called):
+                return self.column(it["column"]) * (undiluted if it["per_tonne"] else 1.0) * self.takes[process]
         for limit in self.grades:
             if name == limit.name and limit.process == called:
                 content = limit.content(self.rows, self.answer.project, undiluted, self.feed)
@@ -158,9 +162,9 @@ class BlockAmounts:
         return np.zeros(len(self.inside))
 
     @property
-    def sums(self) -> tuple:
+    def sums(self) -> tuple[Section, ...]:
         rules = self.answer.project.schedule
-        return rules.limits if rules else ()
+        return rules["limits"] if rules else ()
 
     @cached_property
     def keys(self) -> pd.DataFrame:
@@ -171,7 +175,7 @@ class BlockAmounts:
             "level": answer.cells[0][self.inside],
             "bin": answer.said[BIN].to_numpy()[self.inside],
         }
-        codes = [name for name in (table.rock_type, table.resource_class) if name]
+        codes = [name for name in (table["rock_type"], table["class"]) if name]
         return pd.DataFrame(found | {own_name(it): answer.rows[it].astype(str).to_numpy()[self.inside] for it in codes})
 
     @cached_property
@@ -182,8 +186,8 @@ class BlockAmounts:
         columns = {"total_tonnes": self.tonnes, "mining_cash": self.mining_cash, "feed_tonnes": self.feed}
         columns |= {f"contained_{name}": amounts for name, amounts in self.contained.items()}
         for metal in self.answer.project.metals:
-            content = self.column(metal.column) * float(GRADE_UNITS[metal.unit])
-            columns[f"in_situ_{metal.name}"] = content * self.tonnes
+            content = self.column(metal["column"]) * float(GRADE_UNITS[metal["unit"]])
+            columns[f"in_situ_{metal['name']}"] = content * self.tonnes
         for process in range(len(self.processes)):
             columns |= {f"recovered_{name} {process}": amounts[process] for name, amounts in self.recovered.items()}
             columns |= {f"gain {process}": self.gain[process], f"not taken {process}": 1.0 - self.takes[process]}
@@ -197,7 +201,7 @@ class BlockAmounts:
     @property
     def limited(self) -> list[str]:
         """The names of limited sums and head grades."""
-        return list(dict.fromkeys([*(f"sum_{it.name}" for it in self.sums), *(it.name for it in self.grades)]))
+        return list(dict.fromkeys([*(f"sum_{it['name']}" for it in self.sums), *(it.name for it in self.grades)]))
 
     @cached_property
     def rows(self) -> pd.DataFrame:

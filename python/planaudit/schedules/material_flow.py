@@ -11,7 +11,7 @@ import numpy as np
 import pandas as pd
 
 from planaudit.inputs.answer import Answer
-from planaudit.inputs.project import GRADE_UNITS, Stockpile
+from planaudit.inputs.project import GRADE_UNITS, Section, opening_tonnes
 from planaudit.inputs.tables import read_table, some
 from planaudit.money.period_costs import BY_TERMS, SELLING, premiums
 from planaudit.rules import TOLD, Rule, rule
@@ -99,18 +99,18 @@ class MaterialFlow:
     @cached_property
     def stockpile_of(self) -> np.ndarray:
         """The number of the stockpile that each row goes to or comes from; -1: none."""
-        names = {it.name: number for number, it in enumerate(self.blocks.stockpiles)}
+        names = {it["name"]: number for number, it in enumerate(self.blocks.stockpiles)}
         side = self.rows["source"].where(self.process >= 0, self.rows["destination"])
         return side.map(names).fillna(-1).to_numpy(dtype=int)
 
-    def of_stockpile(self, value: Callable[[Stockpile], float], otherwise: float) -> np.ndarray:
+    def of_stockpile(self, value: Callable[[Section], float], otherwise: float) -> np.ndarray:
         """Returns by row a value of its stockpile; `otherwise` without one."""
         values = np.array([*map(value, self.blocks.stockpiles), otherwise], dtype=float)
         return np.asarray(values[self.stockpile_of])
 
     def recovery(self, metal: str) -> np.ndarray:
         """The share of a metal's recovery that each row keeps."""
-        kept = self.of_stockpile(lambda it: it.recovery.get(metal, 1.0), 1.0)
+        kept = self.of_stockpile(lambda it: it["recovery"].get(metal, 1.0), 1.0)
         return np.where(self.process >= 0, kept, 1.0)
 
     def recovered(self, metal: str) -> np.ndarray:
@@ -125,14 +125,14 @@ class MaterialFlow:
         # The share that a rounded tonnage leaves open.
         open_to = self.rounded / self.whole["total_tonnes"].to_numpy()
         found = {}
-        for name in ("feed_tonnes", *(f"contained_{metal.name}" for metal in self.answer.project.metals)):
+        for name in ("feed_tonnes", *(f"contained_{metal['name']}" for metal in self.answer.project.metals)):
             whole = self.whole[name].to_numpy()
             found[name] = whole * moved, AMOUNT + np.abs(whole) * open_to
         for metal in self.answer.project.metals:
-            whole = self.whole[f"in_situ_{metal.name}"].to_numpy()
-            found[f"in_situ_{metal.name}"] = whole * self.share, AMOUNT + np.abs(whole) * open_to
-            whole = self.recovered(metal.name)
-            found[f"recovered_{metal.name}"] = whole * fed, AMOUNT + np.abs(whole) * open_to
+            whole = self.whole[f"in_situ_{metal['name']}"].to_numpy()
+            found[f"in_situ_{metal['name']}"] = whole * self.share, AMOUNT + np.abs(whole) * open_to
+            whole = self.recovered(metal["name"])
+            found[f"recovered_{metal['name']}"] = whole * fed, AMOUNT + np.abs(whole) * open_to
         cash, handled = self.cash
         slack = AMOUNT + (np.abs(cash) + handled) * open_to
         found["cash_flow"] = (cash - handled) * self.share, slack
@@ -144,15 +144,15 @@ class MaterialFlow:
         costs."""
         gain = self.by_process("gain")
         for metal in self.answer.project.metals:
-            lost = self.by_process(f"recovered_{metal.name}") * (1 - self.recovery(metal.name))
+            lost = self.by_process(f"recovered_{metal['name']}") * (1 - self.recovery(metal["name"]))
             # Rows without a process recover nothing.
-            gain -= lost * self.blocks.net_prices[metal.name][np.maximum(self.process, 0)]
+            gain -= lost * self.blocks.net_prices[metal["name"]][np.maximum(self.process, 0)]
         for year in self.rows["year"].unique():
             mine = (self.rows["year"] == year).to_numpy()
             for name, premium in premiums(self.answer.project, int(year)).items():
                 gain[mine] += premium * self.multiplied(name)[mine]
-        placed = self.of_stockpile(lambda it: it.stacking_cost, 0.0)
-        cost = np.where(self.process >= 0, self.of_stockpile(lambda it: it.reclaim_cost, 0.0), placed)
+        placed = self.of_stockpile(lambda it: it["stacking_cost"], 0.0)
+        cost = np.where(self.process >= 0, self.of_stockpile(lambda it: it["reclaim_cost"], 0.0), placed)
         return gain, cost * self.whole["feed_tonnes"].to_numpy() + self.dumping * self.whole["total_tonnes"].to_numpy()
 
     @cached_property
@@ -165,7 +165,7 @@ class MaterialFlow:
     @property
     def dumping(self) -> np.ndarray:
         """What a tonne of each row costs in its dump; 0 elsewhere."""
-        costs = {it.name: it.cost for it in self.answer.project.dumps}
+        costs = {it["name"]: it["cost"] for it in self.answer.project.dumps}
         return self.rows["destination"].map(costs).fillna(0.0).to_numpy(dtype=float)
 
     def multiplied(self, name: str) -> np.ndarray:
@@ -186,7 +186,7 @@ class MaterialFlow:
         moves = [mine[mine[side] == name] for side in ("destination", "source")]
         placed, out = (rows.groupby("year")["feed_tonnes"].sum().reindex(years, fill_value=0.0) for rows in moves)
         slack = AMOUNT * sum(map(len, moves))
-        start = sum(it.lying for it in self.blocks.stockpiles if it.name == name)
+        start = sum(opening_tonnes(it) for it in self.blocks.stockpiles if it["name"] == name)
         return start + (placed - out).cumsum(), pd.Series(slack, index=years)
 
     def used(self, name: str, method: str, dug: pd.Series) -> tuple[pd.Series, pd.Series]:
@@ -226,7 +226,7 @@ def read(answer: Answer) -> tuple[MaterialFlow, list[str]]:
     processes = {name or MILL for name in blocks.processes}
     legs = {*((PIT, name) for name in blocks.unaccepted or (WASTE,)), *((PIT, name) for name in processes)}
     for it in blocks.stockpiles:
-        legs |= {(PIT, it.name), *((it.name, name) for name in processes)}
+        legs |= {(PIT, it["name"]), *((it["name"], name) for name in processes)}
     found = MaterialFlow(answer, blocks, rows)
     known = pd.MultiIndex.from_frame(rows[found.keys]).isin(found.lots.index)
     leg = pd.Series(list(zip(rows["source"], rows["destination"]))).isin(legs).to_numpy()
@@ -238,7 +238,7 @@ def read(answer: Answer) -> tuple[MaterialFlow, list[str]]:
 
 def levels_of_opening(rows: pd.DataFrame, blocks: BlockAmounts) -> pd.Series:
     """Returns the level of rows of what lay on stockpiles at the start, by their source; nan if it is no stockpile, or there is a bench."""
-    numbers = {it.name: float(FIRST - number) for number, it in enumerate(blocks.stockpiles)}
+    numbers = {it["name"]: float(FIRST - number) for number, it in enumerate(blocks.stockpiles)}
     return rows["source"].map(numbers).where(rows["bench"].isna())
 
 
@@ -321,7 +321,7 @@ def unlike_feed(flow: MaterialFlow, said: pd.DataFrame) -> Iterator[str]:
     """Yields rows of feed.csv that are not the sums of their flows."""
     keys, metals = ["method", "year", "process"], flow.answer.project.metals
     rows = flow.rows[flow.process >= 0].rename(columns={"destination": "process"})
-    names = ["feed_tonnes", *(f"{kind}_{metal.name}" for kind in ("contained", "recovered") for metal in metals)]
+    names = ["feed_tonnes", *(f"{kind}_{metal['name']}" for kind in ("contained", "recovered") for metal in metals)]
     rows = rows.assign(reclaimed_tonnes=rows["feed_tonnes"].where(rows["source"] != PIT, 0.0))
     groups = rows.groupby(keys)
     sums, count = groups[[*names, "reclaimed_tonnes"]].sum(), groups.size()
@@ -331,12 +331,12 @@ def unlike_feed(flow: MaterialFlow, said: pd.DataFrame) -> Iterator[str]:
     sums, count = sums.reindex(at).fillna(0.0).reset_index(drop=True), count.reindex(at).fillna(0).to_numpy()
     tolerance = {name: AMOUNT * (count + 1) + 1e-9 * sums[name].abs() for name in (*names, "reclaimed_tonnes")}
     for metal in metals:
-        unit = float(GRADE_UNITS[metal.unit])
-        head = f"head_grade_{metal.name}"
+        unit = float(GRADE_UNITS[metal["unit"]])
+        head = f"head_grade_{metal['name']}"
         with np.errstate(divide="ignore", invalid="ignore"):
-            sums[head] = sums[f"contained_{metal.name}"] / unit / sums["feed_tonnes"]
+            sums[head] = sums[f"contained_{metal['name']}"] / unit / sums["feed_tonnes"]
             tolerance[head] = (
-                1e-6 + tolerance[f"contained_{metal.name}"] / unit / sums["feed_tonnes"] * 2 + 1e-6 * sums[head]
+                1e-6 + tolerance[f"contained_{metal['name']}"] / unit / sums["feed_tonnes"] * 2 + 1e-6 * sums[head]
             )
         sums.loc[sums["feed_tonnes"] <= 0, head] = np.nan
     for name, slack in tolerance.items():

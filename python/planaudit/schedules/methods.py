@@ -35,7 +35,7 @@ def differences(answer: Answer, told: dict[str, dict[str, Any]], loose: Optional
     found = []
     for way, record in told.items():
         years = answer.years[answer.years["case"] == way]
-        life = answer.project.shells.calendar.end(len(years))
+        life = answer.project.calendar.end(len(years))
         expected = record | {"years": life, "optimality_gap": below(record["npv"], record["upper_bound"])}
         expected |= {name: years[column].sum() for name, column in SUMS.items()}
         expected |= {name: years[name].sum() for name in years.columns if name.startswith("recovered_")}

@@ -9,7 +9,7 @@ from typing import TYPE_CHECKING
 import numpy as np
 import pandas as pd
 
-from planaudit.inputs.project import Stockpile
+from planaudit.inputs.project import Section
 from planaudit.schedules.discounts import discount
 
 if TYPE_CHECKING:
@@ -30,7 +30,7 @@ def npv_at_mean_grade(flow: MaterialFlow, method: str, npv: float) -> tuple[floa
     """
     mine = flow.rows[flow.rows["method"] == method].reset_index(drop=True)
     moved = pd.concat([part for it in flow.blocks.stockpiles for part in mixed(flow, it, mine)] or [mine[:0]])
-    own = mine[mine["source"].isin([it.name for it in flow.blocks.stockpiles])]
+    own = mine[mine["source"].isin([it["name"] for it in flow.blocks.stockpiles])]
     after, before = (earned(flow, rows) for rows in (moved, own))
     slack = AMOUNT * (2 + len(own) + len(moved)) * (1 + before[1])
     return npv - before[0] + after[0], slack
@@ -49,25 +49,25 @@ def earned(flow: MaterialFlow, rows: pd.DataFrame) -> tuple[float, float]:
     return float((per_tonne * found.rows["feed_tonnes"] * factors).sum()), float(np.abs(per_tonne).max())
 
 
-def mixed(flow: MaterialFlow, pile: Stockpile, rows: pd.DataFrame) -> Iterator[pd.DataFrame]:
+def mixed(flow: MaterialFlow, pile: Section, rows: pd.DataFrame) -> Iterator[pd.DataFrame]:
     """Yields the rows by year and process that leave a stockpile if it gives back its mean; the tonnes are those of `rows`."""
     keys = flow.keys
     lies = at_start(flow, pile)
     for year in range(1, int(rows["year"].max()) + 1 if len(rows) else 1):
         this = rows[rows["year"] == year]
-        out = this[this["source"] == pile.name].groupby("destination")["feed_tonnes"].sum()
+        out = this[this["source"] == pile["name"]].groupby("destination")["feed_tonnes"].sum()
         whole = float(lies.sum())
         for process, tonnes in out.items() if whole > 0 else ():
             left = (lies * tonnes / whole).rename("feed_tonnes").reset_index()
-            yield left.assign(year=year, source=pile.name, destination=process, total_tonnes=left["feed_tonnes"])
+            yield left.assign(year=year, source=pile["name"], destination=process, total_tonnes=left["feed_tonnes"])
         lies = lies * (1 - min(1.0, float(out.sum()) / whole) if whole > 0 else 0.0)
-        placed = this[this["destination"] == pile.name].groupby(keys)["feed_tonnes"].sum()
+        placed = this[this["destination"] == pile["name"]].groupby(keys)["feed_tonnes"].sum()
         lies = lies.add(placed, fill_value=0.0)
 
 
-def at_start(flow: MaterialFlow, pile: Stockpile) -> pd.Series:
+def at_start(flow: MaterialFlow, pile: Section) -> pd.Series:
     """Returns the feed of each lot that lies on a stockpile at the start."""
-    mine = [it.name == pile.name for _, it, _ in flow.opening.given]
+    mine = [it["name"] == pile["name"] for _, it, _ in flow.opening.given]
     lots = flow.opening.lots["feed_tonnes"]
     return (
         lots[mine]

@@ -12,7 +12,7 @@ import pandas as pd
 
 from planaudit.inputs.answer import Answer
 from planaudit.inputs.matching import own_name
-from planaudit.inputs.project import GRADE_UNITS, Metal, Opening, Project, Stockpile
+from planaudit.inputs.project import GRADE_UNITS, Project, Section
 from planaudit.money import ore_costs, smelter
 from planaudit.money.feed import by_code, recovered
 from planaudit.money.period_costs import BY_TERMS, PROCESSING, SELLING
@@ -38,16 +38,16 @@ class OpeningLots:
         return self.blocks.answer
 
     @cached_property
-    def given(self) -> list[tuple[int, Stockpile, Opening]]:
+    def given(self) -> list[tuple[int, Section, Section]]:
         """The number of each stockpile on which anything lies, and what lies there."""
         piles = enumerate(self.blocks.stockpiles)
-        return [(number, it, it.opening) for number, it in piles if it.opening and it.opening.tonnes > 0]
+        return [(number, it, it["opening"]) for number, it in piles if it["opening"] and it["opening"]["tonnes"] > 0]
 
     @cached_property
     def project(self) -> Project:
         """The project without mining losses and dilution."""
-        money = replace(self.answer.project.economics, mining_recovery=Decimal(1), dilution=Decimal(0))
-        return replace(self.answer.project, economics=money)
+        undiluted = {"mining_recovery": Decimal(1), "dilution": Decimal(0)}
+        return replace(self.answer.project, economics={**self.answer.project.economics, **undiluted})
 
     @cached_property
     def rows(self) -> pd.DataFrame:
@@ -55,18 +55,13 @@ class OpeningLots:
         table = self.project.table
         found: list[dict[str, Any]] = []
         for _, _, it in self.given:
-            pairs = (
-                (table.rock_type, it.rock_type),
-                (table.domain, it.domain),
-                (table.resource_class, it.resource_class),
-            )
-            codes = {column: code for column, code in pairs if column}
-            found.append({**codes, **it.grades, table.tonnes: it.tonnes})
+            codes = {table[key]: it[key] for key in ("rock_type", "domain", "class") if table[key]}
+            found.append({**codes, **it["grades"], table["tonnes"]: it["tonnes"]})
         return pd.DataFrame(found)
 
     @cached_property
     def feed(self) -> np.ndarray:
-        return np.array([it.tonnes for _, _, it in self.given])
+        return np.array([it["tonnes"] for _, _, it in self.given])
 
     @cached_property
     def recovered(self) -> dict[str, np.ndarray]:
@@ -74,7 +69,7 @@ class OpeningLots:
         found = {}
         for number, metal in enumerate(self.project.metals):
             grades = np.stack([recovered(way.metals[number], self.rows, way) for way in self.project.by_process])
-            found[metal.name] = grades * self.feed * float(GRADE_UNITS[metal.unit])
+            found[metal["name"]] = grades * self.feed * float(GRADE_UNITS[metal["unit"]])
         return found
 
     @cached_property
@@ -83,32 +78,34 @@ class OpeningLots:
         economics, revenue, cost = self.project.economics, [], []
         for number, way in enumerate(self.project.by_process):
             gained, spent = np.zeros(len(self.feed)), self.processing(number) + self.feed * float(
-                economics.royalty_per_tonne
+                economics["royalty_per_tonne"]
             )
             for metal in way.metals:
-                amount = self.recovered[metal.name][number]
-                gained = gained + amount * float(smelter.paid(metal, metal.price) * (1 - economics.royalty))
-                spent = spent + amount * float(smelter.all_charged(metal, metal.price)) + self.penalties(number, metal)
+                amount = self.recovered[metal["name"]][number]
+                gained = gained + amount * float(smelter.paid(metal, metal["price"]) * (1 - economics["royalty"]))
+                spent = (
+                    spent + amount * float(smelter.all_charged(metal, metal["price"])) + self.penalties(number, metal)
+                )
             revenue.append(gained)
             cost.append(spent)
-        return np.round(np.stack(revenue), economics.decimals), np.round(np.stack(cost), economics.decimals)
+        return np.round(np.stack(revenue), economics["decimals"]), np.round(np.stack(cost), economics["decimals"])
 
     def processing(self, process: int) -> np.ndarray:
         """Returns the cost of processing whole lots, without royalty and selling."""
         way = self.project.by_process[process]
-        return self.feed * by_code(way.economics.processing_cost, self.rows, way.table)
+        return self.feed * by_code(way.economics["processing_cost"], self.rows, way.table)
 
     def selling(self, process: int) -> np.ndarray:
         """Returns what selling the metals of whole lots costs, before what the stockpile loses, without price participation."""
         sold = self.project.by_process[process].metals
         amounts = (
-            self.recovered[it.name][process] * ore_costs.charged(it) + self.penalties(process, it) for it in sold
+            self.recovered[it["name"]][process] * ore_costs.charged(it) + self.penalties(process, it) for it in sold
         )
         return np.asarray(sum(amounts, np.zeros(len(self.feed))))
 
-    def penalties(self, process: int, metal: Metal) -> np.ndarray:
+    def penalties(self, process: int, metal: Section) -> np.ndarray:
         """Returns what the smelter charges for other elements in whole lots."""
-        return smelter.penalties_of(metal, self.recovered[metal.name][process], self.rows, self.feed)
+        return smelter.penalties_of(metal, self.recovered[metal["name"]][process], self.rows, self.feed)
 
     @cached_property
     def takes(self) -> np.ndarray:
@@ -132,12 +129,12 @@ class OpeningLots:
         if name.startswith("recovered_"):
             return self.recovered[name.removeprefix("recovered_")][process] * taken
         if name.startswith(BY_TERMS):
-            sold = {it.name for it in self.project.by_process[process].metals if it.smelter}
+            sold = {it["name"] for it in self.project.by_process[process].metals if it["smelter"]}
             metal = name.removeprefix(BY_TERMS)
             return self.recovered[metal][process] * taken * (metal in sold)
         for it in self.blocks.sums:
-            if name == f"sum_{it.name}" and it.of in ("feed", called):
-                return self.rows[it.column].to_numpy(dtype=float) * self.feed * taken
+            if name == f"sum_{it['name']}" and it["of"] in ("feed", called):
+                return self.rows[it["column"]].to_numpy(dtype=float) * self.feed * taken
         for limit in self.blocks.grades:
             if name == limit.name and limit.process == called:
                 content = limit.content(self.rows, self.project, self.feed, self.feed)
@@ -149,8 +146,8 @@ class OpeningLots:
         """The lot of each, as `BlockAmounts.keys` has those of blocks."""
         found = {"pushback": 0, "level": [FIRST - number for number, _, _ in self.given], "bin": 0}
         table = self.project.table
-        codes = [(table.rock_type, "rock_type"), (table.resource_class, "resource_class")]
-        texts = {own_name(column): [getattr(it, key) for _, _, it in self.given] for column, key in codes if column}
+        codes = [key for key in ("rock_type", "class") if table[key]]
+        texts = {own_name(table[key]): [it[key] for _, _, it in self.given] for key in codes}
         return pd.DataFrame(found | texts)
 
     @cached_property
@@ -162,8 +159,8 @@ class OpeningLots:
         found = pd.DataFrame(0.0, index=range(len(self.feed)), columns=list(blocks.columns))
         found["total_tonnes"] = found["feed_tonnes"] = self.feed
         for metal in self.project.metals:
-            content = self.rows[metal.column].to_numpy(dtype=float) * self.feed * float(GRADE_UNITS[metal.unit])
-            found[f"contained_{metal.name}"] = found[f"in_situ_{metal.name}"] = content
+            content = self.rows[metal["column"]].to_numpy(dtype=float) * self.feed * float(GRADE_UNITS[metal["unit"]])
+            found[f"contained_{metal['name']}"] = found[f"in_situ_{metal['name']}"] = content
         for process in range(len(self.takes)):
             for name, amounts in self.recovered.items():
                 found[f"recovered_{name} {process}"] = amounts[process]

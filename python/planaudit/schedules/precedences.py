@@ -100,7 +100,7 @@ def arcs_of(answer: Answer, place: np.ndarray) -> Iterator[np.ndarray]:
     """Yields arcs between cells, shape (2, arcs): from cells, by their numbers, to those in their cones."""
     level, row, column = np.unravel_index(place, answer.shape)
     entry = answer.entries.ravel()[place]
-    for number, wall in enumerate(answer.project.slopes.domains):
+    for number, wall in enumerate(answer.project.slopes["domains"]):
         mine = np.flatnonzero(entry == number)
         for up in range(1, answer.levels(wall) + 1 if len(mine) else 1):
             inside = cone(wall, answer.size, up, answer.azimuth)

@@ -9,8 +9,7 @@ import numpy as np
 import pandas as pd
 
 from planaudit.inputs.answer import Answer
-from planaudit.inputs.price_paths import PricePath
-from planaudit.inputs.project import Metal
+from planaudit.inputs.project import Section
 from planaudit.inputs.tables import read_table
 from planaudit.money.period_costs import price_in
 from planaudit.money.prices import converted
@@ -48,10 +47,10 @@ def verify(answer: Answer, method: str, recovered: dict[str, np.ndarray]) -> Rul
     return rule("price paths", holds, found[:TOLD], len(found))
 
 
-def path_of(given: PricePath, start: float, times: np.ndarray, seed: list[int]) -> np.ndarray:
+def path_of(given: Section, start: float, times: np.ndarray, seed: list[int]) -> np.ndarray:
     """Returns the price of one path at some times, step by step."""
     draws = np.random.Generator(np.random.PCG64(np.random.SeedSequence(seed))).standard_normal(len(times))
-    speed, volatility, log_mean = float(given.speed), float(given.volatility), math.log(float(given.long_term))
+    speed, volatility, log_mean = float(given["speed"]), float(given["volatility"]), math.log(float(given["long_term"]))
     log_price, before, found = math.log(start), 0.0, []
     for time, draw in zip(times, draws):
         share = math.exp(-speed * (time - before))
@@ -65,7 +64,7 @@ def unlike(answer: Answer, said: pd.DataFrame, years: pd.DataFrame, recovered: d
     """Yields prices and cash flows of paths that differ."""
     rules, project, count = answer.project.price_paths, answer.project, len(years)
     assert rules is not None
-    paths = rules.count
+    paths = rules["count"]
     places = [(path, year) for path in range(1, paths + 1) for year in years["year"]]
     if list(zip(said["path"], said["year"])) != places:
         yield f"{FILE}: has {len(said):,} rows, expected {paths:,} paths of {count} periods"
@@ -75,20 +74,20 @@ def unlike(answer: Answer, said: pd.DataFrame, years: pd.DataFrame, recovered: d
     cash = np.tile(years["cash_flow"].to_numpy(), (paths, 1))
     slack = np.full(count, AMOUNT * 3)
     for number, metal in enumerate(project.metals):
-        given = rules.metals.get(metal.name)
+        given = rules["metals"].get(metal["name"])
         if given is None:
             continue
-        seeds = [[rules.seed, number, path] for path in range(paths)]
-        due = np.stack([path_of(given, float(metal.price), times, seed) for seed in seeds])
-        prices = said[f"price_{metal.name}"].to_numpy().reshape(due.shape)
-        yield from differing(f"price_{metal.name}", prices, due, PRICE + 1e-9 * due)
-        for alone, amounts in zip(project.by_process, recovered[metal.name]):
+        seeds = [[rules["seed"], number, path] for path in range(paths)]
+        due = np.stack([path_of(given, float(metal["price"]), times, seed) for seed in seeds])
+        prices = said[f"price_{metal['name']}"].to_numpy().reshape(due.shape)
+        yield from differing(f"price_{metal['name']}", prices, due, PRICE + 1e-9 * due)
+        for alone, amounts in zip(project.by_process, recovered[metal["name"]]):
             of_process = alone.metals[number]
             base = [
-                float(net(of_process, price_in(project, metal, year), project.economics.royalty))
+                float(net(of_process, price_in(project, metal, year), project.economics["royalty"]))
                 for year in years["year"]
             ]
-            gain = earned(of_process, due, float(project.economics.royalty)) - np.array(base)
+            gain = earned(of_process, due, float(project.economics["royalty"])) - np.array(base)
             cash, slack = cash + amounts * gain, slack + DECIMALS * np.abs(gain).max(axis=0)
     yield from differing(
         "cash_flow", said["cash_flow"].to_numpy().reshape(cash.shape), cash, slack + 1e-9 * np.abs(cash)
@@ -99,16 +98,16 @@ def unlike(answer: Answer, said: pd.DataFrame, years: pd.DataFrame, recovered: d
     yield from differing("discounted_cash_flow", found, present, slack + 1e-9 * np.abs(cash))
 
 
-def earned(metal: Metal, prices: np.ndarray, royalty: float) -> np.ndarray:
+def earned(metal: Section, prices: np.ndarray, royalty: float) -> np.ndarray:
     """Returns what a recovered tonne or gram earns at prices, after royalty and charges."""
-    unit = float(converted(metal, metal.price * 0 + 1))
+    unit = float(converted(metal, metal["price"] * 0 + 1))
     found = prices * unit * float(paid_share(metal)) * (1 - royalty)
-    terms = metal.smelter
-    fixed = float(sum(it for name, it in charged(metal, metal.price).items() if name != PARTICIPATION))
-    if terms and terms.price_participation is not None:
-        part = terms.price_participation
-        above = prices - float(part.base)
-        kept = np.where((above > 0) | part.is_both_ways, above * float(part.share), 0.0)
+    terms = metal["smelter"]
+    fixed = float(sum(it for name, it in charged(metal, metal["price"]).items() if name != PARTICIPATION))
+    if terms and terms["price_participation"] is not None:
+        part = terms["price_participation"]
+        above = prices - float(part["base"])
+        kept = np.where((above > 0) | (part["applies"] == "both"), above * float(part["share"]), 0.0)
         found = found - kept * unit * float(paid_share(metal))
     return np.asarray(found - fixed)
 
@@ -146,10 +145,10 @@ def of_feed(answer: Answer, method: str) -> dict[str, np.ndarray]:
     """Returns by metal what each process recovers in each period, by feed.csv."""
     feed = read_table(answer.folder / "tables/feed.csv", ["method", "process"])
     mine = feed[feed["method"] == method]
-    names = [it.name for it in answer.project.processes] or [MILL]
+    names = [it["name"] for it in answer.project.processes] or [MILL]
     return {
-        metal.name: np.stack(
-            [mine.loc[mine["process"] == name, f"recovered_{metal.name}"].to_numpy() for name in names]
+        metal["name"]: np.stack(
+            [mine.loc[mine["process"] == name, f"recovered_{metal['name']}"].to_numpy() for name in names]
         )
         for metal in answer.project.metals
     }

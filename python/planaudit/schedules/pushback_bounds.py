@@ -16,7 +16,7 @@ import numpy as np
 import pandas as pd
 
 from planaudit.inputs.answer import Answer
-from planaudit.inputs.project import Stockpile
+from planaudit.inputs.project import Section, opening_tonnes
 from planaudit.inputs.tables import TABLES, read_prices
 from planaudit.money.period_costs import BY_TERMS, SELLING, mining_factors, premiums
 from planaudit.rules import Rule, rule
@@ -88,8 +88,8 @@ class Bound:
             found |= {(name, MAX): most} if np.isfinite(most).any() else {}
             found |= {(name, MIN): least} if (least > 0).any() else {}
         rules = self.answer.project.schedule
-        if rules and rules.vertical_advance_rate:
-            rate = float(rules.vertical_advance_rate) * self.answer.project.shells.calendar.lengths(self.years)
+        if rules and rules["vertical_advance_rate"]:
+            rate = float(rules["vertical_advance_rate"]) * self.answer.project.calendar.lengths(self.years)
             found |= {(f"{ADVANCE}{number}", MAX): rate for number in np.unique(self.benches["pushback"])}
         for name, (least, most) in stock_limits(self.answer.project, self.years).items():
             found |= {(f"{STOCK}{name}", MAX): most} if np.isfinite(most).any() else {}
@@ -106,24 +106,24 @@ class Bound:
         blocks, nothing, project = self.blocks, np.zeros(self.years), self.answer.project
         found = np.full((len(blocks.tonnes), self.years), np.inf if project.dumps else 0.0)
         for it in project.dumps:
-            kept = self.by_price.get((f"{dumps.DUMPED}{it.name}", MAX), nothing)
-            a_tonne = it.cost * self.discounts + [kept[year:].sum() for year in range(self.years)]
-            a_tonne = a_tonne + self.by_price.get((f"{dumps.DUMP}{it.name}", MAX), nothing)
-            a_tonne = a_tonne - self.by_price.get((f"{dumps.DUMP}{it.name}", MIN), nothing)
-            cost = np.where(blocks.unaccepted[it.name][:, None], np.inf, blocks.tonnes[:, None] * a_tonne)
+            kept = self.by_price.get((f"{dumps.DUMPED}{it['name']}", MAX), nothing)
+            a_tonne = it["cost"] * self.discounts + [kept[year:].sum() for year in range(self.years)]
+            a_tonne = a_tonne + self.by_price.get((f"{dumps.DUMP}{it['name']}", MAX), nothing)
+            a_tonne = a_tonne - self.by_price.get((f"{dumps.DUMP}{it['name']}", MIN), nothing)
+            cost = np.where(blocks.unaccepted[it["name"]][:, None], np.inf, blocks.tonnes[:, None] * a_tonne)
             found = np.minimum(found, cost)
         return found
 
-    def rent(self, stockpile: Stockpile) -> np.ndarray:
+    def rent(self, stockpile: Section) -> np.ndarray:
         """Returns the price of a tonne that lies on a stockpile at the end of each year; below 0 where a minimum asks for it."""
         nothing = np.zeros(self.years)
-        name = f"{STOCK}{stockpile.name}"
+        name = f"{STOCK}{stockpile['name']}"
         return self.by_price.get((name, MAX), nothing) - self.by_price.get((name, MIN), nothing)
 
     @property
     def asks_least(self) -> bool:
         """Whether a year must hold something at least, or a stockpile must be emptied."""
-        lying = {f"{STOCK}{it.name}": it.lying for it in self.blocks.stockpiles}
+        lying = {f"{STOCK}{it['name']}": opening_tonnes(it) for it in self.blocks.stockpiles}
         emptied = any((most < lying.get(name, 0.0)).any() for (name, side), most in self.limits.items() if side == MAX)
         return emptied or any(side == MIN for _, side in self.limits)
 
@@ -170,10 +170,10 @@ class Bound:
         return sign * amounts[:, None] * self.by_price[name, side]
 
     def in_process(
-        self, process: int, stockpile: Optional[Stockpile] = None, lots: Optional[OpeningLots] = None
+        self, process: int, stockpile: Optional[Section] = None, lots: Optional[OpeningLots] = None
     ) -> np.ndarray:
         """What each block, or each of some lots, earns in a process in each year, directly or from a stockpile, less prices, shape (blocks, years)."""
-        blocks, kept = lots or self.blocks, stockpile.recovery if stockpile else {}
+        blocks, kept = lots or self.blocks, stockpile["recovery"] if stockpile else {}
         shares = {f"{name}{metal}": share for metal, share in kept.items() for name in ("recovered_", BY_TERMS)}
         base = self.undiscounted(process, stockpile, lots)
         found = np.empty((len(blocks.feed), self.years))
@@ -193,17 +193,17 @@ class Bound:
         return np.where(blocks.takes[process][:, None], found, -np.inf)
 
     def undiscounted(
-        self, process: int, stockpile: Optional[Stockpile] = None, lots: Optional[OpeningLots] = None
+        self, process: int, stockpile: Optional[Section] = None, lots: Optional[OpeningLots] = None
     ) -> np.ndarray:
         """Returns what each whole block, or each of some lots, earns in a process at the base price, directly or from a stockpile, shape (blocks,)."""
         blocks = lots or self.blocks
-        found = blocks.gain[process] - (stockpile.reclaim_cost if stockpile else 0.0) * blocks.feed
-        for metal, share in (stockpile.recovery if stockpile else {}).items():
+        found = blocks.gain[process] - (stockpile["reclaim_cost"] if stockpile else 0.0) * blocks.feed
+        for metal, share in (stockpile["recovery"] if stockpile else {}).items():
             lost = (1 - share) * blocks.of_process(f"recovered_{metal}", process)
             found = found - self.blocks.net_prices[metal][process] * lost
         return np.asarray(found)
 
-    def in_stockpile(self, stockpile: Stockpile) -> np.ndarray:
+    def in_stockpile(self, stockpile: Section) -> np.ndarray:
         """What each block earns that is placed on a stockpile in each year, and reclaimed in its best later year or never."""
         blocks = self.blocks
         later = np.max([self.in_process(number, stockpile) for number in range(len(blocks.processes))], axis=0)
@@ -214,9 +214,9 @@ class Bound:
             paid = np.append(rent[:, year:-1], rent[:, -1:], axis=1) - (rent[:, year - 1 : year] if year else 0.0)
             earned = np.append(later[:, year + 1 :], np.zeros((len(rent), 1)), axis=1)
             found[:, year] = (earned - paid).max(axis=1)
-        found -= stockpile.stacking_cost * blocks.feed[:, None] * self.discounts
+        found -= stockpile["stacking_cost"] * blocks.feed[:, None] * self.discounts
         # What no process can take is never placed there.
-        is_left = blocks.refused[stockpile.name] | ~blocks.takes.any(axis=0)
+        is_left = blocks.refused[stockpile["name"]] | ~blocks.takes.any(axis=0)
         return np.where(is_left[:, None], -np.inf, found)
 
     @cached_property
@@ -247,7 +247,7 @@ class Bound:
         """Pairs of a bench and one that must be mined before it starts: the one above it in its pushback, and in each earlier pushback the lowest
         down to the lag below it."""
         rules = self.answer.project.schedule
-        lag, found = rules.bench_lag if rules else 0, []
+        lag, found = rules["bench_lag"] if rules else 0, []
         pushback, level = self.benches["pushback"].to_numpy(), self.benches["level"].to_numpy()
         for bench in range(len(self.benches)):
             for other in range(pushback[bench] + 1):
@@ -271,10 +271,10 @@ class Bound:
             takes = np.bincount(self.bench_of, self.blocks.of_mining(name), minlength=len(self.benches))
             found = np.minimum(found, left_over(takes, before, most.cumsum()))
         rules = self.answer.project.schedule
-        if rules and rules.vertical_advance_rate:
+        if rules and rules["vertical_advance_rate"]:
             pushback = self.benches["pushback"].to_numpy()
             above = before & (pushback[:, None] == pushback)
-            sunk = float(rules.vertical_advance_rate) * self.answer.project.shells.calendar.lengths(self.years).cumsum()
+            sunk = float(rules["vertical_advance_rate"]) * self.answer.project.calendar.lengths(self.years).cumsum()
             found = np.minimum(found, left_over(np.ones(len(self.benches)), above, sunk))
         return found
 
@@ -282,15 +282,15 @@ class Bound:
     def pace(self) -> list[tuple[int, int, int, int]]:
         """A bench and a year, and a bench above it in its pushback, or itself, that is mined at least as far by an earlier year: from the first share of this
         to that of the other the limits of mining let no more be mined in between."""
-        calendar, rules = self.answer.project.shells.calendar, self.answer.project.schedule
+        calendar, rules = self.answer.project.calendar, self.answer.project.schedule
         limits: list[tuple[np.ndarray, np.ndarray]] = [
             (np.bincount(self.bench_of, self.blocks.of_mining(name), minlength=len(self.benches)), most)
             for name, (_, most) in self.given.items()
             if not self.is_of_ore(name)
         ]
-        if rules and rules.vertical_advance_rate:
+        if rules and rules["vertical_advance_rate"]:
             limits.append(
-                (np.ones(len(self.benches)), float(rules.vertical_advance_rate) * calendar.lengths(self.years))
+                (np.ones(len(self.benches)), float(rules["vertical_advance_rate"]) * calendar.lengths(self.years))
             )
         found = []
         for _, mine in self.benches.groupby("pushback").groups.items():
@@ -356,7 +356,7 @@ class Bound:
         lots, found = OpeningLots(self.blocks), 0.0
         for place, (_, it, opening) in enumerate(lots.given):
             ways = [self.in_process(number, it, lots)[place] for number in range(len(self.blocks.processes))]
-            paid = opening.tonnes * np.append(0.0, self.rent(it).cumsum())
+            paid = opening["tonnes"] * np.append(0.0, self.rent(it).cumsum())
             found += max(float((np.max(ways, axis=0) - paid[:-1]).max()), float(-paid[-1]))
         return found
 

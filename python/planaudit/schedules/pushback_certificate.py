@@ -15,7 +15,7 @@ import numpy as np
 import pandas as pd
 
 from planaudit.inputs.answer import Answer
-from planaudit.inputs.project import Stockpile
+from planaudit.inputs.project import Section, opening_tonnes
 from planaudit.rules import TOLD, Rule, rule
 from planaudit.schedules.certificate_texts import FOLDER, KEY, MONEY, NAME, ROUNDING, UNFIT, UNIT, Texts
 from planaudit.schedules.certified_benches import CertifiedBenches
@@ -81,20 +81,20 @@ class PushbackCertificate:
         """The destinations of the texts."""
         return [(str(pile), str(process), int(lag)) for pile, process, lag in self.told[KEY]["destinations"]]
 
-    def stockpile(self, name: str) -> Optional[Stockpile]:
-        return next((it for it in self.bound.blocks.stockpiles if it.name == name), None)
+    def stockpile(self, name: str) -> Optional[Section]:
+        return next((it for it in self.bound.blocks.stockpiles if it["name"] == name), None)
 
     def unlike_ways(self) -> Iterator[str]:
         """Yields destinations that are missing or none, and limits that differ."""
         found: list[Way] = [("", "", 0), *(("", name, 0) for name in self.processes)]
         for it in self.bound.blocks.stockpiles:
             found += [
-                (it.name, name, lag)
+                (it["name"], name, lag)
                 for number, name in enumerate(self.processes)
-                if (self.bound.blocks.takes[number] & ~self.bound.blocks.refused[it.name]).any()
+                if (self.bound.blocks.takes[number] & ~self.bound.blocks.refused[it["name"]]).any()
                 for lag in range(1, self.bound.years)
             ]
-            found.append((it.name, "", self.bound.years))
+            found.append((it["name"], "", self.bound.years))
         if sorted(found) != sorted(self.ways) or len(self.ways) != self.texts.destinations:
             yield f"destinations {self.ways} for {found}"
         factors = self.bound.discounts
@@ -136,13 +136,13 @@ class PushbackCertificate:
             lots = self.lots_gain(process) if process else 0.0
             gain = self.gain(process)[some] * self.taken(way) if process else 0.0
             return {0: self.of_texts(mining, gain, lots)}
-        placed = -stockpile.stacking_cost * blocks.feed[some] * self.taken(way)
+        placed = -stockpile["stacking_cost"] * blocks.feed[some] * self.taken(way)
         found = {0: self.of_texts(mining, placed)}
         return found | (
             {lag: self.of_texts(0, self.gain(process, stockpile)[some] * self.taken(way))} if process else {}
         )
 
-    def gain(self, process: str, stockpile: Optional[Stockpile] = None) -> np.ndarray:
+    def gain(self, process: str, stockpile: Optional[Section] = None) -> np.ndarray:
         """Returns what whole blocks earn in a process."""
         return self.bound.undiscounted(self.processes.index(process), stockpile)
 
@@ -164,12 +164,12 @@ class PushbackCertificate:
         if not process:
             return {0: self.of_texts(mining)}
         number, stockpile = self.processes.index(process), self.stockpile(pile)
-        kept = stockpile.recovery.get(name.removeprefix("recovered_"), 1.0) if stockpile else 1.0
+        kept = stockpile["recovery"].get(name.removeprefix("recovered_"), 1.0) if stockpile else 1.0
         amounts = blocks.of_process(name, number)[some] * self.taken(way)
         amounts = amounts * (kept if name.startswith("recovered_") else 1.0)
         if stockpile is None:
             lots = OpeningLots(blocks)
-            kept_of = [it.recovery.get(name.removeprefix("recovered_"), 1.0) for _, it, _ in lots.given]
+            kept_of = [it["recovery"].get(name.removeprefix("recovered_"), 1.0) for _, it, _ in lots.given]
             shares = np.array(kept_of) if name.startswith("recovered_") else np.ones(len(kept_of))
             return {0: self.of_texts(mining, amounts, lots.of_process(name, number) * shares if lots.given else 0.0)}
         return {0: self.of_texts(mining), lag: self.of_texts(0, amounts)}
@@ -182,7 +182,7 @@ class PushbackCertificate:
             lies = self.of_texts(0, blocks.feed[self.benches.ore] * self.taken(way))
             return dict.fromkeys(range(min(lag, self.bound.years)), lies)
         if process and not pile and lots.given:
-            gone = [-it.tonnes if stockpile.name == name else 0.0 for _, stockpile, it in lots.given]
+            gone = [-it["tonnes"] if stockpile["name"] == name else 0.0 for _, stockpile, it in lots.given]
             return dict.fromkeys(range(self.bound.years), self.of_texts(0, 0, np.array(gone)))
         return {}
 
@@ -198,7 +198,7 @@ class PushbackCertificate:
             due = sign * self.bound.limits[name, side]
             if name.startswith(STOCK):
                 due = due - sign * sum(
-                    it.lying for it in self.bound.blocks.stockpiles if it.name == name.removeprefix(STOCK)
+                    opening_tonnes(it) for it in self.bound.blocks.stockpiles if it["name"] == name.removeprefix(STOCK)
                 )
             # What the texts have of a minimum may be less by rounding.
             loose = ROUNDING * self.texts.sizes(number) * (side == MIN)

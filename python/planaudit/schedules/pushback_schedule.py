@@ -8,13 +8,14 @@ import math
 from collections.abc import Iterator
 from dataclasses import dataclass
 from functools import cached_property
-from typing import Any
+from typing import Any, Optional
 
 import numpy as np
 import pandas as pd
 from pandas.core.groupby import DataFrameGroupBy
 
 from planaudit.inputs.answer import Answer
+from planaudit.inputs.project import Section
 from planaudit.inputs.tables import read_table, some
 from planaudit.money.period_costs import capex, fixed_cost, mining_factor
 from planaudit.revenue_factors import factor_texts
@@ -59,7 +60,7 @@ class Way:
     said: dict[str, Any]
 
     @property
-    def project_rules(self) -> Any:
+    def project_rules(self) -> Optional[Section]:
         return self.answer.project.schedule
 
     @cached_property
@@ -146,8 +147,8 @@ def sums_of_benches(flow: MaterialFlow) -> pd.DataFrame:
 
 def by_year(answer: Answer, years: int) -> dict[str, tuple[np.ndarray, np.ndarray]]:
     """Returns the minimum and maximum of each limited amount in each period."""
-    rules, nothing, lengths = answer.project.schedule, np.zeros(years), answer.project.shells.calendar.lengths(years)
-    ramp_up = rules.ramp_up if rules else (1.0,)
+    rules, nothing, lengths = answer.project.schedule, np.zeros(years), answer.project.calendar.lengths(years)
+    ramp_up = rules["ramp_up"] if rules else (1.0,)
     ramp = np.array([ramp_up[min(year, len(ramp_up) - 1)] for year in range(years)])
 
     def of_years(name: str, amount: float) -> np.ndarray:
@@ -168,9 +169,9 @@ def maxima_of(answer: Answer) -> dict[str, float]:
     """Returns the annual maximum of each limited amount, with the full capacity of processes; 0 of head grades."""
     rules, shells = answer.project.schedule, answer.project.shells
     found = capacities_of_feed(answer.project)
-    found |= {"total_tonnes": (rules and rules.mining_capacity) or shells.mining_capacity or math.inf}
-    found |= {f"recovered_{name}": most for name, most in (rules.max_metal_per_year if rules else {}).items()}
-    found |= {f"sum_{it.name}": it.max for it in (rules.limits if rules else ()) if it.max is not None}
+    found |= {"total_tonnes": (rules and rules["mining_capacity"]) or shells["mining_capacity"] or math.inf}
+    found |= {f"recovered_{name}": most for name, most in (rules["max_metal_per_year"] if rules else {}).items()}
+    found |= {f"sum_{it['name']}": it["max"] for it in (rules["limits"] if rules else ()) if it["max"] is not None}
     found |= {it.name: 0.0 for it in grade_limits(answer.project)}
     return {name: most for name, most in found.items() if most < math.inf}
 
@@ -207,7 +208,7 @@ def flows_of(way: Way, rows: pd.DataFrame, flow: MaterialFlow) -> tuple[pd.DataF
     mine = flow.rows[flow.rows["method"] == way.name]
     # What a stockpile takes is no mill feed yet.
     mine = mine.assign(feed_tonnes=mine["feed_tonnes"].where(mine["destination"].isin(flow.names), 0.0))
-    names = ["feed_tonnes", *(f"recovered_{metal.name}" for metal in way.answer.project.metals), "cash_flow"]
+    names = ["feed_tonnes", *(f"recovered_{metal['name']}" for metal in way.answer.project.metals), "cash_flow"]
     keys = ["year", "pushback", "level"]
     of_pit = mine["source"] == PIT
     mine = mine.assign(pushback=mine["pushback"].where(of_pit, 0), level=mine["level"].where(of_pit, FIRST))
@@ -215,8 +216,8 @@ def flows_of(way: Way, rows: pd.DataFrame, flow: MaterialFlow) -> tuple[pd.DataF
     groups = mine.groupby(keys)
     found = groups[names].sum().reindex(at).fillna(0.0).reset_index(drop=True)
     for process in way.answer.project.processes:
-        of_one = mine[mine["destination"] == process.name].groupby(keys)["feed_tonnes"].sum()
-        found[f"feed_tonnes_{process.name}"] = of_one.reindex(at).fillna(0.0).to_numpy()
+        of_one = mine[mine["destination"] == process["name"]].groupby(keys)["feed_tonnes"].sum()
+        found[f"feed_tonnes_{process['name']}"] = of_one.reindex(at).fillna(0.0).to_numpy()
     count = groups.size().reindex(at).fillna(0).to_numpy()
     return found, pd.DataFrame({name: AMOUNT * count for name in found})
 
@@ -229,7 +230,7 @@ def verify_order(ways: list[Way], sums: pd.DataFrame) -> Rule:
     """Verifies that no bench starts before all benches above it in its pushback, and those of earlier pushbacks down to `lag` below it, are mined."""
     differences = []
     for way in ways:
-        lag = way.project_rules.bench_lag if way.project_rules else 0
+        lag = way.project_rules["bench_lag"] if way.project_rules else 0
         is_there = np.zeros(way.done.shape[:2], dtype=bool)
         is_there[tuple(np.array(sums.index.to_list()).T)] = True
         # The smallest mined share from the top of each pushback down; a level without a bench delays nothing.
@@ -254,12 +255,12 @@ def unlike_limits(way: Way, told: dict[str, Any]) -> Iterator[str]:
     least = dict.fromkeys(minima_of_periods(way.answer.project, 1), 0.0) | dict(least_of(way.answer))
     due |= {"least": least} if least else {}
     due |= {
-        "ramp_up": list(rules.ramp_up) if rules else [1.0],
-        "lag": rules.bench_lag if rules else 0,
-        "vertical_advance_rate": rules and rules.vertical_advance_rate,
+        "ramp_up": list(rules["ramp_up"]) if rules else [1.0],
+        "lag": rules["bench_lag"] if rules else 0,
+        "vertical_advance_rate": rules and rules["vertical_advance_rate"],
     }
-    due |= {"years": rules.years} if rules and rules.years else {}
-    said = told | {"years": way.answer.project.shells.calendar.end(told["years"])}
+    due |= {"years": rules["years"]} if rules and rules["years"] else {}
+    said = told | {"years": way.answer.project.calendar.end(told["years"])}
     yield from (
         f"schedule.json: {name} {said[name]} for {amount}" for name, amount in due.items() if said[name] != amount
     )
@@ -271,7 +272,7 @@ def verify_limits(ways: list[Way], told: dict[str, Any], flow: MaterialFlow) -> 
     differences = list(unlike_limits(ways[0], told)) if ways else []
     for way in ways:
         limits, deepest = by_year(way.answer, max(way.last, 1)), (
-            way.project_rules and way.project_rules.vertical_advance_rate
+            way.project_rules and way.project_rules["vertical_advance_rate"]
         )
         for name, (least, most) in limits.items():
             used, slack = used_of(way, flow, name)
@@ -287,7 +288,7 @@ def verify_limits(ways: list[Way], told: dict[str, Any], flow: MaterialFlow) -> 
         differences += [
             f"{way.name}: pushback {at[0]} advances {by:.9g} benches in year {at[1]}"
             for at, by in sunk.items()
-            if by > (deepest or math.inf) * way.answer.project.shells.calendar.length(at[1]) + SLIGHT
+            if by > (deepest or math.inf) * way.answer.project.calendar.length(at[1]) + SLIGHT
         ]
         if way.last > told["years"]:
             differences.append(f"{way.name}: material is mined in year {way.last}")
@@ -354,7 +355,7 @@ def verify_value(ways: list[Way], told: dict[str, Any], sums: pd.DataFrame, flow
                 differences.append(f"{way.name}: {name} {way.said[name]:.12g} for {amount:.12g}")
         if (
             way.name == "rule"
-            and not (way.project_rules and way.project_rules.years)
+            and not (way.project_rules and way.project_rules["years"])
             and left > CENT + AMOUNT * len(rows)
         ):
             differences.append(f"{way.name} leaves {left:.10g} t")

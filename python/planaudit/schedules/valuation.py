@@ -70,7 +70,7 @@ class Periods:
 
 def ends_of(answer: Answer, count: int) -> np.ndarray:
     """Returns the end of each period in years, shape (count,)."""
-    return answer.project.shells.calendar.lengths(count).cumsum()
+    return answer.project.calendar.lengths(count).cumsum()
 
 
 def taxed(answer: Answer, said: pd.DataFrame) -> dict[str, np.ndarray]:
@@ -78,24 +78,24 @@ def taxed(answer: Answer, said: pd.DataFrame) -> dict[str, np.ndarray]:
     rules, operating = answer.project.cash_flow, said["operating_cash_flow"].to_numpy()
     capex = said["capex"].to_numpy() if "capex" in said else np.zeros(len(said))
     closure, tax, found = np.zeros(len(said)), np.zeros(len(said)), {}
-    if rules.closure_cost:
-        closure[-1:] = float(rules.closure_cost)
+    if rules["closure_cost"]:
+        closure[-1:] = float(rules["closure_cost"])
         found["closure_cost"] = closure
-    if rules.tax_rate:
+    if rules["tax_rate"]:
         depreciation, income, losses = depreciated(answer, said, capex), np.zeros(len(said)), 0.0
         for row, gain in enumerate(operating - depreciation - closure):
             income[row], losses = max(gain - losses, 0.0), max(losses - gain, 0.0)
-        tax = income * float(rules.tax_rate)
+        tax = income * float(rules["tax_rate"])
         found |= {"depreciation": depreciation, "taxable_income": income, "tax": tax}
     cash = said["cash_flow"].to_numpy() + capex - closure - tax
     periods = Periods(answer, cash, capex)
-    present = periods.present(answer.project.shells.discount_rate)
+    present = periods.present(answer.project.shells["discount_rate"])
     return found | {"free_cash_flow": cash - capex, "discounted_free_cash_flow": present}
 
 
 def depreciated(answer: Answer, said: pd.DataFrame, capex: np.ndarray) -> np.ndarray:
     """Returns the depreciation of capex; what is left at the end belongs to the last period."""
-    years, ends, feed = answer.project.cash_flow.depreciation_years, ends_of(answer, len(said)), said["feed_tonnes"]
+    years, ends, feed = answer.project.cash_flow["depreciation"], ends_of(answer, len(said)), said["feed_tonnes"]
     starts, found = np.append(0.0, ends)[:-1], np.zeros(len(capex))
     if years is not None:
         for start, spent in zip(starts, capex):
@@ -112,8 +112,8 @@ def depreciated(answer: Answer, said: pd.DataFrame, capex: np.ndarray) -> np.nda
 def differences(answer: Answer, cash_flow: pd.DataFrame, methods: list[str]) -> Iterator[str]:
     """Yields rows of valuation.csv that do not follow from cash_flow.csv."""
     said = read_table(answer.folder / "tables" / FILE, ["method"])
-    rules, base = answer.project.cash_flow, answer.project.shells.discount_rate
-    rates = sorted({base, *map(float, rules.discount_rates)})
+    rules, base = answer.project.cash_flow, answer.project.shells["discount_rate"]
+    rates = sorted({base, *map(float, rules["discount_rates"])})
     expected = [(method, rate) for method in methods for rate in rates]
     if list(zip(said["method"], said["discount_rate"])) != expected:
         yield f"{FILE}: methods and rates are not {expected}"

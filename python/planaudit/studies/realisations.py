@@ -17,7 +17,7 @@ from planaudit.errors import AuditError
 from planaudit.inputs import block_table
 from planaudit.inputs.kept_arrays import read_arrays
 from planaudit.inputs.matching import beside, read_blocks, rows_of
-from planaudit.inputs.project import Project, Scenarios
+from planaudit.inputs.project import Project, Section
 from planaudit.inputs.project_file import load
 from planaudit.inputs.reblocking import mean_grades
 from planaudit.inputs.record import read_json
@@ -90,7 +90,7 @@ class Simulated:
 
     @property
     def factors(self) -> tuple[float, ...]:
-        return self.project.shells.revenue_factors
+        return self.project.shells["revenue_factors"]
 
     @cached_property
     def scenarios(self) -> list[Scenario]:
@@ -132,13 +132,13 @@ class Simulated:
         """Returns the grades of a realisation for the rows that it may name, shape (rows, metals)."""
         metals = self.project.metals
         if model.file is None:
-            return self.table[[model.columns.get(metal.name, metal.column) for metal in metals]].to_numpy()
+            return self.table[[model.columns.get(metal["name"], metal["column"]) for metal in metals]].to_numpy()
         frame, found = self.read_model(model.file), np.zeros((len(self.named), len(metals)))
         at = self.places_of(frame, model.file)
         frame, at = frame[at >= 0], at[at >= 0]
         for number, metal in enumerate(metals):
-            zero = self.project.table.rules.meaning(metal.column, self.project.table.empty) == "zero"
-            found[at, number] = block_table.without_gaps(frame[metal.column], model.file, zero)
+            zero = self.project.table["rules"].meaning(metal["column"], self.project.table["empty"]) == "zero"
+            found[at, number] = block_table.without_gaps(frame[metal["column"]], model.file, zero)
         return found
 
     @property
@@ -148,21 +148,21 @@ class Simulated:
 
     def read_model(self, file: Path) -> pd.DataFrame:
         columns = self.project.table
-        codes = [columns.id] if columns.id else []
-        wanted = [*codes, columns.x, columns.y, columns.z, *(metal.column for metal in self.project.metals)]
+        codes = [columns["id"]] if columns["id"] else []
+        wanted = [*codes, columns["x"], columns["y"], columns["z"], *(metal["column"] for metal in self.project.metals)]
         there = block_table.header(file, columns)
         return block_table.read_columns(file, columns, codes, [name for name in wanted if name in there])
 
     def places_of(self, frame: pd.DataFrame, file: Path) -> np.ndarray:
         """Returns the rows of the blocks of a realisation's table, by ids if it has them, otherwise by centroids."""
         columns = self.project.table
-        if columns.id and columns.id in frame:
-            numbers = {name: row for row, name in enumerate(self.named[columns.id])}
-            ids = [str(name).strip() for name in frame[columns.id]]
+        if columns["id"] and columns["id"] in frame:
+            numbers = {name: row for row, name in enumerate(self.named[columns["id"]])}
+            ids = [str(name).strip() for name in frame[columns["id"]]]
             at = np.array([numbers.get(name, -1) for name in ids], dtype=np.int64)
         else:
-            at = self.at_centres(frame[[columns.x, columns.y, columns.z]].to_numpy(dtype=np.float64))
-        if (at < 0).any() and not self.project.table.rules.leaves_out:
+            at = self.at_centres(frame[[columns["x"], columns["y"], columns["z"]]].to_numpy(dtype=np.float64))
+        if (at < 0).any() and not self.project.table["rules"].leaves_out:
             raise AuditError(
                 f"{file}: {np.count_nonzero(at < 0):,} of its blocks are not in the table: has it changed since?"
             )
@@ -171,7 +171,7 @@ class Simulated:
     def at_centres(self, centres: np.ndarray) -> np.ndarray:
         """Returns the rows with these centroids; -1 without such a row."""
         columns, grid = self.project.table, self.record["grid"]
-        own = self.named[[columns.x, columns.y, columns.z]].to_numpy()
+        own = self.named[[columns["x"], columns["y"], columns["z"]]].to_numpy()
         if self.parts is None:
             row_of = np.full(int(np.prod(grid["shape"])), -1, dtype=np.int64)
             row_of[nearest_cells(own, grid)] = np.arange(len(own))
@@ -180,7 +180,7 @@ class Simulated:
         from scipy.spatial import KDTree
 
         distance, at = KDTree(own).query(centres)
-        return np.where(distance <= 2 * self.project.grid.tolerance, at, -1)
+        return np.where(distance <= 2 * self.project.grid["tolerance"], at, -1)
 
     def answers(self) -> Iterator[tuple[Scenario, Told]]:
         """Yields scenarios with their results. Raises AuditError if one cannot be read."""
@@ -223,16 +223,16 @@ def read(folder: Path, written: Path) -> Simulated:
         raise AuditError(f"{folder}: not an output folder of pitplan scenarios: {error}") from error
     table = read_table(project)
     bare = project.without_grades
-    named = [name for name in (*bare.columns, project.table.tonnes) if name in table]
+    named = [name for name in (*bare.columns, project.table["tonnes"]) if name in table]
     frame, parts = table[list(dict.fromkeys(named))], None
-    if project.table.reblock:
+    if project.table["reblock"]:
         frame, parts, _ = rows_of(bare, told, record["grid"], frame, source)
     rows, known, order = beside(frame, told, project, record["grid"], source)
     told = told.iloc[order].reset_index(drop=True)
     return Simulated(folder, written, project, record, table, rows, known, told, parts)
 
 
-def asked(project: Project) -> Scenarios:
+def asked(project: Project) -> Section:
     assert project.scenarios is not None
     return project.scenarios
 
@@ -240,20 +240,22 @@ def asked(project: Project) -> Scenarios:
 def models_of(project: Project) -> list[Model]:
     """Returns the realisations of the project: files by name, or columns in their order."""
     scenarios, table = asked(project), project.table
-    if scenarios.folder is not None:
-        files = [path for path in scenarios.folder.iterdir() if path.name.endswith((".csv", ".csv.gz"))]
+    if scenarios["realisations"] is not None:
+        files = [path for path in scenarios["realisations"].iterdir() if path.name.endswith((".csv", ".csv.gz"))]
         return [Model(path.name.split(".")[0], {}, path) for path in sorted(files)]
-    header = block_table.header(table.file, table)
+    header = block_table.header(table["file"], table)
     named = {
-        metal: [it for name in names for it in matching(name, header)] for metal, names in scenarios.columns.items()
+        metal: [it for name in names for it in matching(name, header)] for metal, names in scenarios["columns"].items()
     }
     return [Model(columns[0], dict(zip(named, columns))) for columns in zip(*named.values())]
 
 
 def prices_of(project: Project) -> list[dict[str, Decimal]]:
     """Returns the price decks, each with the project's price for metals that only another deck names."""
-    sets = asked(project).prices
-    named = {metal.name: metal.price for metal in project.metals if any(metal.name in prices for prices in sets)}
+    sets = asked(project)["prices"]
+    named = {
+        metal["name"]: metal["price"] for metal in project.metals if any(metal["name"] in prices for prices in sets)
+    }
     return [{**named, **prices} for prices in sets]
 
 
@@ -263,11 +265,11 @@ def matching(name: str, header: list[str]) -> list[str]:
 
 def read_table(project: Project) -> pd.DataFrame:
     """Reads the table with every column of grades of a realisation."""
-    if asked(project).folder is not None:
+    if asked(project)["realisations"] is not None:
         return block_table.read(project.without_grades)
-    metals = {metal.name: metal for metal in project.metals}
+    metals = {metal["name"]: metal for metal in project.metals}
     wanted = {(name, column) for model in models_of(project) for name, column in model.columns.items()}
-    wanted |= {(name, metal.column) for name, metal in metals.items() if name not in asked(project).columns}
+    wanted |= {(name, metal["column"]) for name, metal in metals.items() if name not in asked(project)["columns"]}
     return block_table.read(
-        replace(project, metals=tuple(replace(metals[name], column=column) for name, column in sorted(wanted)))
+        replace(project, metals=tuple({**metals[name], "column": column} for name, column in sorted(wanted)))
     )

@@ -96,7 +96,7 @@ class Verification:
             said, expected = self.folder.solved_grades(scenario), self.folder.grades(scenario.model)
             off = np.argwhere(np.abs(said - expected) > reblocked.GRADE + 1e-12 * np.abs(expected))
             for row, number in off[:TOLD].tolist():
-                metal = self.folder.project.metals[number].name
+                metal = self.folder.project.metals[number]["name"]
                 amounts = f"{metal} {said[row, number]:.10g} for {expected[row, number]:.10g}"
                 differences.append(f"{scenario.label}: {self.ground.called(row)}: {amounts}")
             count += len(off)
@@ -182,12 +182,12 @@ class Verification:
     def priced(self, prices: dict[str, Decimal]) -> Project:
         """Returns the project at a price deck."""
         project = self.folder.project
-        metals = tuple(replace(metal, price=prices.get(metal.name, metal.price)) for metal in project.metals)
+        metals = tuple({**metal, "price": prices.get(metal["name"], metal["price"])} for metal in project.metals)
         return replace(project, metals=metals)
 
     def with_grades(self, grades: np.ndarray) -> pd.DataFrame:
         metals = self.folder.project.metals
-        return self.folder.rows.assign(**{metal.column: grades[:, number] for number, metal in enumerate(metals)})
+        return self.folder.rows.assign(**{metal["column"]: grades[:, number] for number, metal in enumerate(metals)})
 
     def counted(self) -> list[Rule]:
         """Verifies probability.csv, scenarios.csv and quantiles.csv by all results."""

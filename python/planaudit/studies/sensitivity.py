@@ -124,7 +124,7 @@ class Told:
         frame, parts, beyond = rows_of(project, blocks, record["grid"])
         known, count, order = beside(frame, blocks, project, record["grid"], "blocks.csv")
         factor = float(record["revenue_factor"])
-        factors = tuple(it for it in project.shells.revenue_factors if it <= factor)
+        factors = tuple(it for it in project.shells["revenue_factors"] if it <= factor)
         said = blocks[[name for name in said_of(project) if name in blocks]].iloc[order].reset_index(drop=True)
         record |= {"walls": record["cases"][0]["walls"]}
         found = {"parts": parts, "beyond": beyond, "own": own_columns(blocks, known, order)}
