@@ -113,13 +113,16 @@ def keys_of(record: type) -> Mapping[str, Key]:
 def declared(record: type) -> tuple[tuple[str, Key], ...]:
     """The fields of a record, and of the records in it, with their keys."""
     found: list[tuple[str, Key]] = []
-    for it in fields(record):
-        declaration = it.metadata.get(DECLARED)
-        if isinstance(declaration, Part):
-            found += declared(declaration.record)
-        elif declaration is not None:
-            found.append((it.name, completed(declaration, it.name)))
+    for name, it in declarations(record):
+        found += declared(it.record) if isinstance(it, Part) else [(name, it)]
     return tuple(found)
+
+
+@lru_cache(maxsize=None)
+def declarations(record: type) -> tuple[tuple[str, Union[Key, Part]], ...]:
+    """The fields of a record that are keys, or records with keys of the same section."""
+    found = ((it.name, it.metadata[DECLARED]) for it in fields(record) if DECLARED in it.metadata)
+    return tuple((name, it if isinstance(it, Part) else completed(it, name)) for name, it in found)
 
 
 def completed(declaration: Key, name: str) -> Key:
@@ -140,12 +143,11 @@ def read(record: Callable[..., Record], section: Section, **others: Any) -> Reco
 
 def read_part(record: Callable[..., Record], section: Section, others: Mapping[str, Any]) -> Record:
     values = dict(others)
-    for it in fields(cast(type, record)):
-        declaration = it.metadata.get(DECLARED)
-        if isinstance(declaration, Part):
-            values[it.name] = read_part(declaration.record, section, {})
-        elif declaration is not None:
-            values |= {it.name: value for value in given(completed(declaration, it.name), section)}
+    for name, it in declarations(cast(type, record)):
+        if isinstance(it, Part):
+            values[name] = read_part(it.record, section, {})
+        else:
+            values |= {name: value for value in given(it, section)}
     return record(**values)
 
 
@@ -165,12 +167,12 @@ def given(it: Key, section: Section) -> Iterator[Any]:
 def write(value: Any, folder: Path) -> dict[str, Any]:
     """The keys of a record as TOML has them, for a file in a folder; those without a value are left out."""
     found: dict[str, Any] = {}
-    for it in fields(value):
-        declaration, held = it.metadata.get(DECLARED), getattr(value, it.name)
-        if isinstance(declaration, Part):
+    for name, it in declarations(value.__class__):
+        held = getattr(value, name)
+        if isinstance(it, Part):
             found |= write(held, folder)
-        elif declaration is not None and not is_left_out(declaration, held, value):
-            found[declaration.name or it.name] = declaration.kind.write(held, folder)
+        elif not is_left_out(it, held, value):
+            found[it.name] = it.kind.write(held, folder)
     return found
 
 

@@ -13,6 +13,7 @@ from pitplan.config.project import Project, record_at
 from pitplan.config.toml_lines import Entry, entries
 
 from .draft import Draft, path_of
+from .grid_columns import at
 from .run_form import WrongForm
 
 # The fields of the form are named by the keys, after this.
@@ -88,19 +89,21 @@ def fields_in(
     section: str, text: str, written: Mapping[str, Entry], project: Project, data: Mapping[str, Any]
 ) -> Iterator[Field]:
     """Yields the fields of a section, or of each entry of a list of sections."""
+    listed = at(data, section.split("."))
+    numbers = range(1, len(listed) + 1) if isinstance(listed, list) else range(1)
     for key, it in keys_of(record_at(section)).items():
         if it.kind.type != "number" or it.of_processes and project.processes:
             continue
         if may_be_added(section, key, it, written, data):
             unit = "; ".join(filter(None, [it.unit_of(project.economics.currency), without(it)]))
             yield Field(Entry(f"{section}.{key}", 0), it.label, unit, "", True)
-        for name, entry in written.items():
-            found = re.fullmatch(rf"{re.escape(section)}(?: (\d+))?\.{key}", name)
-            value = text[entry.start : entry.end]
-            if found and IN_FILE.fullmatch(value):
-                of, unit = words_of(section, int(found[1] or 0), it, project)
+        for number in numbers:
+            entry = written.get(f"{section} {number}.{key}" if number else f"{section}.{key}")
+            value = text[entry.start : entry.end] if entry else ""
+            if entry and IN_FILE.fullmatch(value):
+                of, unit = words_of(section, number, it, project)
                 shown = value.replace("_", "").removeprefix("+")
-                yield Field(entry, f"{it.label}{of}", unit, shown, not it.is_required and not found[1])
+                yield Field(entry, f"{it.label}{of}", unit, shown, not it.is_required and not number)
 
 
 def may_be_added(section: str, key: str, it: Key, written: Mapping[str, Entry], data: Mapping[str, Any]) -> bool:
