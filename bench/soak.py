@@ -7,7 +7,7 @@
 Each client saves a project of its own. The results that are shown are those of examples/plan, which is planned first. After each answer a client
 pauses for an exponential time of this mean. A person reads for longer; without a pause the clients measure the greatest rate of the server.
 
-With --job-pages it prints the share of a processor that the server takes while so many browsers watch one job, with 2,000 jobs that have ended.
+With --job-pages it prints the share of a processor that the server takes while N browsers watch one job, with 2,000 jobs that have ended.
 """
 
 import argparse

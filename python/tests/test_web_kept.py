@@ -190,7 +190,7 @@ def test_pages_lead_to_the_next_and_back(client, root, monkeypatch):
     monkeypatch.setattr(results_page, "MOST_ROWS", 3)
     write_table(root, ["a", *map(str, range(1_000, 1_007))])
     first, second, third = (page_of(client, it) for it in ("", "2", "3"))
-    assert "7 rows, of which this page has 1 to 3" in first and "page has 4 to 6" in second and "7 to 7" in third
+    assert "7 rows; this page has 1 to 3" in first and "page has 4 to 6" in second and "7 to 7" in third
     links = [re.findall(r'rel="(prev|next)" href="/table\?name=([^&"]+)&amp;page=(\d)"', it) for it in (first, second)]
     name = "hill/plan/tables/years.csv"
     assert links == [[("next", name, "2")], [("prev", name, "1"), ("next", name, "3")]]

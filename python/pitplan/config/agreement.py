@@ -32,7 +32,7 @@ if TYPE_CHECKING:
 
 # Why a factor of the mining cost does not go with haulage.
 HAULED = "[haulage] charges ore for its road to the process, which no period changes"
-# The keys by one of which a slope domain has its slopes.
+# A slope domain has exactly one of these keys.
 OF_SLOPES = ("pattern", "angle", "azimuths", "offsets", "bench")
 
 

@@ -177,7 +177,7 @@ def write(value: Any, folder: Path) -> dict[str, Any]:
 
 
 def is_left_out(it: Key, value: Any, record: Any) -> bool:
-    """Whether a value is not written: there is none, or it is a default that the record does not write."""
+    """Whether a value is left out of the text: it is empty, or a default that the record does not write."""
     is_number = isinstance(value, (bool, int, float, Decimal))
     is_quiet = it.is_quiet(record) if callable(it.is_quiet) else it.is_quiet
     return not is_number and not value or bool(is_quiet and value == it.default)

@@ -74,7 +74,7 @@ class Kind:
 
 @dataclass(frozen=True)
 class Range:
-    """The numbers between two ends, each of which belongs to them (`least`, `most`) or not (`above`, `below`)."""
+    """The numbers between two ends: `least` and `most` belong to them, `above` and `below` do not."""
 
     least: Optional[Real] = None
     most: Optional[Real] = None
@@ -257,14 +257,14 @@ def choice(*options: str) -> Kind:
 
 
 def items_of(section: Section, key: str, value: Any, of: str) -> Sequence[Any]:
-    """The items of a list. Raises PlanError if it is none, or empty; `of` says what it has, with an example."""
+    """The items of a list. Raises PlanError if the value is no list, or empty; `of` says what it has, with an example."""
     if not isinstance(value, list) or not value:
         raise section.wrong(key, f"must be a list {of}")
     return value
 
 
 def listed(item: Kind, of: str, most: int = 0) -> Kind:
-    """A list, of which errors say what it has."""
+    """A list; `of` says in errors what it has."""
 
     def read(section: Section, key: str, value: Any) -> tuple[Any, ...]:
         found = tuple(item.read(section, key, it) for it in items_of(section, key, value, of))
@@ -293,7 +293,7 @@ def pairs(first: Kind, second: Kind, of: str) -> Kind:
 
 
 def numbers(count: int, item: Kind, of: str = "numbers") -> Kind:
-    """A list of so many numbers."""
+    """A list of `count` numbers."""
 
     def read(section: Section, key: str, value: Any) -> tuple[Any, ...]:
         if not isinstance(value, list) or len(value) != count:

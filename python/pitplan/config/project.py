@@ -246,7 +246,8 @@ def record_at(path: str) -> type:
     record = SECTIONS[first].kind.record
     for name in others:
         record = keys.keys_of(record)[name].kind.record if record else None
-    assert record is not None, path
+    if record is None:
+        raise KeyError(path)
     return record
 
 

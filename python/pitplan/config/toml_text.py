@@ -25,7 +25,7 @@ AT_LINE = re.compile(r"\(at line (\d+)")
 
 
 class ProjectError(PlanError):
-    """A project's text that is none, or a key that is wrong.
+    """A text that is no project, or a key that is wrong.
 
     Attributes
     ----------
@@ -61,7 +61,7 @@ class Source:
     folder : Path
         The folder to which their paths are relative.
     text : str
-        The text that they were read from; empty if there is none, or if keys were set in place of its own.
+        The text that they were read from; empty if it is unknown, or if keys were set by other means.
     """
 
     name: str
@@ -116,7 +116,7 @@ def text_of(path: Path) -> str:
 
 
 def read(path: Path) -> dict[str, Any]:
-    """The sections of a file. Raises PlanError, with the line if it is known, if it cannot be read, is no TOML, or is none that a project could be."""
+    """The sections of a file. Raises PlanError, with the line if it is known, if it cannot be read, or is no TOML."""
     return parsed(text_of(path), str(path))
 
 

@@ -33,7 +33,7 @@ class Draft:
     Parameters
     ----------
     text : str
-        One that `toml_text` reads. Raises PlanError if it is none.
+        A text that `toml_text` reads. Raises PlanError otherwise.
     """
 
     def __init__(self, text: str) -> None:
