@@ -37,6 +37,10 @@ class Browser:
     async def connected(self, websocket):
         return await websocket.websocket_connect(self.address(), max_message_size=1 << 28)
 
+    async def closed(self):
+        """The socket closes in its loop: another test may have left the thread without one."""
+        self.socket.close()
+
     def address(self):
         """Where it listens, once it does."""
         port = self.place / "DevToolsActivePort"
@@ -111,7 +115,7 @@ class Browser:
         path.write_bytes(base64.b64decode(self.call("Page.captureScreenshot", format="png")["data"]))
 
     def end(self):
-        self.socket.close()
+        self.loop.run_until_complete(self.closed())
         self.process.terminate()
         self.process.wait(timeout=SECONDS)
         self.loop.close()
