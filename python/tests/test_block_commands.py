@@ -17,7 +17,7 @@ from matplotlib.figure import Figure
 import pitplan
 from pitplan import Plan, PlanError, ResultWarning, load, verify
 from pitplan.cli import main
-from pitplan.figures import block_schedule
+from pitplan.figures import schedule
 from pitplan.results.folder import read_record
 from pitplan.scheduling.blocks import from_plan, tables
 
@@ -428,7 +428,7 @@ def test_where_no_block_pays_nothing_is_mined_which_is_an_answer(plan_folder):
     notes = read_record(project.folder / "block_schedule")["notes"]
     assert "nothing is mined: at these prices and costs no block pays for itself and its predecessors" in notes
     made = tables.make(Plan.from_project(project))
-    axes = block_schedule.plot(made, Figure().subplots(1, 2))
+    axes = schedule.plot(made, Figure().subplots(1, 2))
     assert [text.get_text() for text in axes[0].texts] == ["nothing is mined"]
 
 

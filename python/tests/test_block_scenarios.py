@@ -23,7 +23,7 @@ from scipy.optimize import linprog
 import pitplan
 from pitplan import MissingPackage, PlanError, Request, gather, write_scenarios
 from pitplan.cli import main
-from pitplan.figures import scenario_values
+from pitplan.figures import scenarios
 from pitplan.studies.scenarios import store, worker
 from pitplan.studies.scenarios.blocks.common_schedule import best_shares
 
@@ -515,9 +515,9 @@ def test_an_interrupted_schedule_is_no_answer(plan_folder, monkeypatch):
 
 
 def test_the_picture_has_each_scenario_and_the_spread():
-    figure = scenario_values.Figure()
+    figure = scenarios.Figure()
     table = pd.DataFrame({"common_npv": [1e7, 3e7], "npv": [2e7, 4e7], "upper_bound": [2.5e7, 4.1e7]})
-    each, spread = scenario_values.plot(table, "USD", figure.subplots(1, 2, sharey=True))
+    each, spread = scenarios.plot(table, "USD", figure.subplots(1, 2, sharey=True))
     points = {line.get_label(): line.get_ydata().tolist() for line in each.lines}
     assert points["common schedule"] == [10, 30] and points["upper bound of each scenario"] == [25, 41]
     assert spread.get_title(loc="left") == "expected value of perfect information: at most 13 M USD"

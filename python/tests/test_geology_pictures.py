@@ -8,7 +8,7 @@ from matplotlib.colors import to_rgb
 from matplotlib.figure import Figure
 
 from pitplan import Plan
-from pitplan.figures import geology, palette, plans_sections, topography
+from pitplan.figures import geology, map_marks, plans_sections, style
 
 CLASS = ('[table]\nfile = "blocks.csv"\n', '[table]\nfile = "blocks.csv"\nclass = "cls"\n')
 # Columns 0 and 1 are rock S, the others R; measured below, inferred in the middle, nothing on top. One block is rich.
@@ -41,7 +41,7 @@ def test_sections_show_rock_and_class(plan_folder):
     legends = [[text.get_text() for text in ax.get_legend().get_texts()] for ax in axes[2:]]
     assert legends == [["R", "S"], ["measured", "inferred", "unclassified"]]
     patch = axes[3].get_legend().get_patches()[0]
-    assert patch.get_facecolor()[:3] == to_rgb(palette.CLASSES[0])
+    assert patch.get_facecolor()[:3] == to_rgb(style.CLASSES[0])
     assert axes[0].get_title() == "Rock type, west to east (A) at north 25"
 
 
@@ -72,7 +72,7 @@ def test_columns_beyond_the_topography_have_no_height(plan_folder, tmp_path):
     corners = [(x, y, 25) for x in (-50, 30) for y in (-50, 100)]
     pd.DataFrame(corners, columns=["x", "y", "z"]).to_csv(tmp_path / "topo.csv", index=False)
     plan, _ = hill(plan_folder, ('file = "blocks.csv"\n', 'file = "blocks.csv"\ntopography = "topo.csv"\n'))
-    height = topography.topography_of(plan).height
+    height = map_marks.topography_of(plan).height
     assert height[:, :3] == pytest.approx(25) and np.isnan(height[:, 3:]).all()
 
 

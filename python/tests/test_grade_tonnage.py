@@ -12,7 +12,7 @@ from matplotlib.figure import Figure
 
 import pitplan
 from pitplan import verify
-from pitplan.figures import grade_tonnage as figures
+from pitplan.figures import pits
 from pitplan.pits.grade_tonnage import nice
 
 GRADES = {(3, 4, 1): 6, (7, 4, 1): 2, (5, 2, 2): 0.9, (3, 3, 2): 1.5, (8, 4, 2): 1.8, (6, 4, 1): 0.7, (4, 4, 1): 3}
@@ -125,11 +125,11 @@ def test_lines_of_cutoffs_name_their_rock_type_and_process():
 
 def lines_of(table):
     axis = Figure().subplots()
-    figures.mark(axis, table)
+    pits.mark(axis, table)
     return {line.get_label(): line.get_xdata()[0] for line in axis.lines}
 
 
 def test_the_figure_is_written(written, tmp_path):
     metal = pitplan.load(written.parent.parent / "project.toml").metals[0]
-    figures.write(table(written), metal, tmp_path / "picture.png")
+    pits.write(table(written), metal, tmp_path / "picture.png")
     assert (tmp_path / "picture.png").stat().st_size > 5_000

@@ -13,7 +13,7 @@ import pitplan
 from pitplan import PlanError
 from pitplan.blockmodel.grid import Grid
 from pitplan.cli import main
-from pitplan.export import pit_topography
+from pitplan.export import mesh
 from pitplan.results import pit_states
 from pitplan.results.folder import read_folder
 from pitplan.results.pit_states import Shape, Stage
@@ -48,8 +48,8 @@ def test_a_hole_of_one_block_by_hand():
     rock, dug = np.ones((2, 3, 3), dtype=bool), np.zeros((2, 3, 3), dtype=bool)
     dug[0, 1, 1] = True
     grid = grid_of((2, 3, 3))
-    surface, said = pit_topography.of_stage(rock, Stage("revenue_factor", 1.0, dug), grid, False)
-    assert len(surface.faces) == 26 and Counter(surface.bench.tolist()) == {pit_topography.NONE: 16, 1: 10}
+    surface, said = mesh.of_stage(rock, Stage("revenue_factor", 1.0, dug), grid, False)
+    assert len(surface.faces) == 26 and Counter(surface.bench.tolist()) == {mesh.NONE: 16, 1: 10}
     uses = Counter(edges_of(surface.faces).values())
     assert uses == {1: 12, 2: (26 * 3 - 12) // 2}
     assert said == "26 triangles; 500 m3 lie between it and the original ground, and the 1 mined cells hold 500 m3"
@@ -67,7 +67,7 @@ def test_a_hole_of_one_block_by_hand():
 def test_random_pits_hold_what_is_dug(seed):
     rock, dug = random_pit(seed)
     grid = grid_of(rock.shape, (20.0, 10.0, 5.0))
-    parts = [pit_topography.of_stage(rock, Stage("year", k, dug & bool(k)), grid, False)[0] for k in (0, 1)]
+    parts = [mesh.of_stage(rock, Stage("year", k, dug & bool(k)), grid, False)[0] for k in (0, 1)]
     found = [pit_states.places_of(grid, part.corners)[part.faces] for part in parts]
     before, after = (prisms(triangles) for triangles in found)
     assert before - after == pytest.approx(1000 * dug.sum())
@@ -80,9 +80,9 @@ def test_random_pits_hold_what_is_dug(seed):
 @pytest.mark.parametrize("seed", range(4))
 def test_smoothing_moves_no_corner_by_more_than_half_a_block_and_no_rim(seed):
     rock, dug = random_pit(seed)
-    heights = pit_topography.heights_of(rock, Stage("year", 1, dug), grid_of(rock.shape))
-    stepped = pit_topography.stepped(heights)
-    smooth = pit_topography.smoothed(stepped)
+    heights = mesh.heights_of(rock, Stage("year", 1, dug), grid_of(rock.shape))
+    stepped = mesh.stepped(heights)
+    smooth = mesh.smoothed(stepped)
     moved = abs(smooth.corners - stepped.corners)
     assert 0.1 < moved.max() <= 0.5 and (smooth.faces == stepped.faces).all()
     rims = {corner for edge, count in edges_of(stepped.faces).items() if count == 1 for corner in edge}
@@ -93,7 +93,7 @@ def test_stairs_become_a_slope():
     """Twelve steps up to the east, of one block each: in the middle, far from the rims, what is smoothed lies on the plane through the middles
     of walls and tops, to a tenth of a block."""
     high = np.repeat(np.arange(1, 13)[None], 12, axis=0)
-    smooth = pit_topography.smoothed(pit_topography.stepped(pit_topography.Heights(high, high)))
+    smooth = mesh.smoothed(mesh.stepped(mesh.Heights(high, high)))
     x, y, z = smooth.corners.T
     inner = (abs(x - 6) < 3) & (abs(y - 6) < 3)
     # Tops at x + 0.5 have height x + 1: the middle of a wall at x is x + 0.5.
@@ -103,8 +103,8 @@ def test_stairs_become_a_slope():
 def test_the_difference_after_smoothing_is_told():
     rock, dug = random_pit(1)
     grid = grid_of(rock.shape)
-    surface, said = pit_topography.of_stage(rock, Stage("year", 1, dug), grid, True)
-    before, _ = pit_topography.of_stage(rock, Stage("year", 0, dug & False), grid, True)
+    surface, said = mesh.of_stage(rock, Stage("year", 1, dug), grid, True)
+    before, _ = mesh.of_stage(rock, Stage("year", 0, dug & False), grid, True)
     held = prisms(pit_states.places_of(grid, before.corners)[before.faces]) - prisms(
         pit_states.places_of(grid, surface.corners)[surface.faces]
     )
@@ -119,16 +119,14 @@ def test_rock_over_what_is_dug_is_refused():
     with pytest.raises(
         PlanError, match="the block at 5, 15, 12.5 remains above a mined one: the ground is not a surface"
     ):
-        pit_topography.heights_of(rock, Stage("revenue_factor", 1.0, dug), grid_of((3, 2, 2)))
+        mesh.heights_of(rock, Stage("revenue_factor", 1.0, dug), grid_of((3, 2, 2)))
 
 
 def test_faces_that_hold_something_else_are_not_kept(monkeypatch):
     rock, dug = random_pit(2)
-    monkeypatch.setattr(
-        pit_topography, "volume_under", lambda surface, was=pit_topography.volume_under: 1.002 * was(surface)
-    )
+    monkeypatch.setattr(mesh, "volume_under", lambda surface, was=mesh.volume_under: 1.002 * was(surface))
     with pytest.raises(PlanError, match="year-1: .* m3 lie between .*: please report this"):
-        pit_topography.of_stage(rock, Stage("year", 1, dug), grid_of(rock.shape), False)
+        mesh.of_stage(rock, Stage("year", 1, dug), grid_of(rock.shape), False)
 
 
 def volume_dug(folder, name, number):

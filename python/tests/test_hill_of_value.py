@@ -12,7 +12,7 @@ from matplotlib.figure import Figure
 
 import pitplan
 from pitplan import PlanError, load
-from pitplan.figures import hill_of_value
+from pitplan.figures import sensitivity
 from pitplan.report import studies
 from pitplan.studies.sensitivity import perturb
 
@@ -191,14 +191,14 @@ def test_the_report_shows_the_npvs_as_a_grid_of_cells(written):
 
 
 def test_the_contours_have_a_star_at_the_top(written, tmp_path):
-    ax = hill_of_value.plot(hill_of(written), "USD", Figure().subplots())
+    ax = sensitivity.plot(hill_of(written), "USD", Figure().subplots())
     (star,) = [line for line in ax.lines if line.get_marker() == "*"]
     assert (star.get_xdata(), star.get_ydata()) == (400, 0.5)
     assert (
         star.get_label() == "highest NPV: 8,636.36 USD at capacity of mill 400 t a year, least cu that mill accepts 0.5"
     )
     assert (ax.get_xlabel(), ax.get_ylabel()) == ("capacity of mill, t a year", "least cu that mill accepts")
-    hill_of_value.write(hill_of(written).assign(npv=0.0), "USD", tmp_path / "flat.png")
+    sensitivity.write(hill_of(written).assign(npv=0.0), "USD", tmp_path / "flat.png")
     assert (tmp_path / "flat.png").stat().st_size > 5_000
 
 

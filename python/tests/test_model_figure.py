@@ -7,7 +7,7 @@ from helpers import vendor_models
 
 from pitplan.blockmodel import guessed_model
 from pitplan.cli import main
-from pitplan.figures.block_model import cube_of, histograms_of
+from pitplan.figures.geology import cube_of, histograms_of
 
 
 @pytest.mark.parametrize("azimuth", [0.0, 30.0])

@@ -13,8 +13,8 @@ from matplotlib.figure import Figure
 
 import pitplan
 from pitplan.blockmodel.grid import Grid
-from pitplan.figures import annual, plans_sections, pushbacks, scenarios, style
-from pitplan.figures.pit_by_pit import plot_pit_by_pit
+from pitplan.figures import plans_sections, pushbacks, scenarios, schedule, style
+from pitplan.figures.pits import plot_pit_by_pit
 
 YEARS = pd.DataFrame(
     [
@@ -41,7 +41,7 @@ def test_years_are_drawn_as_bars_capacities_and_cash(plan_folder, panels):
     """In millions of tonnes and of dollars, of which the axes have ten or more."""
     figure, axes = panels
     project = pitplan.load(plan_folder(rows(2, 2, 2), PROJECT, CAPACITIES))
-    annual.plot_years(YEARS, project, 1.0, axes)
+    schedule.plot_years(YEARS, project, 1.0, axes)
     expected = {
         0: ("Best case: NPV 28.0 M USD", [0, 3], [9, 1], [-2.5, 40]),
         1: ("Worst case: NPV 23.5 M USD", [1, 2, 0], [7, 3, 1], [5, 32, -1]),
@@ -68,7 +68,7 @@ def test_years_are_drawn_as_bars_capacities_and_cash(plan_folder, panels):
 def test_the_axes_of_years_hold_all_and_have_nothing_at_one_height(plan_folder, panels):
     figure, axes = panels
     project = pitplan.load(plan_folder(rows(2, 2, 2), PROJECT, CAPACITIES))
-    annual.plot_years(YEARS, project, 1.0, axes)
+    schedule.plot_years(YEARS, project, 1.0, axes)
     limits = [axis.get_ylim() for axis in figure.axes]
     assert limits[0] == limits[1] and limits[2] == limits[3]
     heights = [-low / (high - low) for low, high in limits]
@@ -80,7 +80,7 @@ def test_the_axes_of_years_hold_all_and_have_nothing_at_one_height(plan_folder, 
 def test_a_capacity_far_above_all_years_is_told_and_not_drawn_to(plan_folder, panels):
     figure, axes = panels
     far = (CAPACITIES[0], CAPACITIES[1].replace("10_000_000", "1_000_000_000"))
-    annual.plot_years(YEARS, pitplan.load(plan_folder(rows(2, 2, 2), PROJECT, far)), 1.0, axes)
+    schedule.plot_years(YEARS, pitplan.load(plan_folder(rows(2, 2, 2), PROJECT, far)), 1.0, axes)
     assert "mining capacity: 1,000,000 kt a year" in [text.get_text() for text in figure.legends[0].get_texts()]
     assert 9000 < axes[0].get_ylim()[1] < 20_000
 
@@ -90,7 +90,7 @@ def test_years_that_earn_nothing_are_drawn_too(plan_folder, panels, cash):
     figure, axes = panels
     project = pitplan.load(plan_folder(rows(2, 2, 2), PROJECT, CAPACITIES))
     years = YEARS[(YEARS["revenue_factor"] == 1.0) & (YEARS["case"] == "best")].assign(cash_flow=cash)
-    annual.plot_years(pd.concat([years, years.assign(case="worst")]), project, 1.0, axes)
+    schedule.plot_years(pd.concat([years, years.assign(case="worst")]), project, 1.0, axes)
     low, high = figure.axes[2].get_ylim()
     assert np.isfinite([low, high]).all() and high > 0
     size = 1 if min(cash) == 0 else 1e6 if min(cash) <= -10e6 else 1e3
@@ -322,7 +322,7 @@ EACH = {
     "sections of pushbacks": (2, lambda axes, project: pushbacks.plot_sections(pushback_scene(), axes)),
     "plans": (4, lambda axes, project: plans_sections.plot_plans(scene(), axes)),
     "sections": (4, lambda axes, project: plans_sections.plot_sections(scene(), axes)),
-    "years": (2, lambda axes, project: annual.plot_years(YEARS, project, 1.0, axes)),
+    "years": (2, lambda axes, project: schedule.plot_years(YEARS, project, 1.0, axes)),
     "plans of scenarios": (4, lambda axes, project: scenarios.plot_plans(likely(), axes)),
     "sections of scenarios": (2, lambda axes, project: scenarios.plot_sections(likely(), axes)),
     "spread": (2, lambda axes, project: scenarios.plot_spread(scenarios_at(100, 200), "USD", axes)),

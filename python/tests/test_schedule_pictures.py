@@ -17,7 +17,7 @@ from pitplan import PlanError
 from pitplan.config.project import Metal
 from pitplan.config.stockpiles import Stockpile
 from pitplan.export import xlsx
-from pitplan.figures import gantt, palette, schedule as schedule_figures
+from pitplan.figures import schedule as schedule_figures, style
 from pitplan.report import viewer3d, viewer_kinds
 from pitplan.results.folder import Folder, read_folder
 from pitplan.scheduling import pushback_record, pushback_schedule
@@ -64,7 +64,7 @@ def rows_of(method, feed, shares):
 
 
 def test_a_gantt_has_a_bar_for_each_share(schedule):
-    axes = gantt.plot_gantt(schedule, Figure().subplots(1, 2))
+    axes = schedule_figures.plot_gantt(schedule, Figure().subplots(1, 2))
     for ax, way in zip(axes, schedule.shares):
         (bars,) = ax.collections
         shares = schedule.shares[way]
@@ -84,8 +84,8 @@ def test_a_gantt_has_a_bar_for_each_share(schedule):
 
 def test_a_gantt_of_many_benches_has_a_row_per_pushback(schedule, monkeypatch):
     """A cell for each pushback and year in which it is mined, with its highest and lowest bench; the darkest has most tonnes."""
-    monkeypatch.setattr(gantt, "MOST_ROWS", 2)
-    axes = gantt.plot_gantt(schedule, Figure().subplots(2, 1))
+    monkeypatch.setattr(schedule_figures, "MOST_ROWS", 2)
+    axes = schedule_figures.plot_gantt(schedule, Figure().subplots(2, 1))
     benches, toes = schedule.benches, schedule.pushbacks.plan.grid.toes()
     for ax, way in zip(axes, schedule.shares):
         shares = schedule.shares[way]
@@ -189,15 +189,15 @@ def test_a_process_has_one_colour_in_all_pictures(schedule):
         assert {name: found[name] for name in due} == due
     assert [to_rgb(line.get_color()) for line in figure.axes[1].lines] == list(due.values())
     years = pd.DataFrame({"feed_tonnes": [3.0], "feed_tonnes_mill": [2.0], "feed_tonnes_leach": [1.0]})
-    assert {name: to_rgb(colour) for name, (_, colour) in palette.layers_of(years).items()} == due
+    assert {name: to_rgb(colour) for name, (_, colour) in style.layers_of(years).items()} == due
     columns = ["revenue_mill", "processing_cost_mill", "revenue_leach", "processing_cost_leach"]
     tints = viewer_kinds.tints_of(
         SimpleNamespace(blocks=pd.DataFrame(columns=columns)), "destination", ["waste", "leach", "mill"]
     )
-    assert [to_rgb(tint) for tint in tints] == [to_rgb(palette.WASTE), due["leach"], due["mill"]]
+    assert [to_rgb(tint) for tint in tints] == [to_rgb(style.WASTE), due["leach"], due["mill"]]
 
 
-@pytest.mark.parametrize("write", [gantt.write_gantt, schedule_figures.write_tonnes])
+@pytest.mark.parametrize("write", [schedule_figures.write_gantt, schedule_figures.write_tonnes])
 def test_pictures_are_written(schedule, write, tmp_path):
     backend = matplotlib.get_backend()
     write(schedule, tmp_path / "picture.png")
@@ -206,7 +206,7 @@ def test_pictures_are_written(schedule, write, tmp_path):
 
 def test_axes_that_are_too_few_are_refused(schedule):
     with pytest.raises(PlanError, match="1 axes are given, and the picture has 2"):
-        gantt.plot_gantt(schedule, [Figure().subplots()])
+        schedule_figures.plot_gantt(schedule, [Figure().subplots()])
 
 
 def test_a_workbook_has_a_sheet_a_table(tmp_path, with_workbooks):
@@ -268,7 +268,7 @@ def test_a_way_that_mines_nothing_is_drawn_with_a_sentence(schedule, way):
     assert len(axes[1 - place].containers) == 2
     (legend,) = axes[0].figure.legends
     assert [text.get_text() for text in legend.get_texts()][:2] == ["mill", "waste"]
-    axes = gantt.plot_gantt(empty, Figure().subplots(1, 2))
+    axes = schedule_figures.plot_gantt(empty, Figure().subplots(1, 2))
     assert "nothing is mined" in [text.get_text() for text in axes[place].texts]
     (note,) = [note for note in pushback_record.notes(empty) if "mines nothing" in note]
     named = {"rule": "rule", "lp": "linear programme"}[way]

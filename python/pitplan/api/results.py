@@ -102,9 +102,9 @@ class Shells:
 
     def plot(self, ax: Axes) -> Axes:
         """Draws tonnes, cash flow and NPV by revenue factor; returns `ax`."""
-        from pitplan.figures import pit_by_pit
+        from pitplan.figures import pits
 
-        return pit_by_pit.plot_pit_by_pit(self.table, self.plan.project.economics.currency, self.selected, ax)
+        return pits.plot_pit_by_pit(self.table, self.plan.project.economics.currency, self.selected, ax)
 
     def write(self, folder: Folder = None, writing: Writing = Writing()) -> Path:
         """Writes what `pitplan shells` writes, by default into the project's output folder.
@@ -240,9 +240,9 @@ class PushbackSchedule:
 
     def plot(self, axes: Any) -> list[Axes]:
         """Draws the years of the benches of each pushback, a method on each of the axes; returns these."""
-        from pitplan.figures import gantt
+        from pitplan.figures import schedule
 
-        return gantt.plot_gantt(self.found, axes)
+        return schedule.plot_gantt(self.found, axes)
 
     def write(self, folder: Folder = None, writing: Writing = Writing()) -> Path:
         """Writes what `pitplan schedule` writes, by default into schedule in the project's output folder; see `Shells.write`."""

@@ -45,7 +45,7 @@ def writing_of(options: Namespace) -> Writing:
 
 def draw_block_model(model: Model, path: Path) -> None:
     """Draws a block model; matplotlib is imported only now."""
-    from pitplan.figures.block_model import write_block_model
+    from pitplan.figures.geology import write_block_model
 
     write_block_model(model, path)
 

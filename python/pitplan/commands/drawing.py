@@ -8,18 +8,8 @@ from pathlib import Path
 from typing import TYPE_CHECKING
 
 from pitplan.core.processes import run_all
-from pitplan.figures import (
-    annual,
-    block_schedule,
-    gantt,
-    geology,
-    grade_tonnage,
-    plans_sections,
-    price_paths,
-    pushbacks,
-    schedule,
-)
-from pitplan.figures.pit_by_pit import write_pit_by_pit
+from pitplan.figures import geology, pits, plans_sections, price_paths, pushbacks, schedule
+from pitplan.figures.pits import write_pit_by_pit
 from pitplan.figures.style import also_as, files_of
 
 from .writing import (
@@ -78,13 +68,13 @@ def of_shells(answered: Answered, tables: Tables, chosen: float) -> Iterator[Dra
     scene, project = plans_sections.scene_of(plan, answered.solution, chosen), plan.project
     currency = project.economics.currency
     yield PICTURES["pit_by_pit"], partial(write_pit_by_pit, tables.shells, currency, chosen)
-    yield PICTURES["years"], partial(annual.write_years, tables.years, project, chosen)
+    yield PICTURES["years"], partial(schedule.write_years, tables.years, project, chosen)
     yield PICTURES["plans"], partial(plans_sections.write_plans, scene)
     yield PICTURES["sections"], partial(plans_sections.write_sections, scene)
     kinds = geology.kinds_of(plan)
     if kinds:
         yield GEOLOGY_PICTURES["geology"], partial(geology.write_sections, scene, kinds)
-    curves = partial(grade_tonnage.write, tables.grade_tonnage, project.metals[0])
+    curves = partial(pits.write, tables.grade_tonnage, project.metals[0])
     yield CURVE_PICTURES["grade_tonnage"], curves
 
 
@@ -100,7 +90,7 @@ def of_pushback_schedule(answered: Answered, tables: Tables) -> Iterator[Drawing
     """Yields the figures of a schedule of pushbacks, if there is one."""
     if answered.schedule is not None:
         made = answered.schedule
-        yield SCHEDULE_PICTURES["schedule_gantt"], partial(gantt.write_gantt, made)
+        yield SCHEDULE_PICTURES["schedule_gantt"], partial(schedule.write_gantt, made)
         yield SCHEDULE_PICTURES["schedule_tonnes"], partial(schedule.write_tonnes, made)
         yield SCHEDULE_PICTURES["schedule_value"], partial(schedule.write_cumulative, made, tables.years)
 
@@ -108,6 +98,6 @@ def of_pushback_schedule(answered: Answered, tables: Tables) -> Iterator[Drawing
 def of_any_schedule(answered: Answered, tables: Tables) -> Iterator[Drawing]:
     """Yields the figures of a schedule by block, and those of both kinds of schedules."""
     if answered.blocks is not None:
-        yield BLOCK_PICTURES["block_schedule"], partial(block_schedule.write, answered.blocks)
+        yield BLOCK_PICTURES["block_schedule"], partial(schedule.write, answered.blocks)
     if tables.schedule is not None and tables.schedule.prices is not None:
         yield PRICE_PICTURES["price_paths"], partial(price_paths.write, tables.schedule.prices)

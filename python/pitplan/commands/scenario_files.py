@@ -15,7 +15,7 @@ from pitplan.core.atomic_files import staged, write_json
 from pitplan.core.layout import FIGURES, FOLDERS
 from pitplan.core.optional_packages import load_library
 from pitplan.core.revenue_factors import factor_text
-from pitplan.export.vtk import write_image as write_vti
+from pitplan.export.mesh import write_image as write_vti
 from pitplan.results import columns
 from pitplan.results.conventions import with_discounting
 from pitplan.studies.scenarios import pit_probability, run
@@ -190,8 +190,8 @@ def draw(shared: Shared, gathered: Gathered, factor: float, stage: Path) -> None
 
 def draw_values(shared: Shared, schedules: Schedules, stage: Path) -> None:
     """Draws the value of the common schedule and of each scenario's own. It imports matplotlib itself."""
-    from pitplan.figures import scenario_values
+    from pitplan.figures import scenarios
     from pitplan.figures.style import also_as
 
     with also_as(rules_of(shared).formats):
-        scenario_values.write(schedules.answered, shared.project.economics.currency, stage / PICTURE_OF_VALUES)
+        scenarios.write(schedules.answered, shared.project.economics.currency, stage / PICTURE_OF_VALUES)

@@ -8,8 +8,7 @@ from typing import TYPE_CHECKING
 import pandas as pd
 
 from pitplan.export import xlsx
-from pitplan.export.cash_flow_sheet import CashFlowSheet
-from pitplan.export.reserve_sheet import ReserveSheet, sheet_rows
+from pitplan.export.schedule_sheets import CashFlowSheet, ReserveSheet, sheet_rows
 from pitplan.pushbacks import nested
 from pitplan.results import names
 from pitplan.results.conventions import with_discounting, with_outline

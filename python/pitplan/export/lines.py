@@ -1,22 +1,112 @@
-"""Toes and crests of pits as files for other programs: a GeoPackage by GDAL, strings for Surpac, and a table."""
+"""Toes and crests of pits as files for other programs: DXF drawings by ezdxf, a GeoPackage by GDAL, strings for Surpac, and a table."""
 
 from __future__ import annotations
 
 import re
 from collections.abc import Iterator
 from contextlib import contextmanager
+from dataclasses import dataclass
 from pathlib import Path
 from typing import Any
 
+import numpy as np
 import pandas as pd
 
-from pitplan.blockmodel.grid import metres
+from pitplan.blockmodel.grid import Grid, metres
+from pitplan.core.cell_outlines import rings
 from pitplan.core.optional_packages import load
 from pitplan.errors import PlanError
 from pitplan.results.folder import Folder
-from pitplan.results.pit_states import FACTOR, Shape
+from pitplan.results.pit_states import FACTOR, GROUND, Shape, Stage, places_of, rock, stages_of
 
-from .toes_and_crests import TOE, Line, lines_of
+from . import mesh
+
+TOE, CREST = "toe", "crest"
+
+
+@dataclass(frozen=True)
+class Line:
+    """A closed line with the mined side on its left.
+
+    Attributes
+    ----------
+    stage : Stage
+    kind : str
+        TOE or CREST.
+    bench : float
+        Elevation of the floor of the bench, metres.
+    points : array, shape (corners, 3)
+        x, y and z in metres, each corner once.
+    """
+
+    stage: Stage
+    kind: str
+    bench: float
+    points: np.ndarray
+
+
+def lines_of(folder: Folder, shape: Shape) -> Iterator[Line]:
+    """Yields the lines of all pits of a shape: by stage, then by bench from the top, toes before crests. Raises PlanError as `stages_of`."""
+    for stage in stages_of(folder, shape):
+        yield from lines_of_stage(stage, folder.grid)
+
+
+def lines_of_stage(stage: Stage, grid: Grid) -> Iterator[Line]:
+    levels = grid.shape[0]
+    for level in np.flatnonzero(stage.dug.any(axis=(1, 2))):
+        outlines, floor = rings(stage.dug[level]), levels - 1 - int(level)
+        bench = float(places_of(grid, np.array([[0, 0, floor]]))[0, 2])
+        for kind, height in ((TOE, floor), (CREST, floor + 1)):
+            for ring in outlines:
+                corners = np.column_stack([np.array(ring), np.full(len(ring), height)])
+                yield Line(stage, kind, bench, places_of(grid, corners))
+
+
+def write_dxf(path: Path, folder: Folder, shape: Shape) -> list[str]:
+    """Writes toes and crests of the pits of a shape, or the ground with the pits in it.
+
+    Toes and crests are in the layers TOE_z and CREST_z, where z is the floor of the bench in metres. The ground is in BENCH_z, and in GROUND
+    where nothing is mined. The pushback or year precedes these names.
+
+    Returns
+    -------
+    list of str
+        A sentence on the volume of each surface.
+
+    Raises
+    ------
+    MissingPackage
+        Without ezdxf.
+    PlanError
+        As `stages_of` and `pit_topography.of_stage`.
+    """
+    ezdxf = load("ezdxf", "python3-ezdxf", "export --to dxf")
+    drawing = ezdxf.new("R2010", units=6)
+    space, said = drawing.modelspace(), []
+    if shape.surface == GROUND:
+        said = [
+            f"{path.name}, {stage.name}: {add_ground(space, folder, stage, shape)}"
+            for stage in stages_of(folder, shape)
+        ]
+    else:
+        for line in lines_of(folder, shape):
+            layer = f"{line.stage.prefix}{line.kind.upper()}_{metres(line.bench)}"
+            space.add_polyline3d(line.points.tolist(), close=True, dxfattribs={"layer": layer})
+    drawing.saveas(path)
+    return said
+
+
+def add_ground(space: Any, folder: Folder, stage: Stage, shape: Shape) -> str:
+    """Adds the triangles of the ground at a stage to the modelspace; returns a sentence on its volume."""
+    grid = folder.grid
+    surface, said = mesh.of_stage(rock(folder), stage, grid, shape.smooth)
+    places = places_of(grid, surface.corners)
+    floors = places_of(grid, np.array([[0, 0, level] for level in range(grid.shape[0])]))[:, 2]
+    for corners, bench in zip(places[surface.faces], surface.bench.tolist()):
+        layer = "GROUND" if bench == mesh.NONE else f"BENCH_{metres(floors[bench])}"
+        space.add_3dface(corners.tolist(), dxfattribs={"layer": stage.prefix + layer})
+    return said
+
 
 GDAL = "python3-gdal"
 # GDAL writes the time into the file. With a fixed time the same plan gives the same bytes.

@@ -20,8 +20,8 @@ from pitplan.results.folder import Folder
 from pitplan.results.pit_states import FACTOR, GROUND, Shape, places_of
 from pitplan.results.sheet_heads import heads_of
 
-from . import datamine, dxf, lines, mesh as surfaces, omf, planner_table, xlsx
-from .vtk import PACKAGE, save, write_image
+from . import datamine, lines, mesh as mesh_export, omf, planner_table, xlsx
+from .mesh import PACKAGE, save, write_image
 
 # Writes the shells of a folder, or the pits of a shape; returns notes, if any.
 Writer = Callable[[Path, Folder, Shape], Optional[list[str]]]
@@ -149,9 +149,9 @@ WRITERS: dict[str, Writer] = {
     "vtu": write_vtu,
     "omf": omf.write_omf,
     "dm": datamine.write_dm,
-    "dxf": dxf.write_dxf,
-    "stl": surfaces.write_stl,
-    "obj": surfaces.write_obj,
+    "dxf": lines.write_dxf,
+    "stl": mesh_export.write_stl,
+    "obj": mesh_export.write_obj,
     "gpkg": lines.write_gpkg,
     "str": lines.write_str,
     "lines": lines.write_lines,

@@ -17,7 +17,8 @@ from matplotlib.figure import Figure
 from matplotlib.ticker import MaxNLocator
 
 from pitplan.core.magnitude import scaled
-from pitplan.figures.style import STYLE, finish, list_of
+
+from .style import STYLE, finish, list_of
 
 WHOLE, MORE, LESS = "#8a8a8a", "#1f5f9e", "#c8792b"
 COLOURS = ("#444444", "#0072b2", "#d55e00", "#009e73", "#aa4499", "#b58900")

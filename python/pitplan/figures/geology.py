@@ -11,16 +11,18 @@ import numpy as np
 import pandas as pd
 from matplotlib.axes import Axes
 from matplotlib.colors import BoundaryNorm, ListedColormap
+from matplotlib.figure import Figure
 from matplotlib.patches import Patch
 from numpy.typing import NDArray
 
+from pitplan.blockmodel.guessed_model import Model, least_gap, size_of, turned_grid
+from pitplan.config.economics import GRADE_SIGNS
 from pitplan.plan import Plan
 
-from . import palette
-from .map_marks import section_titles
+from . import style
+from .map_marks import draw_line, name_lines, section_titles
 from .plans_sections import Scene, draw_ground, draw_outline
-from .style import MAP, STYLE, finish, list_of, name_axes, panels
-from .topography import draw_line, name_lines
+from .style import GROUND, MAP, ORE, STYLE, finish, list_of, name_axes, panels
 
 OTHERS = "others"
 MOST_IN_ROW = 5
@@ -66,11 +68,11 @@ def kind_of(plan: Plan, title: str, column: str) -> Kind:
     order = codes[np.argsort(-count, kind="stable")].tolist()
     is_class = column == plan.project.table.resource_class
     if is_class:
-        colours = palette.of_classes(codes.tolist())
-    elif len(order) > len(palette.CODES):
-        colours = dict(zip([*order[: len(palette.CODES) - 1], OTHERS], palette.CODES))
+        colours = style.of_classes(codes.tolist())
+    elif len(order) > len(style.CODES):
+        colours = dict(zip([*order[: len(style.CODES) - 1], OTHERS], style.CODES))
     else:
-        colours = dict(zip(order, palette.CODES))
+        colours = dict(zip(order, style.CODES))
     place = {code: at for at, code in enumerate(colours)}
     of_codes = np.array([place.get(code, len(colours) - 1) for code in codes], dtype=np.int16)
     none = "unclassified" if is_class else "none"
@@ -139,3 +141,113 @@ def name_codes(ax: Axes, kind: Kind, used: set[int]) -> None:
     patches = [Patch(color=colour, alpha=PALE, label=name or kind.none) for name, colour in names]
     where = {"loc": "upper center", "bbox_to_anchor": (0.5, -0.18), "ncol": min(len(patches), MOST_IN_ROW) or 1}
     ax.legend(handles=patches, frameon=False, fontsize=8, **where)
+
+
+BINS, MOST_HISTOGRAMS = 40, 3
+
+
+@dataclass(frozen=True)
+class Cube:
+    """Values by level, row and column, nan without one; which cells have blocks; the edges of the box in metres along the axes, and their names.
+
+    `extent` has west, east, south, north, floor and top.
+    """
+
+    values: np.ndarray
+    blocks: np.ndarray
+    extent: tuple[float, float, float, float, float, float]
+    names: tuple[str, str]
+
+
+def write_block_model(model: Model, path: Path) -> None:
+    """Writes the figure."""
+    shown = histograms_of(model)
+    with matplotlib.rc_context(STYLE):
+        figure = Figure(figsize=(12, 8.6), constrained_layout=True)
+        above, below = figure.subfigures(2, 1, height_ratios=(1, 1.7))
+        for axis, (name, unit) in zip(np.ravel(above.subplots(1, len(shown), squeeze=False)), shown):
+            plot_histogram(axis, model.frame[name].to_numpy(dtype=np.float64), f"{name}, {unit}")
+        plan, section = below.subplots(1, 2)
+        plot_maps(model, plan, section)
+        finish(figure, path)
+
+
+def histograms_of(model: Model) -> list[tuple[str, str]]:
+    """Returns the columns of the histograms, and their units."""
+    grades = [(metal.column, GRADE_SIGNS[metal.unit]) for metal in model.columns.metals]
+    weights = [
+        (model.columns.named[key].column, {"density": "t/m3", "tonnes": "t"}[key])
+        for key in model.weighed
+        if key != "volume"
+    ]
+    return [*grades[: MOST_HISTOGRAMS - 1], *weights][:MOST_HISTOGRAMS]
+
+
+def plot_histogram(axis: Axes, values: np.ndarray, label: str) -> None:
+    """Draws how many blocks have which value; the title counts the values of 0 and the nulls."""
+    some = values[values > 0]
+    axis.hist(some, bins=BINS, color=ORE)
+    axis.set_xlabel(label)
+    axis.set_ylabel("blocks")
+    if len(some) and some.max() > 20 * np.median(some):
+        axis.set_yscale("log")
+    zeros, nulls = int(np.count_nonzero(values == 0)), int(np.count_nonzero(np.isnan(values)))
+    axis.set_title(f"{len(some):,} above 0; {zeros:,} are 0, {nulls:,} null")
+
+
+def plot_maps(model: Model, plan: Axes, section: Axes) -> None:
+    """Draws the first metal in the level and in the section from west to east that hold most of it."""
+    metal = model.columns.metals[0]
+    cube = cube_of(model, metal.column)
+    known = np.nan_to_num(cube.values)
+    level, row = int(known.sum(axis=(1, 2)).argmax()), int(known.sum(axis=(0, 2)).argmax())
+    west, east, south, north, floor, top = cube.extent
+    height, depth = (top - floor) / known.shape[0], (north - south) / known.shape[1]
+    most = float(np.quantile(known[known > 0], 0.99)) if (known > 0).any() else 1.0
+    style = {**MAP, "cmap": "viridis", "vmin": 0.0, "vmax": most}
+    plain = {**MAP, "cmap": ListedColormap([GROUND])}
+    plan.imshow(np.where(cube.blocks[level], 0.0, np.nan), extent=(west, east, south, north), **plain)
+    section.imshow(np.where(cube.blocks[:, row], 0.0, np.nan), extent=(west, east, floor, top), **plain)
+    image = plan.imshow(cube.values[level], extent=(west, east, south, north), **style)
+    plan.set_title(f"plan at {floor + (level + 0.5) * height:,.10g} m")
+    name_axes(plan, *cube.names)
+    section.imshow(cube.values[:, row], extent=(west, east, floor, top), **style)
+    section.set_title(f"section at {south + (row + 0.5) * depth:,.10g} m {cube.names[1]}")
+    name_axes(section, cube.names[0], "elevation")
+    bar = plan.figure.colorbar(image, ax=[plan, section], shrink=0.8, extend="max")
+    bar.set_label(f"{metal.column}, {GRADE_SIGNS[metal.unit]}; grey: blocks without a value")
+
+
+def cube_of(model: Model, column: str) -> Cube:
+    """Returns the means of a column by cells of the box; cells of several sizes lie in blocks of the largest."""
+    turned = turned_grid(model)
+    values = model.frame[column].to_numpy(dtype=np.float64)
+    places = [along(model, axis) for axis in "xyz"]
+    names = ("east", "north")
+    if turned:
+        west, north = float(turned.size[0]), float(turned.size[1])
+        places[:2] = [(turned.column, 0.0, west), (turned.row, 0.0, north)]
+        names = (f"along azimuth {(turned.azimuth + 90) % 360:.4g}", f"along azimuth {turned.azimuth % 360:.4g}")
+    (column_of, west, dx), (row_of, south, dy), (level_of, floor, dz) = places
+    shape = (int(level_of.max()) + 1, int(row_of.max()) + 1, int(column_of.max()) + 1)
+    cell = np.ravel_multi_index((level_of, row_of, column_of), shape)
+    known = ~np.isnan(values)
+    count = np.bincount(cell[known], minlength=int(np.prod(shape)))
+    there = np.bincount(cell, minlength=int(np.prod(shape))) > 0
+    total = np.bincount(cell[known], values[known], minlength=int(np.prod(shape)))
+    mean = np.where(count > 0, total / np.maximum(count, 1), np.nan).reshape(shape)
+    extent = (west, west + dx * shape[2], south, south + dy * shape[1], floor, floor + dz * shape[0])
+    return Cube(mean, there.reshape(shape), extent, names)
+
+
+def along(model: Model, axis: str) -> tuple[np.ndarray, float, float]:
+    """Returns the block of each row along an axis, from 0; the edge of the first, and the size of a block, in metres."""
+    values = model.frame[model.columns.centres[axis].column].to_numpy(dtype=np.float64)
+    if axis in model.columns.sizes:
+        sizes = model.frame[model.columns.sizes[axis].column].to_numpy(dtype=np.float64)
+        size, edge = float(sizes.max()), float((values - sizes / 2).min())
+    else:
+        known, _ = size_of(model)
+        size = known["xyz".index(axis)] if known else least_gap(model, axis) or 1.0
+        edge = float(values.min()) - size / 2
+    return np.floor((values - edge) / size + 1e-6).astype(np.int64), edge, size

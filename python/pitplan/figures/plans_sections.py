@@ -24,14 +24,24 @@ from pitplan.config.economics import Metal
 from pitplan.config.figures import FigureRules
 from pitplan.core.cell_outlines import edges
 from pitplan.core.revenue_factors import factor_text
-from pitplan.figures.style import GROUND, MAP
 from pitplan.pits import shell_tables
 from pitplan.plan import Plan
 from pitplan.solver.program import Solution
 
-from .map_marks import axes_of_map, contours, floor_of, mark_map, mark_section_cells, section_titles
-from .style import MOST_TICKS, STYLE, finish, list_of, name_axes, panels, write_maps
-from .topography import Cut, Topography, draw_line, name_lines, topography_of
+from .map_marks import (
+    Cut,
+    Topography,
+    axes_of_map,
+    contours,
+    draw_line,
+    floor_of,
+    mark_map,
+    mark_section_cells,
+    name_lines,
+    section_titles,
+    topography_of,
+)
+from .style import GROUND, MAP, MOST_TICKS, STYLE, finish, list_of, name_axes, panels, write_maps
 
 
 @dataclass(frozen=True)

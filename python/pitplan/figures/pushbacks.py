@@ -18,11 +18,21 @@ from pitplan.blockmodel.grid import Grid, metres
 from pitplan.config.figures import FigureRules
 from pitplan.core.cell_outlines import edges
 from pitplan.figures.plans_sections import section_column, section_levels, section_row
-from pitplan.figures.style import GROUND, MAP, MOST_TICKS, STYLE, finish, list_of, name_axes, write_maps
 from pitplan.pushbacks.nested import Pushbacks
 
-from .map_marks import axes_of_map, contours, floor_of, mark_map, mark_section_cells, section_titles
-from .topography import Topography, draw_line, name_lines, topography_of
+from .map_marks import (
+    Topography,
+    axes_of_map,
+    contours,
+    draw_line,
+    floor_of,
+    mark_map,
+    mark_section_cells,
+    name_lines,
+    section_titles,
+    topography_of,
+)
+from .style import GROUND, MAP, MOST_TICKS, STYLE, finish, list_of, name_axes, write_maps
 
 Extent = tuple[float, float, float, float]
 LEAST_SHARE, GREATEST_SHARE = 0.18, 0.9

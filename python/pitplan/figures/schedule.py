@@ -1,45 +1,396 @@
-"""Figures of a schedule of pushbacks, by matplotlib. Functions are called as those of `plans_sections`."""
+"""Charts of schedules, of pushbacks or by block: material, feed, metals and money by period, and when pushbacks are mined."""
 
 from __future__ import annotations
 
+from dataclasses import dataclass
 from pathlib import Path
-from typing import Any
+from typing import TYPE_CHECKING, Any
 
 import matplotlib
 import numpy as np
 import pandas as pd
 from matplotlib.axes import Axes
+from matplotlib.collections import PatchCollection
 from matplotlib.figure import Figure
+from matplotlib.patches import Rectangle
+from matplotlib.patheffects import withStroke
 from matplotlib.ticker import MaxNLocator
 
+from pitplan.blockmodel.grid import metres
+from pitplan.config.economics import GRADE_UNITS, Metal
+from pitplan.config.periods import Calendar
 from pitplan.config.places import PIT, WASTE as AS_WASTE
+from pitplan.config.project import Project
+from pitplan.config.shells import ShellRules
 from pitplan.core.magnitude import scaled
-from pitplan.figures.style import (
-    BEST,
-    BEST_MARK,
-    PLAIN,
-    SPECIFIED,
-    SPECIFIED_MARK,
-    STYLE,
-    WORST,
-    WORST_MARK,
-    finish,
-    list_of,
-)
+from pitplan.core.revenue_factors import factor_text
+from pitplan.pits import shell_tables
+from pitplan.pushbacks.bench_table import ROCK
+from pitplan.scheduling.cash_flow.of_blocks import BlockOperation
 from pitplan.scheduling.flow.tables import feed_table
 from pitplan.scheduling.methods import LP, MILP, NAMES, RULE
 from pitplan.scheduling.pushback_schedule import YearlySchedule
 
-from . import palette
-from .annual import FAR_ABOVE, MARGIN, MILL as MILL_COLOUR, SHOVELS, in_words, label_of
-from .gantt import TITLES
-from .metals import LOWER, MOST_METALS, UPPER, plot_metal, rows_of
+from . import style
+from .style import BEST, BEST_MARK, PLAIN, SPECIFIED, SPECIFIED_MARK, STYLE, WASTE, WORST, WORST_MARK, finish, list_of
+
+if TYPE_CHECKING:
+    from pitplan.scheduling.blocks.tables import ScheduledBlocks
+
+
+CASES = {"best": "Best case", "worst": "Worst case", "specified": "Specified case"}
+MILL, SHOVELS = "#1f3f6e", "#8a7f6a"
+# A capacity that exceeds all bars by more than this factor is in the legend only, so that bars stay legible.
+FAR_ABOVE = 2.0
+MARGIN = 1.12
+# The largest share of the height below zero, for years that spend far more than they earn.
+MOST_BELOW = 0.8
+
+
+@dataclass(frozen=True)
+class Scale:
+    """The common scale of all cases: size and sign of the units of tonnes and money, and the limits of the axes in these units."""
+
+    tonnes: tuple[float, str]
+    money: tuple[float, str]
+    rock: tuple[float, float]
+    cash: tuple[float, float]
+
+
+def capacities_of(settings: ShellRules) -> list[tuple[str, tuple[float, ...], str]]:
+    """Returns name, tonnes of each year and colour of each capacity; the last year continues."""
+    capacity = "processing capacity (all processes)" if settings.per_process else "processing capacity"
+    found = [(capacity, tuple(sum(of_year) for of_year in settings.capacities_by_year), MILL)]
+    return (
+        found if settings.mining_capacity is None else [*found, ("mining capacity", settings.mining_by_year, SHOVELS)]
+    )
+
+
+def label_of(calendar: Calendar, count: int) -> str:
+    """Returns the label of an axis of periods."""
+    if calendar.is_yearly or not count:
+        return calendar.word
+    ends = calendar.ends(count)
+    return f"period, ending after {ends[0]:.3g} to {ends[-1]:.4g} years"
+
+
+def in_words(by_year: tuple[float, ...], size: float) -> str:
+    """Returns the tonnes of years, or from the least to the most."""
+    ends = sorted({min(by_year) / size, max(by_year) / size})
+    return " to ".join(f"{round(end, 3):,.12g}" for end in ends)
+
+
+def scale_of(years: pd.DataFrame, settings: ShellRules) -> Scale:
+    """Returns limits that hold all years, with zero at the same height on both axes."""
+    most = max(float(years["total_tonnes"].max()), 1.0)
+    longest = float(settings.calendar.lengths(int(years["year"].max())).max())
+    highest = [longest * max(by_year) for _, by_year, _ in capacities_of(settings)]
+    near = [high for high in highest if high <= FAR_ABOVE * most]
+    tonnes = scaled(max(most, *near, 0.0))
+    top = MARGIN * max(most, *near, 0.0) / tonnes[0]
+    earned, spent = max(float(years["cash_flow"].max()), 0.0), max(-float(years["cash_flow"].min()), 0.0)
+    money = scaled(max(earned, spent))
+    whole = MARGIN * max(earned + spent, 1.0) / money[0]
+    below = min((spent / money[0] + 0.03 * whole) / whole, MOST_BELOW) if spent else 0.0
+    whole = max(whole, 1.03 * spent / money[0] / MOST_BELOW)
+    return Scale(tonnes, money, (-top * below / (1 - below), top), (-whole * below, whole * (1 - below)))
+
+
+def write_years(table: pd.DataFrame, project: Project, chosen: float, path: Path) -> None:
+    with matplotlib.rc_context(STYLE):
+        panels = len(cases_of(table))
+        figure = Figure(figsize=(12, 4.6))
+        plot_years(table, project, chosen, figure.subplots(1, panels, sharex=True))
+        if (table["revenue_factor"] == chosen).any():
+            figure.tight_layout(rect=(0, 0, 1, 0.92))
+        finish(figure, path)
+
+
+def cases_of(table: pd.DataFrame) -> list[str]:
+    """Returns the cases that a table of years has; best and worst case at least."""
+    present = set(table["case"]) | {"best", "worst"}
+    return [case for case in CASES if case in present]
+
+
+def plot_years(table: pd.DataFrame, project: Project, chosen: float, axes: Any) -> list[Axes]:
+    """Draws the years of one pit, a panel per case. The axes of an empty pit stay empty, under a title that says so.
+
+    Parameters
+    ----------
+    table : DataFrame
+        As `Shells.years`.
+    project : Project
+    chosen : float
+        Revenue factor of the pit.
+    axes : array or list of Axes
+        Two, or three if a case is specified.
+
+    Returns
+    -------
+    list of Axes
+    """
+    found, years = list_of(axes, len(cases_of(table))), table[table["revenue_factor"] == chosen]
+    if years.empty:
+        for ax in found:
+            ax.set_axis_off()
+        found[0].figure.suptitle(f"The pit of revenue factor {factor_text(chosen)} is empty")
+    else:
+        draw(found, years, project)
+    return found
+
+
+def draw(axes: list[Axes], years: pd.DataFrame, project: Project) -> None:
+    """Draws a panel per case, and one legend for all."""
+    scale = scale_of(years, project.shells)
+    currency = project.economics.currency
+    rights = [axis.twinx() for axis in axes]
+    for left, right, case in zip(axes, rights, cases_of(years)):
+        shown = years[years["case"] == case]
+        draw_tonnes(left, shown, scale, project.shells)
+        draw_cash(right, shown, scale)
+        size, sign = scale.money
+        npv = f"{shown['discounted_cash_flow'].sum() / size:,.1f} {sign} {currency}".replace("  ", " ")
+        left.set_title(f"{CASES[case]}: NPV {npv}")
+    axes[0].set_ylabel(f"total material, {scale.tonnes[1]}t")
+    rights[-1].set_ylabel(f"undiscounted cash flow, {scale.money[1]} {currency}".replace(",  ", ", "))
+    # Bars first in the legend; matplotlib puts lines first.
+    drawn = [axes[0].containers, axes[0].lines, rights[0].lines[:1]]
+    handles = [handle for handles in drawn for handle in handles]
+    names = [str(handle.get_label()) for handle in handles]
+    axes[0].figure.legend(handles, names, ncol=len(names), loc="upper center", frameon=False)
+
+
+def draw_tonnes(axis: Axes, years: pd.DataFrame, scale: Scale, settings: ShellRules) -> None:
+    """Draws a bar of mill feed by process and of waste per year, and a horizontal line per capacity."""
+    size, sign = scale.tonnes
+    below = np.zeros(len(years))
+    for name, (column, colour) in style.layers_of(years).items():
+        axis.bar(years["year"], years[column] / size, 0.8, bottom=below, color=colour, label=name, linewidth=0)
+        below = below + years[column].to_numpy() / size
+    # With much dilution the feed may exceed the total material.
+    waste = (years["total_tonnes"] / size - below).clip(lower=0)
+    axis.bar(years["year"], waste, 0.8, bottom=below, color=WASTE, label="waste", linewidth=0)
+    for name, by_year, colour in capacities_of(settings):
+        line = {"color": colour, "linestyle": "--", "linewidth": 1.3}
+        line["label"] = f"{name}: {in_words(by_year, size)} {sign}t a year"
+        count = max(len(by_year), int(years["year"].max())) + 1
+        per_year = np.array([by_year[min(year, len(by_year) - 1)] for year in range(count)])
+        values = per_year * settings.calendar.lengths(count) / size
+        if (values == values[0]).all():
+            axis.axhline(values[0], **line)
+        else:
+            axis.step(np.arange(count) + 0.5, values, where="post", **line)
+    axis.set_ylim(*scale.rock)
+    axis.set_yticks([tick for tick in axis.get_yticks() if 0 <= tick <= scale.rock[1]])
+    axis.xaxis.set_major_locator(MaxNLocator(integer=True))
+    axis.set_xlim(0.4, max(float(years["year"].max()) + 0.6, axis.get_xlim()[1]))
+    axis.set_xlabel(label_of(settings.calendar, int(years["year"].max())))
+
+
+def draw_cash(axis: Axes, years: pd.DataFrame, scale: Scale) -> None:
+    """Draws the cash flow of each year, and a line at zero."""
+    marks = {"marker": "o", "markersize": 3.5, "linewidth": 1.5}
+    axis.plot(years["year"], years["cash_flow"] / scale.money[0], color=PLAIN, label="undiscounted cash flow", **marks)
+    axis.axhline(0, color="black", linewidth=0.8)
+    axis.set_ylim(*scale.cash)
+
+
+# Where two rows of axes lie, in shares of the figure: above tonnes, below metals with their second axes.
+UPPER = {"left": 0.06, "right": 0.985, "bottom": 0.53, "top": 0.9, "wspace": 0.08}
+LOWER = {"left": 0.06, "right": 0.94, "bottom": 0.065, "top": 0.425, "wspace": 0.34}
+# The most metals that a figure shows.
+MOST_METALS = 3
+# Bars are paler than the lines of head grades over them.
+PALE = 0.5
+HALO = [withStroke(linewidth=3.2, foreground="white")]
+ONE = "#a23b8f"
+
+
+def plot_metal(feed: pd.DataFrame, metal: Metal, calendar: Calendar, ax: Axes) -> Axes:
+    """Draws the recovered metal of each period in bars, a layer per process, and on a second axis the head grade of each process that recovers it.
+
+    Parameters
+    ----------
+    feed : DataFrame
+        Rows of a method with year, process, recovered_METAL and head_grade_METAL, as in feed.csv.
+    metal : Metal
+    calendar : Calendar
+    ax : Axes
+
+    Returns
+    -------
+    Axes
+    """
+    processes = list(dict.fromkeys(feed["process"]))
+    colours, right = style.of_processes(processes), ax.twinx()
+    sums = feed.groupby("year")[f"recovered_{metal.name}"].sum()
+    size, unit = unit_of(float(sums.max()) if len(sums) else 0.0, metal)
+    below = np.zeros(len(sums))
+    for process in processes:
+        shown = feed[feed["process"] == process]
+        high = shown[f"recovered_{metal.name}"].to_numpy() / size
+        ax.bar(shown["year"], high, 0.8, bottom=below, color=colours[process], alpha=PALE, label=process, linewidth=0)
+        below = below + high
+        if sums.any() and not high.any():
+            continue
+        colour = ONE if len(processes) == 1 else colours[process]
+        look: dict[str, Any] = {"marker": "o", "markersize": 3.5, "linewidth": 1.6, "path_effects": HALO}
+        right.plot(shown["year"], shown[f"head_grade_{metal.name}"], color=colour, label="head grade", **look)
+    grades = pd.Series([grade for line in right.lines for grade in line.get_ydata()], dtype=float)
+    right.set_ylim(0, 1.15 * grades.max() if grades.notna().any() and grades.max() > 0 else 1.0)
+    right.set_ylabel(f"head grade (line), {metal.sign}")
+    ax.set_ylim(0, 1.15 * float(below.max(initial=0.0)) or 1.0)
+    ax.set_ylabel(f"recovered {metal.name} (bars), {unit}")
+    ax.set_xlabel(label_of(calendar, len(sums)))
+    ax.xaxis.set_major_locator(MaxNLocator(integer=True))
+    ax.set_xlim(0.4, max(len(sums), 1) + 0.6)
+    return ax
+
+
+def metal_rows(figure: Figure, count: int, place: dict[str, float], sharey: bool = False) -> list[Axes]:
+    """Returns a row of axes at a place of a figure."""
+    return list(np.ravel(figure.add_gridspec(1, count, **place).subplots(sharey=sharey, squeeze=False)))
+
+
+def unit_of(most: float, metal: Metal) -> tuple[float, str]:
+    """Returns size and sign of a unit for quantities of a metal up to `most`: grams become kilograms and tonnes."""
+    if metal.quantity == "g":
+        return (1e6, "t") if most >= 1e7 else (1e3, "kg") if most >= 1e4 else (1.0, "g")
+    size, sign = scaled(most)
+    return size, f"{sign}t"
+
+
+TITLES = {RULE: "Rule", LP: "Linear programme", MILP: "Integer programme"}
+# The least opacity, for the smallest part of a bench.
+PALEST = 0.25
+# The most benches with a label, and the most that have a row each.
+MOST_NAMES, MOST_ROWS = 28, 80
+# Cells darker than this have white text.
+DARK = 0.45
+
+
+def write_gantt(schedule: YearlySchedule, path: Path) -> None:
+    count = len(schedule.shares)
+    with matplotlib.rc_context(STYLE):
+        if is_by_bench(schedule):
+            high = min(max(3.2, 0.16 * len(schedule.benches)), 14.0)
+            figure = Figure(figsize=(12, high + 0.8), constrained_layout=True)
+            axes = figure.subplots(1, count, sharex=True, sharey=True, squeeze=False)
+        else:
+            figure = Figure(
+                figsize=(12, count * (0.5 * schedule.benches.pushback.max() + 0.9)), constrained_layout=True
+            )
+            axes = figure.subplots(count, 1, sharex=True, squeeze=False)
+        plot_gantt(schedule, axes)
+        finish(figure, path)
+
+
+def is_by_bench(schedule: YearlySchedule) -> bool:
+    """Returns whether each bench has a row of its own."""
+    return len(schedule.benches) <= MOST_ROWS
+
+
+def plot_gantt(schedule: YearlySchedule, axes: Any) -> list[Axes]:
+    """Draws the years in which benches are mined, by pushback from the top; of more than MOST_ROWS benches a row per pushback.
+
+    Parameters
+    ----------
+    schedule : YearlySchedule
+    axes : array or list of Axes
+        One per method.
+
+    Returns
+    -------
+    list of Axes
+    """
+    found = list_of(axes, len(schedule.shares))
+    for ax, way in zip(found, schedule.shares):
+        (draw_gantt if is_by_bench(schedule) else draw_pushbacks)(schedule, way, ax)
+    if is_by_bench(schedule):
+        found[0].set_ylabel("benches by pushback: elevation of the toe, m")
+    return found
+
+
+def draw_pushbacks(schedule: YearlySchedule, way: str, ax: Axes) -> None:
+    """Draws a row per pushback with a cell per year, darker the more is mined there, and the toes of its highest and lowest bench."""
+    shares, benches = schedule.shares[way], schedule.benches
+    toes, count = schedule.pushbacks.plan.grid.toes()[benches.level], int(benches.pushback.max())
+    tonnes = np.zeros((count, shares.shape[1]))
+    np.add.at(tonnes, benches.pushback - 1, shares * benches.of(ROCK)[:, None])
+    tints, most = pushback_tints(count), float(tonnes.max(initial=0.0)) or 1.0
+    for row, year in zip(*np.nonzero(tonnes)):
+        shade = PALEST + (1 - PALEST) * tonnes[row, year] / most
+        ax.add_patch(Rectangle((year + 0.5, row - 0.45), 1, 0.9, color=(*tints[row, :3], shade), linewidth=0))
+        mined = toes[(benches.pushback == row + 1) & (shares[:, year] > 0)]
+        is_dark = shade * (1 - tints[row, :3].mean()) > DARK
+        words = {"ha": "center", "va": "center", "fontsize": 6.5, "color": "white" if is_dark else "black"}
+        ax.text(year + 1, row, f"{mined.max():.0f}\n{mined.min():.0f}", **words)
+    longest = max(other.shape[1] for other in schedule.shares.values())
+    ax.set_xlim(0.5, longest + 0.5)
+    ax.set_ylim(count - 0.5, -0.5)
+    ax.set_yticks(range(count), [f"pushback {number}" for number in range(1, count + 1)])
+    ax.xaxis.set_major_locator(MaxNLocator(integer=True))
+    ax.set_xlabel(label_of(schedule.settings.calendar, longest))
+    ax.set_title(
+        f"{TITLES.get(way, way)}: NPV {money(schedule.value(way), schedule)}; toe of highest and lowest bench of each {schedule.settings.calendar.word}, m"
+    )
+    if not shares.any():
+        ax.text(0.5, 0.5, "nothing is mined", transform=ax.transAxes, ha="center", va="center")
+
+
+def draw_gantt(schedule: YearlySchedule, way: str, ax: Axes) -> None:
+    """Draws a bar per bench and year, darker the larger the share of the bench."""
+    shares, benches = schedule.shares[way], schedule.benches
+    row = gantt_rows(schedule)
+    bench, year = np.nonzero(shares)
+    tints = pushback_tints(int(benches.pushback.max()))[benches.pushback[bench] - 1]
+    tints[:, 3] = PALEST + (1 - PALEST) * shares[bench, year]
+    bars = [Rectangle((t + 0.5, row[b] - 0.5), 1, 1) for b, t in zip(bench, year)]
+    ax.add_collection(PatchCollection(bars, facecolors=tints, edgecolors="white", linewidths=0.3))
+    longest = max(other.shape[1] for other in schedule.shares.values())
+    ax.set_xlim(0.5, longest + 0.5)
+    ax.set_ylim(row[-1] + 1, -1)
+    ax.xaxis.set_major_locator(MaxNLocator(integer=True))
+    ax.set_xlabel(label_of(schedule.settings.calendar, longest))
+    ax.spines["right"].set_visible(False)
+    ax.set_title(f"{TITLES.get(way, way)}: NPV {money(schedule.value(way), schedule)}")
+    name_benches(schedule, row, longest, ax)
+    if not shares.any():
+        ax.text(0.5, 0.5, "nothing is mined", transform=ax.transAxes, ha="center", va="center")
+
+
+def gantt_rows(schedule: YearlySchedule) -> np.ndarray:
+    """Returns the row of each bench from the top of the figure, with space for the label of a pushback above its first."""
+    pushback = schedule.benches.pushback
+    return np.arange(len(pushback)) + 2.0 * (pushback - 1) + 1
+
+
+def pushback_tints(count: int) -> np.ndarray:
+    """Returns a colour per pushback, as in plans of pushbacks; shape (count, 4)."""
+    return matplotlib.colormaps["viridis_r"](np.linspace(0.08, 0.95, count))
+
+
+def name_benches(schedule: YearlySchedule, row: np.ndarray, longest: int, ax: Axes) -> None:
+    benches, toes = schedule.benches, schedule.pushbacks.plan.grid.toes()
+    each = -(-len(benches) // MOST_NAMES)
+    shown = [bench for bench in range(len(benches)) if benches.level[bench] % each == 0]
+    ax.set_yticks(row[shown], [metres(toes[benches.level[bench]]) for bench in shown], fontsize=7)
+    for number in np.unique(benches.pushback):
+        first = row[benches.pushback == number][0]
+        ax.text(0.6, first - 1.0, f"pushback {number}", va="center", ha="left", fontsize=8, fontweight="bold")
+        ax.plot([0.5, longest + 0.5], [first - 0.55] * 2, color="#999999", linewidth=0.6)
+
+
+def money(amount: float, schedule: YearlySchedule) -> str:
+    size, sign = scaled(abs(amount))
+    return f"{amount / size:,.2f} {sign} {schedule.pushbacks.plan.project.economics.currency}".replace("  ", " ")
+
 
 COLOURS = {
     "worst": WORST,
     "specified": SPECIFIED,
     RULE: "#d08a1d",
-    LP: palette.ORE,
+    LP: style.ORE,
     MILP: "#7b4fa3",
     "best": BEST,
     "relaxed": PLAIN,
@@ -65,8 +416,8 @@ def write_tonnes(schedule: YearlySchedule, path: Path) -> None:
     metals = schedule.pushbacks.plan.project.metals[:MOST_METALS]
     with matplotlib.rc_context(STYLE):
         figure = Figure(figsize=(12, 8.0))
-        plot_tonnes(schedule, rows_of(figure, len(schedule.shares), UPPER, sharey=True))
-        plot_metals(schedule, rows_of(figure, len(metals), LOWER))
+        plot_tonnes(schedule, metal_rows(figure, len(schedule.shares), UPPER, sharey=True))
+        plot_metals(schedule, metal_rows(figure, len(metals), LOWER))
         finish(figure, path)
 
 
@@ -140,23 +491,23 @@ def tonnes_of(schedule: YearlySchedule) -> pd.Series:
 
 def layers_of(schedule: YearlySchedule) -> list[tuple[str, str, str, dict[str, Any]]]:
     """Returns the layers of a year's bar from below: source, destination, label and look."""
-    processes, stockpiles = palette.of_processes(schedule.names), schedule.model.stockpiles
+    processes, stockpiles = style.of_processes(schedule.names), schedule.model.stockpiles
     found: list[tuple[str, str, str, dict[str, Any]]] = [
         (PIT, name, name, {"color": colour}) for name, colour in processes.items()
     ]
-    for name, colour in palette.of_stockpiles(it.name for it in stockpiles).items():
+    for name, colour in style.of_stockpiles(it.name for it in stockpiles).items():
         label = "to the stockpile" if len(stockpiles) == 1 else f"to {name}"
         found.append((PIT, name, label, {"color": colour}))
     dumps = schedule.model.dumps
-    for name, colour in palette.of_dumps(it.name for it in dumps).items():
+    for name, colour in style.of_dumps(it.name for it in dumps).items():
         found.append((PIT, name, f"waste to {name}", {"color": colour}))
-    return found if dumps else [*found, (PIT, AS_WASTE, "waste", {"color": palette.WASTE})]
+    return found if dumps else [*found, (PIT, AS_WASTE, "waste", {"color": style.WASTE})]
 
 
 def reclaimed_layers(schedule: YearlySchedule) -> list[tuple[str, str, str, dict[str, Any]]]:
     """Returns the layers of the ore that is reclaimed in a year, as `layers_of` does."""
     found: list[tuple[str, str, str, dict[str, Any]]] = []
-    for name, colour in palette.of_processes(schedule.names).items():
+    for name, colour in style.of_processes(schedule.names).items():
         look = {"color": colour, "alpha": 0.55, "hatch": "///", "edgecolor": "white"}
         found += [(it.name, name, f"{name}, reclaimed", look) for it in schedule.model.stockpiles]
     return found
@@ -177,7 +528,7 @@ def draw_flows(ax: Axes, schedule: YearlySchedule, way: str, size: float) -> Non
         keys = pd.MultiIndex.from_product([[way], years, [source], [destination]], names=tonnes.index.names)
         return np.asarray(tonnes.reindex(keys, fill_value=0.0).to_numpy() / size)
 
-    fed = np.sum([high(PIT, name) for name in palette.of_processes(schedule.names)], axis=0)
+    fed = np.sum([high(PIT, name) for name in style.of_processes(schedule.names)], axis=0)
     wide = WIDTH - BESIDE if schedule.is_stocked else WIDTH
     bars = (
         (layers_of(schedule), 0.0 * fed, wide, (wide - WIDTH) / 2),
@@ -199,7 +550,7 @@ def draw_limits(ax: Axes, schedule: YearlySchedule, count: int, unit: tuple[floa
     limits = schedule.problem.limits
     edges = np.arange(max(count, 1) + 1) + 0.5
     mill = "processing capacity (all processes)" if len(limits.parts("feed_tonnes")) > 1 else "processing capacity"
-    for name, label, colour in (("feed_tonnes", mill, MILL_COLOUR), ("total_tonnes", "mining capacity", SHOVELS)):
+    for name, label, colour in (("feed_tonnes", mill, MILL), ("total_tonnes", "mining capacity", SHOVELS)):
         if limits.parts(name):
             most = limits.sum_of_years(name, max(count, 1)) / size
             label = f"{label}: {in_words(limits.sums_per_year(name), size)} {sign}t a year"
@@ -275,3 +626,126 @@ def plot_cumulative(schedule: YearlySchedule, years: pd.DataFrame, ax: Axes) -> 
     ax.xaxis.set_major_locator(MaxNLocator(integer=True))
     ax.legend(loc="lower right", facecolor="white", edgecolor="none", framealpha=0.9)
     return ax
+
+
+def write(made: ScheduledBlocks, path: Path) -> None:
+    """Writes tonnes and cash flow, and below them the metals."""
+    metals = made.planned.plan.project.metals[:MOST_METALS]
+    with matplotlib.rc_context(STYLE):
+        figure = Figure(figsize=(12, 8.0))
+        plot(made, metal_rows(figure, 2, UPPER | {"wspace": 0.16, "top": 0.96}))
+        plot_block_metals(made, metal_rows(figure, len(metals), LOWER))
+        finish(figure, path)
+
+
+def plot(made: ScheduledBlocks, axes: Any) -> list[Axes]:
+    """Draws ore and waste of each year with the capacities, and the cumulative discounted cash flow with the upper bound.
+
+    Parameters
+    ----------
+    made : ScheduledBlocks
+    axes : array or list of two Axes
+
+    Returns
+    -------
+    list of Axes
+    """
+    tonnes, money = list_of(axes, 2)
+    plot_block_tonnes(made, tonnes)
+    plot_value(made, money)
+    return [tonnes, money]
+
+
+def plot_block_metals(made: ScheduledBlocks, axes: Any) -> list[Axes]:
+    """Draws recovered metal and head grade of each year, of up to three metals; one axes per metal."""
+    project = made.planned.plan.project
+    metals, feed = project.metals[:MOST_METALS], feed_of(made)
+    found = list_of(axes, len(metals))
+    for ax, metal in zip(found, metals):
+        plot_metal(feed, metal, project.shells.calendar, ax).set_title(metal.name.capitalize())
+    return found
+
+
+def feed_of(made: ScheduledBlocks) -> pd.DataFrame:
+    """Returns year, process, feed_tonnes, head_grade_METAL and recovered_METAL."""
+    operation, parts = BlockOperation(made), []
+    for number, process in enumerate(made.planned.destinations[1:]):
+        feed = operation.fed(operation.amounts.feed, number)
+        found = {"year": np.arange(1, made.count + 1), "process": process, "feed_tonnes": feed}
+        for metal in operation.plan.project.metals:
+            content = operation.fed(operation.amounts.contained[metal.name], number) / float(GRADE_UNITS[metal.unit])
+            found[f"head_grade_{metal.name}"] = shell_tables.ratio(content, feed)
+            found[f"recovered_{metal.name}"] = operation.recovered(metal.name)[number]
+        parts.append(pd.DataFrame(found))
+    return pd.concat(parts, ignore_index=True)
+
+
+def draw_bars(ax: Axes, made: ScheduledBlocks, size: float) -> None:
+    """Draws the in-situ tonnes of each year by process, and waste; a text if nothing is mined."""
+    years, calendar = made.years, made.planned.limits.calendar
+    ax.set_xlabel(label_of(calendar, len(years)))
+    if years.empty:
+        ax.text(0.5, 0.5, "nothing is mined", transform=ax.transAxes, ha="center", va="center")
+        ax.set_xlim(0.4, 1.6)
+        ax.set_xticks([])
+        return
+    operation, below = BlockOperation(made), np.zeros(len(years))
+    tonnes = operation.plan.values.tonnes
+    for number, (process, colour) in enumerate(style.of_processes(made.planned.destinations[1:]).items()):
+        high = operation.fed(tonnes, number) / size
+        ax.bar(years["year"], high, 0.8, bottom=below, color=colour, label=process, linewidth=0)
+        below = below + high
+    waste = (years["total_tonnes"] / size - below).clip(lower=0)
+    ax.bar(years["year"], waste, 0.8, bottom=below, color=style.WASTE, label="waste", linewidth=0)
+    ax.xaxis.set_major_locator(MaxNLocator(integer=True))
+    ax.set_xlim(0.4, float(years["year"].max()) + 0.6)
+
+
+def plot_block_tonnes(made: ScheduledBlocks, ax: Axes) -> None:
+    years, limits = made.years, made.planned.limits
+    top = max(float(years["total_tonnes"].max()), 1.0) if len(years) else 1.0
+    size, sign = scaled(top)
+    draw_bars(ax, made, size)
+    edges = np.arange(max(len(years), 1) + 1) + 0.5
+    for name, label, colour in (
+        ("feed_tonnes", "processing capacity", MILL),
+        ("total_tonnes", "mining capacity", SHOVELS),
+    ):
+        per_year = sum(limits.most[it] for it in limits.parts(name))
+        if limits.parts(name) and per_year <= FAR_ABOVE * top:
+            most = limits.sum_of_years(name, len(edges) - 1) / size
+            label = f"{label}: {round(per_year / size, 3):,.12g} {sign}t a year"
+            ax.plot(
+                edges,
+                np.append(most, most[-1]),
+                drawstyle="steps-post",
+                color=colour,
+                linestyle="--",
+                linewidth=1.3,
+                label=label,
+            )
+            top = max(top, most.max() * size)
+    ax.set_ylim(0, 1.2 * MARGIN * top / size)
+    ax.set_ylabel(f"total material, {sign}t")
+    ax.legend(loc="upper right", ncol=2, facecolor="white", edgecolor="none", framealpha=0.9)
+
+
+def plot_value(made: ScheduledBlocks, ax: Axes) -> None:
+    earned = np.append(0.0, made.years["discounted_cash_flow"].cumsum())
+    size, sign = scaled(max(float(np.abs(earned).max()), made.found.bound))
+    currency = made.planned.plan.project.economics.currency
+    marks = {"color": style.ORE, "marker": "o", "markersize": 3, "linewidth": 1.4}
+    ends = np.append(0.0, made.planned.limits.calendar.ends(len(earned) - 1))
+    ax.plot(ends, earned / size, label=f"schedule: {earned[-1] / size:,.2f}", **marks)
+    ax.axhline(
+        made.found.bound / size,
+        color=PLAIN,
+        linestyle="--",
+        linewidth=1.2,
+        label=f"upper bound, any schedule by block: {made.found.bound / size:,.2f}",
+    )
+    ax.axhline(0, color="black", linewidth=0.8)
+    ax.xaxis.set_major_locator(MaxNLocator(integer=True))
+    ax.set_xlabel("end of year")
+    ax.set_ylabel(f"cumulative discounted cash flow, {sign} {currency}".replace(",  ", ", "))
+    ax.legend(loc="lower right", facecolor="white", edgecolor="none", framealpha=0.9)

@@ -12,7 +12,7 @@ import pandas as pd
 from pitplan.config.economics import GRADE_UNITS
 from pitplan.config.project import Project
 from pitplan.core.magnitude import scaled
-from pitplan.figures.palette import ranked
+from pitplan.figures.style import ranked
 from pitplan.plan import shown_name
 from pitplan.results import names
 from pitplan.results.cash_flow_columns import CASH_FLOW

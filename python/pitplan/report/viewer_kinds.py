@@ -7,11 +7,11 @@ from typing import Any, Callable
 import numpy as np
 from numpy.typing import NDArray
 
-from pitplan.figures import palette
+from pitplan.figures import style
 from pitplan.results.folder import Folder
 
 # Of more categories the last colour stands for the rest.
-PALETTE = palette.CODES
+PALETTE = style.CODES
 DESTINATION, ORE, WASTE, OTHERS = "destination", "ore", "waste", "others"
 NO_CODE = "none"
 
@@ -63,5 +63,5 @@ def tints_of(folder: Folder, name: str, labels: list[str]) -> list[str]:
         return list(PALETTE[: len(labels)])
     before = "processing_cost_"
     processes = [column.removeprefix(before) for column in folder.blocks if str(column).startswith(before)]
-    known = palette.of_processes(processes) | {ORE: palette.ORE, WASTE: palette.WASTE}
+    known = style.of_processes(processes) | {ORE: style.ORE, WASTE: style.WASTE}
     return [known.get(label, PALETTE[-1]) for label in labels]
