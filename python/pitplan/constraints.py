@@ -15,7 +15,6 @@ import numpy as np
 import pandas as pd
 from numpy.typing import NDArray
 
-from pitplan.blockmodel import depletion, tin
 from pitplan.blockmodel.grid import Grid
 from pitplan.blockmodel.reader import called
 from pitplan.config.constraints import Area
@@ -26,6 +25,7 @@ from pitplan.slopes.closure import used_blocks, users_of
 from pitplan.slopes.domains import Walls
 from pitplan.survey import readers
 
+from .blockmodel import topography
 from .errors import PlanError
 
 
@@ -104,7 +104,7 @@ def of_table(frame: pd.DataFrame, grid: Grid, project: Project, source: str = "t
     rock = frame[project.table.tonnes].to_numpy() > 0
     forced, barred = marked(frame, rules.must_mine) & rock, marked(frame, rules.exclude) & rock
     notes = []
-    forced |= depletion.is_mined(frame)
+    forced |= topography.is_mined(frame)
     for area in rules.areas:
         inside, told = in_area(grid, area)
         barred |= inside & rock
@@ -139,7 +139,7 @@ def in_area(grid: Grid, area: Area) -> tuple[NDArray[Any], list[str]]:
         )
         notes.append(f"WARNING: {file}: {twice}")
     if not barred.any():
-        said = f"{file}: no block lies in its polygons: {tin.beside(np.concatenate([polygon[0] for polygon in areas.polygons]), grid)}"
+        said = f"{file}: no block lies in its polygons: {topography.beside(np.concatenate([polygon[0] for polygon in areas.polygons]), grid)}"
         if area.exclude == "outside":
             raise PlanError(said)
         notes.append(f"WARNING: {said}")

@@ -14,14 +14,14 @@ import numpy as np
 import pandas as pd
 
 from pitplan import constraints
-from pitplan.blockmodel import grid as grids
-from pitplan.blockmodel.grid import Grid
+from pitplan.blockmodel.grid import MOST_BLOCKS, Grid, metres
 from pitplan.config.economics import PER_REVENUE_FACTOR
 from pitplan.config.project import Project
-from pitplan.economics import block_values
 from pitplan.errors import PlanError
 from pitplan.slopes import closure
 from pitplan.slopes.domains import Walls
+
+from .economics import block_values
 
 
 @dataclass(frozen=True)
@@ -53,7 +53,7 @@ def is_too_large(model: Model, project: Project) -> bool:
     nodes = model.grid.count + (
         np.count_nonzero(with_metal(model.frame, project)) if project.economics.cutoff == PER_REVENUE_FACTOR else 0
     )
-    return nodes > grids.MOST_BLOCKS
+    return nodes > MOST_BLOCKS
 
 
 def with_metal(frame: pd.DataFrame, project: Project) -> np.ndarray:
@@ -70,16 +70,16 @@ def left(model: Model, walls: Walls, project: Project) -> tuple[Model, str]:
     wanted[grid.rows[can_pay(model, project)]] = True
     wanted[constraints.of_table(model.frame, grid, project, model.source).forced] = True
     if not wanted.any():
-        most = f"the solver takes at most {grids.MOST_BLOCKS:,} blocks"
+        most = f"the solver takes at most {MOST_BLOCKS:,} blocks"
         raise PlanError(
             f"{model.source}: the grid has {grid.count:,} cells, and {most}: no block pays for its processing, so no shell holds any"
         )
     box = box_of(closure.used_blocks(grid, walls, wanted), grid)
     inside = grid.cube(np.arange(grid.count))[box.parts]
-    if inside.size > grids.MOST_BLOCKS:
+    if inside.size > MOST_BLOCKS:
         raise PlanError(
             f"{model.source}: shells can reach {inside.size:,} of the {grid.count:,} cells, and the solver takes at most "
-            f"{grids.MOST_BLOCKS:,} blocks: set [table] reblock, or give a smaller model"
+            f"{MOST_BLOCKS:,} blocks: set [table] reblock, or give a smaller model"
         )
     return named_anew(cropped(model, box, inside), project), note_of(model, box)
 
@@ -146,13 +146,9 @@ def note_of(model: Model, box: Box) -> str:
     names = grid.frame.names if grid.azimuth else ("x", "y")
     for name, part, axis, edge in ((names[0], box.columns, 0, west), (names[1], box.rows, 1, south)):
         west = edge + part.start * grid.size[axis]
-        parts.append(
-            f"{name} from {grids.metres(west)} to {grids.metres(west + (part.stop - part.start) * grid.size[axis])}"
-        )
+        parts.append(f"{name} from {metres(west)} to {metres(west + (part.stop - part.start) * grid.size[axis])}")
     top = grid.origin[2] - (box.levels.start - 0.5) * grid.size[2]
-    parts.append(
-        f"z from {grids.metres(top - (box.levels.stop - box.levels.start) * grid.size[2])} to {grids.metres(top)} m"
-    )
+    parts.append(f"z from {metres(top - (box.levels.stop - box.levels.start) * grid.size[2])} to {metres(top)} m")
     return (
         f"{np.count_nonzero(~kept):,} of {len(kept):,} blocks cannot be in any shell at these revenue factors and were "
         f"omitted; the model is cropped to {', '.join(parts)}"

@@ -11,7 +11,6 @@ import numpy as np
 import pandas as pd
 from numpy.typing import NDArray
 
-from pitplan.blockmodel import depletion, missing_blocks, plausibility, reader, resource_classes
 from pitplan.blockmodel.grid import Grid
 from pitplan.blockmodel.reader import Table
 from pitplan.config.economics import PER_REVENUE_FACTOR
@@ -22,7 +21,6 @@ from pitplan.core.keyed_arrays import hash_of_all
 from pitplan.core.progress import Progress, silent
 from pitplan.core.release import libraries
 from pitplan.core.revenue_factors import BASE_PRICE, factor_text
-from pitplan.economics import block_values, haulage, period_costs
 from pitplan.economics.block_values import Values
 from pitplan.economics.cost_lines import multiplied_amounts
 from pitplan.economics.weighing import reference_level
@@ -32,7 +30,9 @@ from pitplan.slopes import closure
 from pitplan.slopes.domains import Walls
 
 from . import constraints, preparation
+from .blockmodel import missing_blocks, reader, resource_classes, summary, topography
 from .constraints import NOTHING, FixedBlocks, Settled
+from .economics import block_values, period_costs, weighing
 from .errors import PlanError
 
 MILLION = 1_000_000
@@ -143,7 +143,7 @@ class Plan:
         there are `haul_distance` in metres, one way, and the haulage costs, which the other costs contain.
         """
         ids = self.grid.rows[order := np.argsort(self.grid.rows)]
-        own = [name for name in self.table if name != depletion.MINED_SHARE]
+        own = [name for name in self.table if name != topography.MINED_SHARE]
         # Without a copy of all columns for each that is added, and with names that recur.
         frame = pd.DataFrame(dict(enumerate([ids, *(self.table[name].array.take(order) for name in own)])), copy=False)
         frame.columns = ["id", *map(shown_name, own)]
@@ -153,7 +153,7 @@ class Plan:
             frame[f"revenue_{way.name}"] = way.revenue[ids] / MILLION
             frame[f"processing_cost_{way.name}"] = way.cost[ids] / MILLION
         if hauled := self.values.hauled:
-            frame["haul_distance"] = hauled.road[ids] / 10**haulage.LENGTH_PLACES
+            frame["haul_distance"] = hauled.road[ids] / 10**weighing.LENGTH_PLACES
             frame["haulage_cost"] = hauled.waste[ids] / MILLION
             frame["ore_haulage_cost"] = hauled.ore_more[ids] / MILLION
         return frame
@@ -325,7 +325,7 @@ def notes_of(plan: Plan, price: str) -> list[str]:
         *(pattern.sentence() for pattern in plan.walls.patterns),
         *plan.values.notes,
         *notes_of_classes(plan, price),
-        *plausibility.of_prices(plan.values.pays, project.metals, grades, project.economics.currency),
+        *summary.of_prices(plan.values.pays, project.metals, grades, project.economics.currency),
         *notes_of_bench_costs(plan),
         *plan.fixed.notes,
         *notes_of_settled(plan),

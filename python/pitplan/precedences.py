@@ -8,8 +8,7 @@ from typing import Optional
 import numpy as np
 
 from pitplan.blockmodel.grid import Grid
-from pitplan.slopes.arcs import ABSENT, slices
-from pitplan.slopes.domains import Walls
+from pitplan.slopes.domains import ABSENT, Walls, slices
 
 from .constraints import Settled
 

@@ -13,26 +13,17 @@ import numpy as np
 import pandas as pd
 from numpy.typing import NDArray
 
-from pitplan.blockmodel import (
-    depletion,
-    grid as grids,
-    missing_blocks,
-    plausibility,
-    reader,
-    reblock,
-    summary as summaries,
-    topography_cut,
-)
 from pitplan.blockmodel.grid import Grid
 from pitplan.blockmodel.reader import Table
 from pitplan.blockmodel.reblock import Parts
 from pitplan.config.project import Project
 from pitplan.core.progress import Progress, silent
-from pitplan.slopes import domains
 from pitplan.slopes.domains import Walls
 
 from . import crop
+from .blockmodel import grid, missing_blocks, reader, reblock, summary, topography
 from .errors import WARNING
+from .slopes import domains
 
 
 @dataclass
@@ -128,12 +119,12 @@ def reblock_rows(model: Preparation) -> None:
 def lay_grid(model: Preparation) -> None:
     """Finds the grid of the blocks' centres."""
     with model.progress.step("building the grid"):
-        model.grid = grids.of_table(model.frame, model.laid_by, model.source, any_size=model.any_size)
+        model.grid = grid.of_table(model.frame, model.laid_by, model.source, any_size=model.any_size)
 
 
 def summarise(model: Preparation) -> None:
     """Describes the table: extents, tonnes, grades with units, and unused columns."""
-    lines = summaries.of_table(model.table, model.grid, model.project)
+    lines = summary.of_table(model.table, model.grid, model.project)
     model.warnings += [line for line in lines if line.startswith(WARNING)]
     model.summary = [line for line in lines if not line.startswith(WARNING)]
     model.progress.lines(model.summary)
@@ -143,7 +134,7 @@ def add_missing_blocks(model: Preparation) -> None:
     """Adds a row for each missing block that `[table] missing_blocks` describes, and warns if tonnes do not fit the blocks' volume."""
     model.frame, model.grid = missing_blocks.with_rows(model.frame, model.grid, model.project)
     tonnes = model.frame[model.project.table.tonnes].to_numpy()
-    model.warnings += plausibility.of_tonnes(tonnes, model.grid)
+    model.warnings += summary.of_tonnes(tonnes, model.grid)
 
 
 def cut_by_topography(model: Preparation) -> None:
@@ -152,13 +143,13 @@ def cut_by_topography(model: Preparation) -> None:
     if file is None:
         return
     with model.progress.step(f"cutting blocks at {file.path}"):
-        model.frame, notes = topography_cut.cut(model.frame, model.grid, model.project, file)
+        model.frame, notes = topography.cut_by_topography(model.frame, model.grid, model.project, file)
     model.notes += notes
 
 
 def cut_by_as_mined_surface(model: Preparation) -> None:
     """Cuts tonnes to those that remain below `[constraints] as_mined`, and marks the blocks that are mined."""
-    model.frame, notes = depletion.depleted(model.frame, model.grid, model.project)
+    model.frame, notes = topography.depleted(model.frame, model.grid, model.project)
     model.notes += notes
 
 

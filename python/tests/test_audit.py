@@ -15,7 +15,7 @@ import planaudit
 from pitplan import BlockModel, Plan, PlanError, load
 from pitplan.blockmodel import row_rules
 from pitplan.config import project_writer
-from pitplan.results.json_records import read_plan
+from pitplan.results.folder import read_plan
 from planaudit.schedules.closure import maximum_closure
 
 pytestmark = pytest.mark.usefixtures("without_figures")

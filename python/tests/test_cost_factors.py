@@ -13,7 +13,7 @@ from helpers.verified import UNVERIFIED
 
 import pitplan
 from pitplan import PlanError, verify
-from pitplan.blockmodel import cost_factors
+from pitplan.blockmodel import reader
 from pitplan.economics.weighing import Rows
 from planaudit import AuditError
 from planaudit.inputs import block_table, project_file
@@ -197,7 +197,7 @@ def test_a_planted_wrong_factor_is_found(plan_folder, monkeypatch, key):
 def test_a_factor_that_stands_in_for_an_empty_field_is_found(plan_folder, monkeypatch):
     table = table_of()
     table.loc[2, "mc"] = np.nan
-    monkeypatch.setattr(cost_factors, "complete", lambda frame, *_: frame.fillna(1.0, inplace=True))
+    monkeypatch.setattr(reader, "complete", lambda frame, *_: frame.fillna(1.0, inplace=True))
     with pytest.raises(PlanError, match="row 4 column mc: is empty, expected a cost adjustment factor from 0"):
         pitplan.write_shells(plan_folder(table, PROJECT, BOTH))
 

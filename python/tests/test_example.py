@@ -15,8 +15,7 @@ from conftest import ROOT
 
 import pitplan
 from pitplan.pits import shell_tables
-from pitplan.results.conventions import with_discounting
-from pitplan.results.rounding import shown
+from pitplan.results.rounding import shown, with_discounting
 
 EXAMPLE = ROOT / "examples" / "plan"
 

@@ -13,7 +13,7 @@ from matplotlib.figure import Figure
 import pitplan
 from pitplan import PlanError, load
 from pitplan.figures import sensitivity
-from pitplan.report import studies
+from pitplan.report import statements
 from pitplan.studies.sensitivity import perturb
 
 # Four rich and four poor blocks side by side, without waste. A rich block earns 4,000 less 1,000 for the mill and 200 for mining, a poor one 1,600
@@ -178,7 +178,7 @@ def test_the_workbook_has_the_grid(plan_folder, with_workbooks):
 
 def test_the_report_shows_the_npvs_as_a_grid_of_cells(written):
     """A row per cut-off, a column per capacity, in thousands of USD; each number names its cell."""
-    found, rows_of_file = studies.of_hill(written, load(written.parent.parent / "project.toml")), hill_of(written)
+    found, rows_of_file = statements.of_hill(written, load(written.parent.parent / "project.toml")), hill_of(written)
     assert found["part"]["headings"] == ["least cu that mill accepts", "200", "400", "800"] and not found["picture"]
     assert found["caption"].startswith("Hill of value: NPV, USD, by capacity of mill (columns)")
     for row, cutoff in zip(found["part"]["rows"], CUTOFFS):

@@ -8,8 +8,8 @@ import pytest
 from conftest import PROJECT, rows
 
 from pitplan import Plan, PlanError, load
-from pitplan.blockmodel import column_guesses, wizard
-from pitplan.blockmodel.plausibility import USUAL_PRICES
+from pitplan.blockmodel import guesses, wizard
+from pitplan.blockmodel.summary import USUAL_PRICES
 from pitplan.cli import main
 
 ORE = {"cu": lambda i, j, k: 2.0 if k == 1 and i == 4 else 0.0}
@@ -147,7 +147,7 @@ def test_each_guess_says_why(tmp_path):
 
 def test_centres_without_a_name_are_told_by_their_steps():
     table = rows(4, 5, 3).rename(columns={"x": "p", "y": "q", "z": "r"})
-    found = column_guesses.columns_of(table[["tonnes", "p", "q", "r"]])
+    found = guesses.columns_of(table[["tonnes", "p", "q", "r"]])
     assert {axis: guess.column for axis, guess in found.centres.items()} == {"x": "p", "y": "q", "z": "r"}
     assert "equally spaced" in found.centres["x"].why
 
@@ -165,7 +165,7 @@ def test_centres_without_a_name_are_told_by_their_steps():
 )
 def test_the_unit_of_a_name_that_tells_none(name, mean, unit, why):
     """By the metal, or by the mean of the grades above 0 where it is more than a per cent could be."""
-    guess = column_guesses.metal_of(pd.DataFrame({name: [0.0, mean - 1, mean + 1]}), name)
+    guess = guesses.metal_of(pd.DataFrame({name: [0.0, mean - 1, mean + 1]}), name)
     assert (guess.unit, guess.why) == (unit, why)
 
 
@@ -200,13 +200,13 @@ def test_rows_without_tonnes_are_counted_and_are_no_blocks(tmp_path, headings, c
     ],
 )
 def test_a_sign_and_its_unit_may_be_one_word(name, metal, unit):
-    guess = column_guesses.metal_of(pd.DataFrame({name: [0.1, 0.2]}), name)
+    guess = guesses.metal_of(pd.DataFrame({name: [0.1, 0.2]}), name)
     assert (guess and guess.metal, guess and guess.unit) == (metal, unit)
 
 
 def test_texts_and_names_without_a_letter_are_no_grades():
     table = rows(3, 3, 3, cu=lambda i, j, k: 0.5 * k).assign(**{"Au class": "rich", "1": 0.5})
-    assert [metal.column for metal in column_guesses.columns_of(table).metals] == ["cu"]
+    assert [metal.column for metal in guesses.columns_of(table).metals] == ["cu"]
 
 
 @pytest.mark.parametrize(
@@ -223,7 +223,7 @@ def test_texts_and_names_without_a_letter_are_no_grades():
 )
 def test_centres_have_few_numbers_at_equal_steps(values, is_one):
     """At most half as many numbers as rows, two at least, and steps of more than half a metre."""
-    assert column_guesses.is_lattice(pd.DataFrame({"p": [float(value) for value in values]}), "p") == is_one
+    assert guesses.is_lattice(pd.DataFrame({"p": [float(value) for value in values]}), "p") == is_one
 
 
 def test_placeholders_of_prices_are_round():

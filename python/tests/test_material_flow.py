@@ -22,7 +22,7 @@ from helpers.random_tests import examples
 from hypothesis import given, strategies as st
 
 from pitplan import PlanError
-from pitplan.economics.value_bins import edges_of
+from pitplan.economics.cutoff_grades import edges_of
 from pitplan.scheduling.bench_sequencing import Limits
 from pitplan.scheduling.flow import scheduler
 from pitplan.scheduling.flow.bound import Lagrangian, upper_bound

@@ -5,7 +5,7 @@ import pandas as pd
 import pytest
 from helpers import vendor_models
 
-from pitplan.blockmodel import guessed_model
+from pitplan.blockmodel import guesses
 from pitplan.cli import main
 from pitplan.figures.geology import cube_of, histograms_of
 
@@ -19,7 +19,7 @@ def test_cells_have_the_means_of_their_rows(tmp_path, azimuth):
         vendor_models.turned(cells, azimuth) if azimuth else cells,
         tmp_path / "m.csv",
     )
-    cube = cube_of(guessed_model.read(tmp_path / "m.csv"), "cu" if azimuth else "CU")
+    cube = cube_of(guesses.read(tmp_path / "m.csv"), "cu" if azimuth else "CU")
     solid = cells[cells["share"] > 0]
     expected = np.full(tuple(solid[name].max() + 1 for name in "kji"), np.nan)
     # Heights are rounded to half a metre.
@@ -34,7 +34,7 @@ def test_cells_have_the_means_of_their_rows(tmp_path, azimuth):
 
 def test_histograms_are_of_grades_and_density(tmp_path):
     vendor_models.write("leapfrog", vendor_models.deposit(), tmp_path / "m.csv")
-    assert histograms_of(guessed_model.read(tmp_path / "m.csv")) == [
+    assert histograms_of(guesses.read(tmp_path / "m.csv")) == [
         ("Cu %", "%"),
         ("Au ppm", "g/t"),
         ("Density", "t/m3"),

@@ -2,7 +2,7 @@
 
 import pytest
 
-from pitplan.results.parameter_names import spoken, unit_of
+from pitplan.results.rounding import parameter_unit, spoken
 
 
 @pytest.mark.parametrize(
@@ -27,4 +27,4 @@ from pitplan.results.parameter_names import spoken, unit_of
     ],
 )
 def test_parameters_are_named_in_words_with_their_units(name, words, unit):
-    assert (spoken(name), unit_of(name, "EUR")) == (words, unit)
+    assert (spoken(name), parameter_unit(name, "EUR")) == (words, unit)

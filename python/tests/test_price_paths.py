@@ -19,7 +19,7 @@ import pitplan
 from pitplan import PlanError, load
 from pitplan.config.price_paths import PricePath
 from pitplan.figures import price_paths as figure
-from pitplan.report import studies
+from pitplan.report import statements
 from pitplan.scheduling import price_paths
 from pitplan.scheduling.blocks import tables
 
@@ -195,7 +195,7 @@ def test_a_run_without_paths_removes_those_of_an_earlier_run(written, tmp_path):
 def test_the_report_has_the_quantiles_as_cells(written):
     folder = written["block"]
     record, project = json.loads((folder / "plan.json").read_text()), load(folder.parent.parent / "project.toml")
-    found, (row,) = studies.of_prices(folder, project, record), read(folder)[1].to_dict("records")
+    found, (row,) = statements.of_prices(folder, project, record), read(folder)[1].to_dict("records")
     (shown,) = found["part"]["rows"]
     columns = [cell["source"].rpartition(" ")[2] for cell in shown["cells"]]
     assert columns[3:6] == ["npv_quantile_0.1", "npv_quantile_0.5", "npv_quantile_0.9"]
@@ -203,7 +203,7 @@ def test_the_report_has_the_quantiles_as_cells(written):
     amounts = [float(cell["text"].replace(",", "")) for cell in shown["cells"][:-1]]
     assert amounts == pytest.approx([row[name] for name in columns[:-1]], abs=0.0051)
     assert "<h2>Price paths</h2>" in (folder / "report.html").read_text()
-    assert studies.of_prices(folder, project, {"files": {}}) == {}
+    assert statements.of_prices(folder, project, {"files": {}}) == {}
 
 
 def test_the_figure_shows_prices_and_npvs(plan_folder, tmp_path):

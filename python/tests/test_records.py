@@ -8,8 +8,7 @@ import pytest
 
 import pitplan
 from pitplan import PlanError
-from pitplan.results import json_records
-from pitplan.results.folder import read_folder, read_record
+from pitplan.results.folder import PLAN, Reader, demand_plan, read_folder, read_plan, read_record
 from planaudit import AuditError
 from planaudit.inputs.record import read_json
 
@@ -69,7 +68,7 @@ OTHERS = (None, True, -1, 2.5, float("nan"), "", "\0", [], [1], {}, {"a": 1}, 10
 def test_each_part_of_a_record_is_of_its_kind_or_named(solved):
     _, folder = solved
     whole, file = read_record(folder), folder / "plan.json"
-    reader, count = json_records.Reader(file, "pitplan shells"), 0
+    reader, count = Reader(file, "pitplan shells"), 0
     for place in parts_of(whole):
         if (
             place[0] not in READ
@@ -80,8 +79,8 @@ def test_each_part_of_a_record_is_of_its_kind_or_named(solved):
         for value in OTHERS:
             changed = bent(whole, place, value)
             try:
-                reader.demand(changed, json_records.PLAN, "")
-                json_records.demand_plan(reader, changed)
+                reader.demand(changed, PLAN, "")
+                demand_plan(reader, changed)
             except PlanError as error:
                 count += 1
                 said = str(error)
@@ -132,10 +131,10 @@ def test_what_is_found_and_what_is_expected(solved, place, value, said):
     record = read_record(folder)
     (folder / "plan.json").write_text(json.dumps(bent(record, place, value)))
     if place == ("title",):
-        json_records.read_plan(folder / "plan.json")
+        read_plan(folder / "plan.json")
         return
     with pytest.raises(PlanError) as error:
-        json_records.read_plan(folder / "plan.json")
+        read_plan(folder / "plan.json")
     assert str(error.value) == f"{folder / 'plan.json'}: {said}: run pitplan shells again"
 
 

@@ -13,8 +13,8 @@ import pitplan
 from pitplan import PlanError, verify
 from pitplan.config.economics import Curve
 from pitplan.core.decimals import Exact
-from pitplan.economics import block_values, recovery_curves
-from pitplan.economics.recovery_curves import Head
+from pitplan.economics import block_values, weighing
+from pitplan.economics.weighing import Head
 from planaudit.money import feed
 from planaudit.money.feed import at_grade
 
@@ -78,7 +78,7 @@ def test_a_recovery_is_kept_to_a_millionth(plan_folder):
 def test_the_middle_of_two_millionths_is_the_even_one(points, millionths):
     curve = Curve(tuple((Decimal(grade), Decimal(share)) for grade, share in points))
     head = Head(Exact.of(1, 1), Exact.of(1, 1))
-    assert recovery_curves.at_grades(curve, head).tolist() == [millionths]
+    assert weighing.at_grades(curve, head).tolist() == [millionths]
     assert at_grade(curve.points, Fraction(1)) == Decimal(millionths).scaleb(-6)
 
 
@@ -94,7 +94,7 @@ def test_as_numpy_has_it_but_for_a_millionth(named, grades, dilution):
     curve = Curve(tuple(zip(sorted(named), sorted(named.values()))))
     head = Head(Exact.of_decimals(grades), Exact.of(1 + dilution, len(grades)))
     expected = np.interp([float(grade / (1 + dilution)) for grade in grades], *np.array(curve.points, dtype=float).T)
-    found = recovery_curves.at_grades(curve, head)
+    found = weighing.at_grades(curve, head)
     assert found.astype(float) / 1e6 == pytest.approx(expected, abs=5.01e-7)
     exactly = [at_grade(curve.points, Fraction(grade) / Fraction(1 + dilution)) for grade in grades]
     assert [Decimal(int(parts)).scaleb(-6) for parts in found] == exactly
@@ -142,13 +142,13 @@ def down(whole, unit):
     return whole // unit
 
 
-of_rows = recovery_curves.of_rows
+of_rows = weighing.of_rows
 
 
 @pytest.mark.parametrize(("name", "planted"), [("of_rows", at_own_grade), ("nearest", down)])
 def test_a_recovery_at_another_grade_or_rounded_otherwise_is_found(plan_folder, monkeypatch, name, planted):
     path = plan_folder(deposit(), PROJECT, *TEXT)
-    monkeypatch.setattr(recovery_curves, name, planted)
+    monkeypatch.setattr(weighing, name, planted)
     pitplan.write_shells(path, writing=pitplan.Writing(verifies=False))
     assert "money" in wrong(path)
 

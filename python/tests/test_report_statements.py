@@ -9,9 +9,7 @@ from conftest import PROJECT, rows
 from helpers import worked_cash_flow
 
 import pitplan
-from pitplan.report.key_results import of_money
-from pitplan.report.physicals import physicals
-from pitplan.report.written import Written
+from pitplan.report.statements import Written, of_money, physicals
 
 PLAIN = pitplan.Writing(figures=False, verifies=False)
 

@@ -8,7 +8,7 @@ from helpers.processes import WITH
 import pitplan
 from pitplan.report import table_one
 from pitplan.report.assumptions import selected_shell, topics
-from pitplan.report.risks import risks
+from pitplan.report.statements import risks
 
 RECORD = {
     "notes": ["WARNING: the pit reaches the edge", "a note"],

@@ -13,9 +13,9 @@ from hypothesis import HealthCheck, given, strategies as st
 
 import pitplan
 from pitplan import PlanError, load, verify as verify_folder
-from pitplan.blockmodel import depletion, reblock, topography_cut
+from pitplan.blockmodel import reblock, topography
 from pitplan.core.progress import silent
-from pitplan.economics import process_routing
+from pitplan.economics import block_values
 from pitplan.pits import shell_tables
 from pitplan.solver import problem
 from pitplan.solver.choice import LIBRARY, PROGRAM
@@ -298,7 +298,7 @@ def test_shared_nodes_by_hand(plan_folder):
 
 
 def test_a_block_with_more_steps_than_shared_nodes_is_named():
-    steps = process_routing.Steps(*(np.array([3, 3]),) * 4)
+    steps = block_values.Steps(*(np.array([3, 3]),) * 4)
     for block in ([3], [2, 3], [3, 4], []):
         with pytest.raises(PlanError, match="cell 3 has more steps than nodes that scenarios share"):
             steps.on(np.array(block, dtype=np.int64))
@@ -413,7 +413,7 @@ def one_step_a_block(steps, block):
     columns = [np.zeros(len(block), dtype=np.int64) for _ in range(3)]
     for column, values in zip(columns, (steps.way, steps.revenue, steps.cost)):
         column[at] = values[first]
-    return process_routing.Steps(block, *columns)
+    return block_values.Steps(block, *columns)
 
 
 @pytest.mark.parametrize(
@@ -427,9 +427,9 @@ def one_step_a_block(steps, block):
             {"reblocked", "shells", "values"},
         ),
         # Rows that are cut by nothing.
-        (topography_cut, "cut", lambda frame, grid, project, file: (frame, []), {"topography"}),
+        (topography, "cut", lambda frame, grid, project, file: (frame, []), {"topography"}),
         # Steps without the last one of each block.
-        (process_routing.Steps, "on", one_step_a_block, {"values"}),
+        (block_values.Steps, "on", one_step_a_block, {"values"}),
     ],
 )
 def test_what_is_prepared_wrongly_is_found(plan_folder, tmp_path, monkeypatch, place, name, wrong, found):
@@ -489,7 +489,7 @@ def test_blocks_that_are_left_as_mined_wrongly_are_found(plan_folder, tmp_path, 
     write_surfaces(tmp_path, 14.0)
     table = mine(8).assign(cu_a=0, cu_b=0, cu_c=0.01)
     path = plan_folder(table, PROJECT + COLUMNS + MINED, TOPOGRAPHY)
-    monkeypatch.setattr(depletion, "MINED", 2.0)
+    monkeypatch.setattr(topography, "MINED", 2.0)
     shared = prepared(path)
     for scenario in shared.scenarios:
         assert worker.solve(str(shared.folder), scenario.number).status == 0

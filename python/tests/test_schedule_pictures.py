@@ -18,7 +18,7 @@ from pitplan.config.project import Metal
 from pitplan.config.stockpiles import Stockpile
 from pitplan.export import xlsx
 from pitplan.figures import schedule as schedule_figures, style
-from pitplan.report import viewer3d, viewer_kinds
+from pitplan.report import viewer3d
 from pitplan.results.folder import Folder, read_folder
 from pitplan.scheduling import pushback_record, pushback_schedule
 from pitplan.scheduling.bench_sequencing import Limits
@@ -191,7 +191,7 @@ def test_a_process_has_one_colour_in_all_pictures(schedule):
     years = pd.DataFrame({"feed_tonnes": [3.0], "feed_tonnes_mill": [2.0], "feed_tonnes_leach": [1.0]})
     assert {name: to_rgb(colour) for name, (_, colour) in style.layers_of(years).items()} == due
     columns = ["revenue_mill", "processing_cost_mill", "revenue_leach", "processing_cost_leach"]
-    tints = viewer_kinds.tints_of(
+    tints = viewer3d.tints_of(
         SimpleNamespace(blocks=pd.DataFrame(columns=columns)), "destination", ["waste", "leach", "mill"]
     )
     assert [to_rgb(tint) for tint in tints] == [to_rgb(style.WASTE), due["leach"], due["mill"]]

@@ -15,7 +15,7 @@ from pitplan import PlanError, Where, load, verify as verify_folder
 from pitplan.cli import main
 from pitplan.commands.writing import Writing
 from pitplan.figures import sensitivity
-from pitplan.pits import factor_search
+from pitplan.pits import skin
 from pitplan.studies.sensitivity import cases, perturb
 
 # Two blocks of ore at the surface, each with 1,000 for processing and 200 for mining: one of 24,000, and one of 1,200, which just does not pay.
@@ -285,13 +285,13 @@ def test_shells_are_divided_until_none_adds_more_than_its_share():
         asked.extend(factors)
         return {it: 1000 * it + 400 * (it >= 0.7) for it in factors}
 
-    found = factor_search.refined((0.5, 1.0), 0.1, tonnes_at)
+    found = skin.refined((0.5, 1.0), 0.1, tonnes_at)
     tonnes = [1000 * it + 400 * (it >= 0.7) for it in found]
     wide = [pair for pair in zip(found, found[1:]) if tonnes[found.index(pair[1])] - tonnes[found.index(pair[0])] > 140]
     assert wide == [(0.699, 0.7)] and {0.5, 1.0} <= set(found) and list(found) == sorted(set(found))
     assert len(asked) == len(set(asked)) < 60
     # Shells that are equal to the one before are left out, but for those of the project.
-    assert factor_search.refined((0.5, 1.0), 0.1, lambda factors: {it: 100.0 * (it >= 0.9) for it in factors}) == (
+    assert skin.refined((0.5, 1.0), 0.1, lambda factors: {it: 100.0 * (it >= 0.9) for it in factors}) == (
         0.5,
         0.9,
         1.0,

@@ -5,7 +5,7 @@ from helpers.verified import TEXT
 
 import pitplan
 from pitplan.results.columns import TABLES
-from pitplan.results.sheet_heads import heads_of
+from pitplan.results.rounding import heads_of
 
 
 @pytest.fixture(scope="module")

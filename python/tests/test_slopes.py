@@ -14,7 +14,7 @@ from hypothesis import given, strategies as st
 import pitplan
 from pitplan import PlanError
 from pitplan.config.slopes import Slopes, Wall
-from pitplan.slopes import cone_templates, slope_patterns
+from pitplan.slopes import slope_patterns
 from pitplan.solver import mine_files
 from planaudit.ground import slopes as audited
 from planaudit.inputs.project_keys import wall_of
@@ -330,10 +330,10 @@ def test_needs_that_leave_the_grid_at_its_sides_are_counted(plan_folder, tmp_pat
 
 def test_steps_to_a_cell_of_a_cone_and_beside_it():
     """The block above and those beside it: at the cone's very sides, over them, above the highest level, and the block itself."""
-    cone = cone_templates.of_steps(slope_patterns.FIVE)
+    cone = slope_patterns.of_steps(slope_patterns.FIVE)
     inside = [(0, 0, 1), (-1, 0, 1), (1, 0, 1), (0, -1, 1), (0, 1, 1)]
     outside = [(1, 1, 1), (-2, 0, 1), (2, 0, 1), (0, -2, 1), (0, 2, 1), (0, 0, 2), (1, 0, 2), (0, 0, 0), (0, 0, -1)]
-    assert cone_templates.holds(cone, np.array(inside + outside)).tolist() == [True] * len(inside) + [False] * len(
+    assert slope_patterns.holds(cone, np.array(inside + outside)).tolist() == [True] * len(inside) + [False] * len(
         outside
     )
 
@@ -372,8 +372,8 @@ def test_what_all_cones_have_are_the_steps_that_each_has():
         ((0, 0, 1), (1, 0, 1), (1, 1, 1), (3, 0, 2), (0, -1, 1)),
         ((0, 0, 1), (1, 1, 1), (0, -1, 1), (0, 4, 1), (0, 1, 3), (-2, 0, 1)),
     ]
-    met = cone_templates.meet([cone_templates.of_steps(steps) for steps in lists])
-    assert {tuple(step) for step in cone_templates.steps_of(met).tolist()} == {(0, 0, 1), (1, 1, 1), (0, -1, 1)}
+    met = slope_patterns.meet([slope_patterns.of_steps(steps) for steps in lists])
+    assert {tuple(step) for step in slope_patterns.steps_of(met).tolist()} == {(0, 0, 1), (1, 1, 1), (0, -1, 1)}
 
 
 @pytest.mark.parametrize("seed", range(6))

@@ -11,7 +11,7 @@ from helpers.verified import UNVERIFIED, differing
 
 import pitplan
 from pitplan import PlanError, load, verify
-from pitplan.economics import value_notes
+from pitplan.economics import block_values
 from pitplan.report import assumptions
 
 # Two blocks of ore side by side, each of 10,000 t: an oxide for the leach and a sulphide for the mill. The sulphide has 200 ppm of arsenic.
@@ -423,7 +423,7 @@ def test_report_and_notes_say_whose_metal_the_terms_apply_to(tmp_path):
     found = dict(assumptions.prices(project))
     assert found["selling cost of copper"] == "150 USD/t, metal of leach"
     assert found["payable copper"] == "96.5 %, minimum deduction 1 %, metal of mill"
-    assert value_notes.smelter_notes(project)[0].startswith("the smelter pays 96.154 % of the copper of mill and")
+    assert block_values.smelter_notes(project)[0].startswith("the smelter pays 96.154 % of the copper of mill and")
     whole = tmp_path / "all.toml"
     whole.write_text(TEXT.replace("selling_cost = 150\n", "").replace('["mill"]', '"all"'))
     assert dict(assumptions.prices(load(whole)))["payable copper"] == "96.5 %, minimum deduction 1 %"

@@ -14,7 +14,7 @@ from osgeo import gdal, ogr
 
 import pitplan
 from pitplan import Plan, PlanError, constraints, load
-from pitplan.blockmodel import tin as terrain
+from pitplan.blockmodel import topography
 
 gdal.UseExceptions()
 ogr.UseExceptions()
@@ -329,8 +329,8 @@ def test_heights_over_triangles_at_random(tmp_path):
     pd.DataFrame(points, columns=["x", "y", "z"]).to_csv(tmp_path / "mined.csv", index=False)
     (tmp_path / "project.toml").write_text(PROJECT)
     grid = Plan.from_project(load(tmp_path / "project.toml"), rows(9, 4, 1)).grid
-    triangles = terrain.triangles_of(read(tmp_path / "mined.csv"))
-    found = terrain.heights(triangles, grid)
+    triangles = topography.triangles_of(read(tmp_path / "mined.csv"))
+    found = topography.heights(triangles, grid)
     for place, (x, y) in enumerate((5 + 10 * i, 5 + 10 * j) for j in range(4) for i in range(9)):
         shares = [np.linalg.solve(np.vstack([it[:, :2].T, np.ones(3)]), [x, y, 1]) for it in triangles]
         over = [float(share @ it[:, 2]) for share, it in zip(shares, triangles) if share.min() >= 0]

@@ -12,7 +12,7 @@ from scipy.interpolate import LinearNDInterpolator
 
 import pitplan
 from pitplan import PlanError, verify
-from pitplan.blockmodel import tin, topography_cut
+from pitplan.blockmodel import topography
 from pitplan.cli import main
 from pitplan.results.folder import read_record
 from pitplan.survey.readers import NO_FACES, Topography
@@ -158,7 +158,7 @@ def test_shares_are_those_of_many_heights(seed):
     points = np.column_stack([rng.uniform(-5, 35, 40), rng.uniform(-5, 25, 40), rng.uniform(-5, 40, 40)])
     points = np.concatenate([points, [(x, y, rng.uniform(-5, 40)) for x in (-9, 39) for y in (-9, 29)]])
     grid = pitplan.blockmodel.grid.Grid((3, 2, 3), (5, 5, 25), (10, 10, 10), np.arange(18))
-    found = tin.below(tin.triangles_of(Topography(points, NO_FACES)), grid)
+    found = topography.below(topography.triangles_of(Topography(points, NO_FACES)), grid)
     within = (np.arange(150) + 0.5) / 15
     surface = LinearNDInterpolator(points[:, :2] - points[:, :2].mean(axis=0), points[:, 2])
     for column, row in np.ndindex(3, 2):
@@ -173,10 +173,10 @@ def test_few_triangles_at_a_time_are_the_same(monkeypatch):
     rng = np.random.default_rng(4)
     points = np.column_stack([rng.uniform(-5, 65, 80), rng.uniform(-5, 45, 80), rng.uniform(0, 40, 80)])
     grid = pitplan.blockmodel.grid.Grid((4, 4, 6), (5, 5, 35), (10, 10, 10), np.arange(96))
-    triangles = tin.triangles_of(Topography(points, NO_FACES))
-    whole = tin.below(triangles, grid), tin.heights(triangles, grid)
-    monkeypatch.setattr(tin, "PAIRS", 3)
-    part = tin.below(triangles, grid), tin.heights(triangles, grid)
+    triangles = topography.triangles_of(Topography(points, NO_FACES))
+    whole = topography.below(triangles, grid), topography.heights(triangles, grid)
+    monkeypatch.setattr(topography, "PAIRS", 3)
+    part = topography.below(triangles, grid), topography.heights(triangles, grid)
     assert part[0].share == pytest.approx(whole[0].share) and part[0].covered == pytest.approx(whole[0].covered)
     assert (part[1] == whole[1]).all()
 
@@ -227,8 +227,8 @@ def test_faces_that_stand_twice_count_once(plan_folder, tmp_path):
 
 def test_a_topography_is_read_once_while_it_stays(plan_folder, tmp_path, monkeypatch):
     """Plans of other costs take what was cut; with another file or grid it is cut anew."""
-    right, cuts = tin.below, []
-    monkeypatch.setattr(tin, "below", lambda *given: cuts.append(1) or right(*given))
+    right, cuts = topography.below, []
+    monkeypatch.setattr(topography, "below", lambda *given: cuts.append(1) or right(*given))
     plane(tmp_path, lambda x, y: x)
     path = plan_folder(rows(3, 1, 3), PROJECT, CUT)
     assert [tonnes_of(path)["b0-0-0"] for _ in range(3)] == [50] * 3 and len(cuts) == 1
@@ -388,11 +388,11 @@ def test_no_block_has_more_than_the_table_gives_or_less_than_nothing(cut_hill, m
 def test_a_run_that_cuts_wrong_is_refused(plan_folder, tmp_path, monkeypatch, bent):
     """Blocks are left whole, or cut a metre too high."""
     plane(tmp_path, lambda x, y: 12 + 0.2 * x)
-    right = tin.below
+    right = topography.below
     if bent == "share":
-        monkeypatch.setattr(topography_cut, "cut", lambda frame, *_: (frame, []))
+        monkeypatch.setattr(topography, "cut", lambda frame, *_: (frame, []))
     else:
-        monkeypatch.setattr(tin, "below", lambda triangles, grid: right(triangles + [0, 0, 1], grid))
+        monkeypatch.setattr(topography, "below", lambda triangles, grid: right(triangles + [0, 0, 1], grid))
     with pytest.raises(PlanError, match="topography: block "):
         pitplan.write_shells(plan_folder(rows(6, 5, 3, cu=lambda i, j, k: 2), PROJECT, CUT))
 

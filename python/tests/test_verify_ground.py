@@ -17,7 +17,7 @@ from helpers.verified import looked_at, ore_everywhere, wrong
 
 import pitplan
 from pitplan import Plan, PlanError, constraints, load, verify
-from pitplan.blockmodel import missing_blocks, tin
+from pitplan.blockmodel import missing_blocks, topography
 from pitplan.results.folder import read_record
 from pitplan.solver import problem
 
@@ -129,14 +129,14 @@ def test_a_surface_that_is_not_laid_between_its_points_is_found(plan_folder, tmp
     path = surfaced(plan_folder, tmp_path, [(x, y, 20 - 0.3 * x) for x in (-90, 160) for y in (-70, 120)])
     assert fixed_rule(path).differences == ()
     assert "with the mined-out blocks" in fixed_rule(path).holds
-    monkeypatch.setattr(tin, "heights", lambda triangles, grid: np.full(grid.per_level, 1000.0))
+    monkeypatch.setattr(topography, "heights", lambda triangles, grid: np.full(grid.per_level, 1000.0))
     rule = fixed_rule(path)
     assert (rule.count, rule.differences[0]) == (
         3 * 5 + 3 * 2,
         "block b5-0-0 is must-mine, and is mined from revenue factor 0.00",
     )
     monkeypatch.setattr(
-        tin,
+        topography,
         "heights",
         lambda triangles, grid: 20 - 0.3 * (grid.centres(np.arange(grid.per_level))[0] - 600_000) + 3,
     )

@@ -16,7 +16,7 @@ from browser import Browser, needs_chromium
 import pitplan
 from pitplan import PlanError
 from pitplan.core.progress import silent
-from pitplan.report import viewer3d, viewer_kinds
+from pitplan.report import viewer3d
 from pitplan.results.folder import read_folder
 
 KEPT = Path(__file__).parent / "expected" / "view.png"
@@ -367,6 +367,6 @@ def test_many_codes_share_the_last_colour(solved, monkeypatch):
     folder = read_folder(solved[1])
     codes = np.array([f"R{number % 20}" for number in range(len(folder.blocks))])
     solid = np.ones(len(codes), dtype=bool)
-    kind = viewer_kinds.kind_of(folder, "rock", codes, solid, lambda cells: cells)
-    assert len(kind["labels"]) == len(kind["colours"]) == len(viewer_kinds.PALETTE) and kind["labels"][-1] == "others"
-    assert kind["cells"].max() == len(viewer_kinds.PALETTE)
+    kind = viewer3d.kind_of(folder, "rock", codes, solid, lambda cells: cells)
+    assert len(kind["labels"]) == len(kind["colours"]) == len(viewer3d.PALETTE) and kind["labels"][-1] == "others"
+    assert kind["cells"].max() == len(viewer3d.PALETTE)

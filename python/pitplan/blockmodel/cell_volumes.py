@@ -18,8 +18,7 @@ from pitplan.core.decimals import Exact
 from pitplan.core.numeric_fields import at_row
 from pitplan.errors import WARNING
 
-from .axes import Frame
-from .rotated_grid import azimuth_of
+from .grid import Frame, azimuth_of
 
 # Tonnes that are computed are kept to a gram, grades to nine decimals; halves to the even one.
 TONNES_PLACES, GRADE_PLACES = 6, 9

@@ -17,7 +17,7 @@ from pitplan.config.table import MissingRock
 from pitplan.core.revenue_factors import factor_text
 from pitplan.errors import PlanError
 
-from . import cost_factors
+from . import reader
 from .grid import Grid
 
 
@@ -40,7 +40,7 @@ def with_rows(frame: pd.DataFrame, grid: Grid, project: Project) -> tuple[pd.Dat
     for name, centres in zip((columns.x, columns.y, columns.z), grid.centres(cells)):
         added[name] = centres
     added[columns.tonnes] = rock.tonnes
-    added[list(project.economics.factor_columns)] = cost_factors.UNADJUSTED
+    added[list(project.economics.factor_columns)] = reader.UNADJUSTED
     codes = {
         columns.id: [f"absent-{cell}" for cell in cells],
         columns.rock_type: rock.rock_type,

@@ -14,10 +14,12 @@ from pitplan.core.numeric_fields import is_numeric
 from pitplan.core.table_layout import NAMES
 from pitplan.errors import WARNING
 
-from .column_roles import SIZES, UNUSED, Role
-from .guessed_model import (
+from .guesses import (
     NEEDED,
+    SIZE_ROLES,
+    UNUSED,
     Model,
+    Role,
     has_several_sizes,
     least_gap,
     share_of,
@@ -26,8 +28,7 @@ from .guessed_model import (
     turned_grid,
     volumes_of,
 )
-from .plausibility import of_codes
-from .summary import Axis, Grade, mean_of, not_used
+from .summary import Axis, Grade, mean_of, not_used, of_codes
 
 HEADINGS = ("column", "role", "unit", "nulls", "least", "mean", "greatest", "why")
 UNITS = {"tonnes": "t", "density": "t/m3", "volume": "m3"}
@@ -229,7 +230,7 @@ def key_of(model: Model, name: str) -> str:
     """Returns the role of a column as `--role` has it."""
     columns = model.columns
     keys = {guess.column: axis for axis, guess in columns.centres.items()}
-    keys |= {columns.sizes[axis].column: key for key, axis in SIZES.items() if axis in columns.sizes}
+    keys |= {columns.sizes[axis].column: key for key, axis in SIZE_ROLES.items() if axis in columns.sizes}
     keys |= {metal.column: Role(metal.metal, metal.unit).text for metal in columns.metals}
     named = {guess.column: key for key, guess in columns.named.items()}
     return UNUSED if name in unused(model) else keys.get(name, named.get(name, UNUSED))

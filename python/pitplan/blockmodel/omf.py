@@ -20,8 +20,7 @@ import pandas as pd
 from pitplan.core.numeric_fields import as_codes
 from pitplan.errors import PlanError
 
-from .axes import PLACES
-from .grid import MOST_CELLS
+from .grid import MOST_CELLS, PLACES
 
 ENDING = ".omf"
 MAGIC = b"\x84\x83\x82\x81"

@@ -1,6 +1,6 @@
-"""Reads the table of blocks from a file or from pandas, and checks it completely.
+"""Cost adjustment factors of blocks: MCAF multiplies the mining cost, PCAF the processing cost.
 
-Rows are counted as in a spreadsheet: if the header is row 1, the first block is row 2.
+A block with tonnes needs a factor from 0; an empty field is an error. A block without tonnes costs nothing, so an empty field is 1 there.
 """
 
 from __future__ import annotations
@@ -18,16 +18,27 @@ from pitplan.config.table import TableColumns
 from pitplan.core import parquet, spreadsheet_formulas
 from pitplan.core.numeric_fields import Source, at_row, holds_texts, numbers_of, row_of
 from pitplan.core.table_layout import NAMES, Layout, layout_of
-from pitplan.core.text_format import MIXED, USUAL, Mixed, TableFormat, encoding_of, first_lines, names_in_header
+from pitplan.core.text_format import (
+    MIXED,
+    UNREADABLE,
+    USUAL,
+    Mixed,
+    TableFormat,
+    encoding_of,
+    first_lines,
+    names_in_header,
+    unreadable,
+)
 from pitplan.core.text_tables import Fields, demand_columns, demand_each_once, read_columns
 from pitplan.errors import PlanError
 
-from . import cell_volumes, cost_factors, model_files, resource_classes
+from . import cell_volumes, datamine, omf, resource_classes
 from .cell_volumes import Cells
 from .row_rules import numbers_of_codes, ruled
-from .table_checks import demand_amounts, demand_codes
-from .table_columns import (
+from .table_checks import (
     codes_of,
+    demand_amounts,
+    demand_codes,
     demand_codes_apart,
     file_columns,
     grades_of,
@@ -35,6 +46,54 @@ from .table_columns import (
     text_columns,
     untyped_columns,
 )
+
+# The factor of a block whose cost is not adjusted.
+UNADJUSTED = 1.0
+
+
+def complete(frame: pd.DataFrame, project: Project, source: str) -> None:
+    """Fills empty factors of blocks without tonnes, in place; `frame` has numbers, nan where a field is empty.
+
+    Raises PlanError, by row and column, if a factor is negative, or empty in a block with tonnes.
+    """
+    money, solid = project.economics, frame[project.table.tonnes].to_numpy() > 0
+    for key, name in (("mcaf", money.mcaf), ("pcaf", money.pcaf)):
+        if not name:
+            continue
+        factors, expected = frame[name].to_numpy(), f"expected the [economics] {key} of the block, a number from 0"
+        negative, empty = factors < 0, np.isnan(factors)
+        if negative.any():
+            row = int(negative.argmax())
+            raise at_row(source, row, name, f"{factors[row]:g} is negative: {expected}")
+        if (empty & solid).any():
+            remedy = "write 1 if its cost is not adjusted"
+            raise at_row(source, int((empty & solid).argmax()), name, f"is empty: {expected}: {remedy}")
+        frame[name] = np.where(empty, UNADJUSTED, factors)
+
+
+# Bytes of the longest first page of a Datamine file.
+HEAD = 8 * datamine.PAGE
+# A record is a row, from 1, and no row has the names.
+ROWS = (0, 1)
+
+
+def is_model(file: Path) -> bool:
+    """Returns whether a file is a block model of OMF or of Datamine. Raises PlanError if it cannot be read."""
+    try:
+        with open(file, "rb") as data:
+            head = data.read(HEAD)
+    except UNREADABLE as error:
+        raise unreadable(file, error) from error
+    return omf.is_omf(file, head) or datamine.is_datamine(file, head)
+
+
+def read_model(file: Path, codes: Sequence[str] = ()) -> Optional[tuple[pd.DataFrame, str]]:
+    """Returns the block model of a file and how it was recognised; None for a table. Raises PlanError as the readers do."""
+    if not is_model(file):
+        return None
+    with open(file, "rb") as data:
+        head = data.read(HEAD)
+    return (omf if omf.is_omf(file, head) else datamine).read(file, codes)
 
 
 @dataclass(frozen=True)
@@ -89,9 +148,9 @@ def read(project: Project) -> Table:
         return replace(
             checked(frame, project, str(columns.file)), unused=tuple(name for name in names if name not in wanted)
         )
-    model = model_files.read(columns.file, codes)
+    model = read_model(columns.file, codes)
     if model is not None:
-        source = Source.of(str(columns.file), model_files.ROWS)
+        source = Source.of(str(columns.file), ROWS)
         table = checked(model[0], project, source)
         return replace(table, notes=(model[1], *table.notes))
     # The type of these columns is unknown: they are read as texts, since pieces of them may look like numbers.
@@ -106,9 +165,9 @@ def read(project: Project) -> Table:
 
 def read_whole(file: Path) -> tuple[pd.DataFrame, TableFormat]:
     """Returns all columns of a file without a project, and its format. Raises PlanError if it is not a table."""
-    model = model_files.read(file)
+    model = read_model(file)
     if model is not None:
-        header, first = model_files.ROWS
+        header, first = ROWS
         return model[0], TableFormat(",", ".", USUAL, header, first, layout=Layout(",", kind=model[1]))
     form = recognised(file)
     frame = read_columns(file, form)
@@ -229,7 +288,7 @@ def with_tonnes(frame: pd.DataFrame, project: Project, source: str) -> tuple[pd.
     table, rules = project.table, project.table.rules
     if table.density or rules.rock_percent:
         frame[table.tonnes] = cell_volumes.tonnes(frame, project)
-    cost_factors.complete(frame, project, source)
+    complete(frame, project, source)
     if not frame[table.tonnes].any():
         raise PlanError(f"{source} column {table.tonnes}: all tonnes are 0")
     if rules.ore_percent is not None:

@@ -15,8 +15,7 @@ from pitplan.core.expressions import Expression, ExpressionError
 from pitplan.core.numeric_fields import Source, at_row, is_numeric, numbers_of
 from pitplan.errors import PlanError
 
-from .table_checks import demand_no_nul
-from .table_columns import centroids, codes_of, file_columns, names_of
+from .table_checks import centroids, codes_of, demand_no_nul, file_columns, names_of
 
 # Different codes that an error lists.
 MOST_LISTED = 8

@@ -19,12 +19,10 @@ from pitplan.core.atomic_files import staged_file
 from pitplan.core.layout import figure_of_model
 from pitplan.errors import PlanError
 
-from .column_guesses import PRECIOUS, MetalGuess
-from .column_roles import Role
-from .guessed_model import Model, has_several_sizes, read, share_of, size_of, tonnes_of
+from .guesses import PRECIOUS, MetalGuess, Model, Role, has_several_sizes, read, share_of, size_of, tonnes_of
 from .model_overview import Overview, Written, overview
-from .plausibility import USUAL_PRICES
 from .reader import filled_numbers
+from .summary import USUAL_PRICES
 
 TEMPLATES = Path(__file__).resolve().parents[1] / "templates"
 SHARES = {"percent": 0.01, "fraction": 1.0, "gram_per_tonne": 1.0}

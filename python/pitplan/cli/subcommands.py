@@ -14,7 +14,7 @@ from pitplan.core.progress import Progress, on_standard_error, silent
 if TYPE_CHECKING:
     from pathlib import Path
 
-    from pitplan.blockmodel.guessed_model import Model
+    from pitplan.blockmodel.guesses import Model
     from pitplan.config.project import Project
     from pitplan.studies.scenarios.result import ScenarioResult
 
@@ -54,7 +54,7 @@ def init(options: Namespace) -> int:
     import json
 
     from pitplan.blockmodel import wizard
-    from pitplan.blockmodel.column_roles import roles_of_words
+    from pitplan.blockmodel.guesses import roles_of_words
 
     from .printing import print_notes
 

@@ -19,8 +19,7 @@ from pitplan.pushbacks import nested
 from pitplan.pushbacks.nested import Pushbacks
 from pitplan.report import html
 from pitplan.results import names
-from pitplan.results.conventions import with_outline
-from pitplan.results.rounding import named, shown, write_csv
+from pitplan.results.rounding import named, shown, with_outline, write_csv
 from pitplan.solver import mine_files, problem
 from pitplan.solver.problem import Mine
 from pitplan.solver.program import Solution

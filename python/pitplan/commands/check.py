@@ -2,7 +2,7 @@
 
 from __future__ import annotations
 
-from pitplan.blockmodel.figure_bounds import demand_within
+from pitplan.blockmodel.grid import demand_within
 from pitplan.config.project import Project
 from pitplan.core.progress import Progress, silent
 from pitplan.core.warned import warn

@@ -5,7 +5,7 @@ from __future__ import annotations
 from pathlib import Path
 from typing import Any
 
-from pitplan.blockmodel.figure_bounds import demand_within
+from pitplan.blockmodel.grid import demand_within
 from pitplan.config import project_writer
 from pitplan.config.project import Project
 from pitplan.core import layout, staging

@@ -17,7 +17,7 @@ from pitplan.core.optional_packages import load_library
 from pitplan.core.revenue_factors import factor_text
 from pitplan.export.mesh import write_image as write_vti
 from pitplan.results import columns
-from pitplan.results.conventions import with_discounting
+from pitplan.results.rounding import with_discounting
 from pitplan.studies.scenarios import pit_probability, run
 from pitplan.studies.scenarios.inclusion import Likely
 from pitplan.studies.scenarios.pit_probability import Gathered

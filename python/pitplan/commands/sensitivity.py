@@ -16,9 +16,7 @@ from pitplan.core.warned import warn
 from pitplan.errors import InputWarning
 from pitplan.export import xlsx
 from pitplan.results import names
-from pitplan.results.conventions import with_discounting
-from pitplan.results.rounding import named, shown, write_csv
-from pitplan.results.sheet_heads import heads_of
+from pitplan.results.rounding import heads_of, named, shown, with_discounting, write_csv
 from pitplan.studies.dask_pool import Where
 from pitplan.studies.sensitivity import cases as varied_cases, hill, store
 from pitplan.studies.sensitivity.cases import Case, Sensitivity, rules_of

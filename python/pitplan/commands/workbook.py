@@ -11,9 +11,7 @@ from pitplan.export import xlsx
 from pitplan.export.schedule_sheets import CashFlowSheet, ReserveSheet, sheet_rows
 from pitplan.pushbacks import nested
 from pitplan.results import names
-from pitplan.results.conventions import with_discounting, with_outline
-from pitplan.results.rounding import named, shown
-from pitplan.results.sheet_heads import heads_of
+from pitplan.results.rounding import heads_of, named, shown, with_discounting, with_outline
 
 from .schedule_tables import INVENTORY, ScheduleTables
 

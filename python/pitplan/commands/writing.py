@@ -12,7 +12,7 @@ from typing import Any, Iterable, Iterator, Optional, Union
 
 import pandas as pd
 
-from pitplan.blockmodel.figure_bounds import demand_within
+from pitplan.blockmodel.grid import demand_within
 from pitplan.config import project_writer
 from pitplan.config.figures import FORMATS
 from pitplan.config.project import Project, inputs_beside, load, validated

@@ -1,19 +1,15 @@
-"""Economic block values: revenue and cost of each node of the solver.
+"""Several processes: the one that each block is sent to at each revenue factor, as nodes that never count a block twice.
 
-The first node of a block is mining it: a cost without revenue. A mineralised block has a second node for processing, with the revenue of its
-metal and the cost of processing and selling, which depends on the first. So the solver processes a mined block exactly if that pays at the
-revenue factor: the cut-off is re-evaluated at each. With a fixed cut-off a block has one node, and ore is selected at the base price.
-
-Of a block that is processed, a share is lost in mining, and the rest is diluted with rock at zero grade. The result is the mill feed, to
-which processing costs, head grades and capacities refer. The diluting rock belongs to other blocks, so total material stays as in the
-table. A royalty on revenue is subtracted from it, so it scales with the price.
-
-A block whose resource class is treated as waste has no revenue and no metal.
+At a revenue factor a block is sent to the process with the greatest `factor * revenue - cost`, or to waste: the upper envelope of lines in the
+factor. The envelope is a sum of steps: from waste to the first process that pays as the factor rises, and from each process to the next
+better one. So a block has a node for each step, with the revenue and cost that the step adds, which depends on the node of the step before.
+The solver takes as many steps as pay, which add up to one process. Each step pays from its own factor on, so shells nest.
 """
 
 from __future__ import annotations
 
 from dataclasses import dataclass, replace
+from decimal import Decimal
 from functools import cached_property
 from typing import Optional
 
@@ -22,17 +18,279 @@ import pandas as pd
 
 from pitplan.blockmodel import resource_classes
 from pitplan.blockmodel.grid import MOST_BLOCKS, Grid
-from pitplan.config.economics import AT_BASE_PRICE, PER_REVENUE_FACTOR
+from pitplan.config.economics import AT_BASE_PRICE, PER_REVENUE_FACTOR, ByCode, ByDomain, Curve, Metal
 from pitplan.config.project import Project
 from pitplan.core.decimals import Exact, Rounding, at_factor, product, total
 from pitplan.core.revenue_factors import BASE_PRICE
 from pitplan.errors import PlanError
 
-from .acceptance import accepted_by
-from .haulage import Hauled
-from .process_routing import Steps, Way, best_way, most_steps, steps_of, worth
-from .value_notes import notes_of
-from .weighing import Rows
+from .smelter_terms import charge, net, payable_share
+from .weighing import HIGH_GRADES, Feed, Hauled, Rows, accepted_by
+
+
+@dataclass(frozen=True)
+class Way:
+    """One process: revenue and cost of each cell in millionths, and the recovered quantity of each metal. `name` is "" if there is only one."""
+
+    name: str
+    revenue: np.ndarray
+    cost: np.ndarray
+    metal: dict[str, np.ndarray]
+
+    def within(self, cells: np.ndarray) -> Way:
+        """The same with neither revenue nor cost nor metal outside some cells; `cells` is a mask."""
+        metal = {name: np.where(cells, amounts, 0.0) for name, amounts in self.metal.items()}
+        return Way(self.name, np.where(cells, self.revenue, 0), np.where(cells, self.cost, 0), metal)
+
+
+@dataclass(frozen=True)
+class Steps:
+    """The processing nodes, by block and step.
+
+    Attributes
+    ----------
+    block : int array
+        The cell of each node.
+    way : int array
+        The number of the process that the step leads to; -1 for a node without a step.
+    revenue, cost : int64 array
+        What the step adds to those of the step before, in millionths.
+    """
+
+    block: np.ndarray
+    way: np.ndarray
+    revenue: np.ndarray
+    cost: np.ndarray
+
+    def on(self, block: np.ndarray) -> Steps:
+        """The same steps on given nodes, whose blocks rise and repeat as often as they have nodes.
+
+        The steps of a block take its first nodes. Its other nodes cost and yield nothing, and only such nodes depend on them. So at every
+        factor the smallest pit has the same blocks and the same steps as without these nodes.
+
+        Raises
+        ------
+        PlanError
+            If a block has more steps than nodes.
+        """
+        rank = np.arange(len(self.block)) - np.searchsorted(self.block, self.block)
+        at = np.searchsorted(block, self.block) + rank
+        lacking = at >= len(block)
+        lacking[~lacking] = block[at[~lacking]] != self.block[~lacking]
+        if lacking.any():
+            raise PlanError(
+                f"cell {self.block[lacking][0]} has more steps than nodes that scenarios share: please report this"
+            )
+        way, revenue, cost = (np.full(len(block), empty, dtype=np.int64) for empty in (-1, 0, 0))
+        way[at], revenue[at], cost[at] = self.way, self.revenue, self.cost
+        return Steps(block, way, revenue, cost)
+
+
+def best_way(ways: tuple[Way, ...], factor: float) -> np.ndarray:
+    """Returns for each cell the process with the greatest value at a revenue factor; of several the one with the least revenue, at which the steps
+    end.
+    """
+    best = np.zeros(len(ways[0].revenue), dtype=np.int8)
+    if len(ways) == 1:
+        return best
+    gain, revenue = worth(ways[0], factor), ways[0].revenue
+    for number, way in enumerate(ways[1:], 1):
+        other = worth(way, factor)
+        better = np.array((other > gain) | ((other == gain) & (way.revenue < revenue)), dtype=bool)
+        best[better] = number
+        gain, revenue = np.where(better, other, gain), np.where(better, way.revenue, revenue)
+    return best
+
+
+def worth(way: Way, factor: float) -> np.ndarray:
+    """Returns the value of each cell in a process at a revenue factor, without mining, in billionths."""
+    return at_factor(factor, way.revenue, way.cost)
+
+
+def most_steps(ways: tuple[Way, ...]) -> np.ndarray:
+    """Returns the block of each node that the steps may take if no cell has more revenue in any process: one per process with a revenue.
+
+    Each step has more revenue than the one before, so a block has no more steps than such processes.
+    """
+    counts = np.sum([way.revenue > 0 for way in ways], axis=0)
+    return np.repeat(np.arange(len(counts)), counts)
+
+
+def steps_of(ways: tuple[Way, ...]) -> Steps:
+    """Returns the steps of each cell. The next step leads to the process of more revenue that is better from the least factor on; of several to
+    the one with the most revenue.
+    """
+    revenues, costs = (np.stack([getattr(way, name) for way in ways]).astype(object) for name in ("revenue", "cost"))
+    block = np.flatnonzero((revenues > 0).any(axis=0))
+    revenue, cost = np.zeros(len(block), dtype=object), np.zeros(len(block), dtype=object)
+    found = []
+    while len(block):
+        following = next_way(revenues[:, block] - revenue, costs[:, block] - cost)
+        some = following >= 0
+        block, following, revenue, cost = block[some], following[some], revenue[some], cost[some]
+        then, spent = revenues[following, block], costs[following, block]
+        found.append((block, following, then - revenue, spent - cost))
+        revenue, cost = then, spent
+    columns = [np.concatenate(column) for column in zip(*found)] if found else [np.zeros(0, dtype=np.int64)] * 4
+    # Steps were found one of each block at a time, so that a stable order by blocks keeps them one after the other.
+    order = np.argsort(columns[0], kind="stable")
+    block, way, more, dearer = (column[order].astype(np.int64) for column in columns)
+    return Steps(block, way, more, dearer)
+
+
+def next_way(more: np.ndarray, dearer: np.ndarray) -> np.ndarray:
+    """Returns the process of each block to which the next step leads, -1 if none has more revenue; from arrays of shape (processes, blocks)."""
+    best = np.full(more.shape[1], -1)
+    for number in range(len(more)):
+        rises = np.array(more[number] > 0, dtype=bool)
+        at = np.maximum(best, 0), np.arange(more.shape[1])
+        # The factor from which on a step pays is what it costs by what it brings.
+        mine, other = dearer[number] * more[at], dearer[at] * more[number]
+        sooner = np.array((mine < other) | ((mine == other) & (more[number] > more[at])), dtype=bool)
+        best[rises & ((best < 0) | sooner)] = number
+    return best
+
+
+def grade_notes(rows: Rows) -> list[str]:
+    """Returns warnings about grades with an unusually high mean for their unit."""
+    notes = []
+    for metal in rows.project.metals:
+        grades = rows.frame[metal.column].to_numpy()
+        some = grades[grades > 0]
+        if len(some) and some.mean() > HIGH_GRADES[metal.unit]:
+            notes.append(
+                f'WARNING: the mean grade of {metal.name} in blocks above 0 is {some.mean():.4g} {metal.sign}: check the unit "{metal.unit}"'
+            )
+    return notes
+
+
+def notes_of(rows: Rows, feed: Feed) -> tuple[str, ...]:
+    """Returns warnings about grades, and notes on rock types, mill feed and recoveries."""
+    solid, project = np.array(rows.tonnes.whole > 0, dtype=bool), rows.project
+    notes = [
+        *grade_notes(rows),
+        *feed_notes(project),
+        *smelter_notes(project),
+        *factor_notes(rows),
+        *haulage_notes(rows),
+    ]
+    for process, way in zip([process.name for process in project.processes] or [""], project.by_process):
+        of_way = [*rock_notes(way, rows.rock, solid), *recovery_notes(replace(rows, project=way), feed)]
+        notes += [f"{process}: {note}" for note in of_way] if process else of_way
+    return tuple(notes)
+
+
+def feed_notes(project: Project) -> list[str]:
+    """Returns notes on mining recovery, dilution and royalty, if the project has any."""
+    money, notes = project.economics, []
+    if money.mining_recovery != 1 or money.dilution != 0:
+        recovery, dilution = said_of(money.mining_recovery), said_of(money.dilution)
+        notes.append(
+            f"mining recovery {recovery}, dilution {dilution} at zero grade; "
+            "feed tonnes, head grades and processing costs are of the mill feed"
+        )
+    if money.royalty:
+        notes.append(
+            f"royalty {(100 * money.royalty).normalize():f} % of gross revenue, before selling costs, at every revenue factor"
+        )
+    if money.royalty_per_tonne:
+        notes.append(
+            f"royalty {money.royalty_per_tonne:f} {money.currency} per tonne of ore, as part of the processing cost"
+        )
+    return notes
+
+
+def smelter_notes(project: Project) -> list[str]:
+    """Returns the net smelter return of each metal with smelter terms, with a warning if it is not above 0."""
+    notes, currency = [], project.economics.currency
+    for metal in [metal for metal in project.metals if metal.smelter and metal.price]:
+        whole, left = metal.by_quantity(metal.price), net(metal, metal.price, Decimal(0))
+        said = (
+            f"the smelter pays {100 * payable_share(metal):.5g} % of the {metal.name}{of_processes(metal)} and charges {charge(metal, metal.price):.6g} {currency} per "
+            f"recovered {metal.quantity}: the net smelter return is {100 * left / whole:.4g} % of the price, before penalties and royalty"
+        )
+        notes.append(said if left > 0 else f"WARNING: {said}: check the units of [metals.smelter]")
+    return notes
+
+
+def of_processes(metal: Metal) -> str:
+    """Returns the processes whose metal is sold by smelter terms, if these do not apply to all."""
+    terms = metal.smelter
+    return f" of {', '.join(terms.processes)}" if terms is not None and isinstance(terms.processes, tuple) else ""
+
+
+def factor_notes(rows: Rows) -> list[str]:
+    """Returns the range and the mean by tonnes of cost adjustment factors."""
+    money, tonnes, notes = rows.project.economics, rows.tonnes.floats(), []
+    solid = tonnes > 0
+    for column, cost in ((money.mcaf, "mining cost"), (money.pcaf, "processing cost")):
+        if column and solid.any():
+            factors = rows.frame[column].to_numpy()[solid]
+            least, mean, most = factors.min(), np.average(factors, weights=tonnes[solid]), factors.max()
+            notes.append(
+                f"the {cost} of each block is multiplied by {column}: {least:.4g} to {most:.4g}, on average {mean:.4g} by tonnes"
+            )
+    return notes
+
+
+def haulage_notes(rows: Rows) -> list[str]:
+    """Returns the range of haul distances, and which costs include haulage."""
+    if rows.roads is None:
+        return []
+    rules, metres = rows.roads.rules, rows.roads.metres.floats()
+    place = ", ".join(f"{axis:f}" for axis in rules.pit_exit)
+    return [
+        f"haul distances to the pit exit at {place} are {metres.min():,.0f} to {metres.max():,.0f} m: the distance in plan and a ramp "
+        f"of {(100 * rules.ramp_gradient).normalize():f} %; mining costs hold haulage as waste, processing costs what ore costs more"
+    ]
+
+
+def recovery_notes(rows: Rows, feed: Feed) -> list[str]:
+    """Returns notes on recovery curves and constant tails grades."""
+    notes = []
+    for metal in rows.project.metals:
+        of_rocks = metal.recovery if isinstance(metal.recovery, dict) else {"": metal.recovery}
+        notes += [curve_note(rows, feed, metal, rock) for rock, share in of_rocks.items() if isinstance(share, Curve)]
+        if metal.tail_grade:
+            notes.append(
+                f"constant tail of {metal.name}: {said_of(metal.tail_grade)} {metal.sign} of every tonne of feed are lost"
+            )
+    return notes
+
+
+def curve_note(rows: Rows, feed: Feed, metal: Metal, rock: str) -> str:
+    """Returns a note on a recovery curve, of a rock type or of all, with the number of blocks beyond its grades."""
+    curve = metal.recovery[rock] if isinstance(metal.recovery, dict) else metal.recovery
+    assert isinstance(curve, Curve)
+    least, most = float(curve.points[0][0]), float(curve.points[-1][0])
+    grades = rows.frame[metal.column].to_numpy() / feed.tonnes_of.floats()
+    mine = (grades > 0) & ((rows.rock == rock) | (not isinstance(metal.recovery, dict)))
+    beyond = np.count_nonzero(mine & ((grades < least) | (grades > most)))
+    return (
+        f"recovery of {metal.name}{f' in {rock}' if rock else ''} depends on the head grade; {beyond:,} of {np.count_nonzero(mine):,} "
+        f"blocks lie outside {least:g} to {most:g} {metal.sign}, where it is constant"
+    )
+
+
+def said_of(value: ByCode) -> str:
+    """Returns the text of one number, or of the numbers of all codes."""
+    if isinstance(value, Decimal):
+        return f"{value:f}"
+    by_code = value.values if isinstance(value, ByDomain) else value
+    return ", ".join(f"{number:f} in {code}" for code, number in by_code.items())
+
+
+def rock_notes(project: Project, rock: np.ndarray, solid: np.ndarray) -> list[str]:
+    """Returns notes on rock types that are never processed, and on codes that no block has."""
+    notes, present = [], set(pd.unique(rock[solid]))
+    for metal in project.metals:
+        if isinstance(metal.recovery, dict):
+            for code in sorted(present - set(metal.recovery)):
+                blocks = int(np.count_nonzero(solid & (rock == code)))
+                notes.append(f"{blocks:,} blocks of rock type {code} have no recovery of {metal.name} and yield none")
+            for code in sorted(set(metal.recovery) - present):
+                notes.append(f"recovery of {metal.name} names rock type {code}, which no block has")
+    return notes
 
 
 @dataclass(frozen=True)

@@ -13,9 +13,8 @@ from pitplan.blockmodel.grid import Grid
 from pitplan.config.project import Project
 from pitplan.core.decimals import Exact
 
-from .block_values import Values
+from .block_values import Values, Way
 from .period_costs import PROCESSING_COST, SELLING_COST, SMELTED, of_project
-from .process_routing import Way
 from .smelter_terms import PENALTIES, multiplied, net
 from .weighing import HAULAGE, MILLIONTHS, Rows
 

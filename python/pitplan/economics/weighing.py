@@ -1,4 +1,4 @@
-"""Rows of a block model valued in the currency: mill feed, recovered metal, revenue and cost in each process."""
+"""Metallurgical recovery by head grade."""
 
 from __future__ import annotations
 
@@ -6,22 +6,151 @@ import math
 from dataclasses import dataclass
 from decimal import Decimal
 from functools import cached_property, reduce
-from typing import Optional
+from typing import Optional, Union
 
 import numpy as np
 import pandas as pd
+from numpy.typing import NDArray
 
 from pitplan.blockmodel.grid import Grid
-from pitplan.config.economics import GRADE_UNITS, ByCode, ByDomain, Economics, Metal
+from pitplan.config.acceptance import Accepts
+from pitplan.config.codes import CLASS, DOMAIN, ROCK_TYPE
+from pitplan.config.economics import GRADE_UNITS, ByCode, ByDomain, Curve, Economics, Metal, Recovery
+from pitplan.config.haulage import Haulage, Road
 from pitplan.config.project import Project
-from pitplan.core.decimals import Exact, Rounding
+from pitplan.core.decimals import Exact, Rounding, nearest, whole_and_places
 from pitplan.core.numeric_fields import at_row
 
-from . import recovery_curves
-from .haulage import Hauled, Roads
-from .process_routing import Way
-from .recovery_curves import Head
+from .block_values import Way
 from .smelter_terms import charge_of_ore, paid, penalty_rates
+
+# A recovery by grade is kept to a millionth, since the line between two grades has no end of decimals.
+PLACES = 6
+
+
+@dataclass(frozen=True)
+class Head:
+    """The head grade of each row: the grade of the block, and the tonnes of feed per tonne of it."""
+
+    grade: Exact
+    tonnes_of: Exact
+
+    def of(self, rows: np.ndarray) -> Head:
+        return Head(*(Exact(part.whole[rows], part.places) for part in (self.grade, self.tonnes_of)))
+
+
+def of_rows(recovery: Union[Recovery, dict[str, Recovery]], rock: np.ndarray, head: Head) -> Exact:
+    """Returns the recovery of each row, by rock type and head grade; 0 if its rock type has none."""
+    if not isinstance(recovery, dict):
+        return of_rock(recovery, head)
+    parts = []
+    for code, share in recovery.items():
+        mine = np.flatnonzero(rock == code)
+        parts.append((mine, of_rock(share, head.of(mine))))
+    places = max((part.places for _, part in parts), default=0)
+    found = [(mine, part.at(places)) for mine, part in parts]
+    whole = np.zeros(len(rock), dtype=np.result_type(np.int64, *(shares for _, shares in found)))
+    for mine, shares in found:
+        whole[mine] = shares
+    return Exact(whole, places)
+
+
+def of_rock(recovery: Recovery, head: Head) -> Exact:
+    if not isinstance(recovery, Curve):
+        return Exact.of(recovery, len(head.grade.whole))
+    return Exact(at_grades(recovery, head), PLACES)
+
+
+def at_grades(curve: Curve, head: Head) -> np.ndarray:
+    """Returns recoveries in millionths: linear between two grades, constant beyond the first and the last."""
+    points = [(whole_and_places(grade), whole_and_places(share)) for grade, share in curve.points]
+    places = max(head.grade.places, head.tonnes_of.places, *(own for (_, own), _ in points))
+    finest = max(own for _, (_, own) in points)
+    # A grade at the mill is `grade / unit` of these whole numbers, of which a named grade is `at / one`.
+    # Their products are of any size.
+    grade, unit, one = head.grade.at(places).astype(object), head.tonnes_of.at(places).astype(object), 10**places
+    named = [(at * 10 ** (places - own), share * 10 ** (finest - fine)) for (at, own), (share, fine) in points]
+    parts = nearest(np.full(len(grade), named[-1][1] * 10**PLACES, dtype=object), 10**finest)
+    for (low, first), (high, last) in reversed(list(zip(named, named[1:]))):
+        up_to = np.flatnonzero(np.array(grade * one <= high * unit, dtype=bool))
+        line = first * (high - low) * unit[up_to] + (last - first) * (grade[up_to] * one - low * unit[up_to])
+        parts[up_to] = nearest(line * 10**PLACES, (high - low) * unit[up_to] * 10**finest)
+    low, first = named[0]
+    below = np.array(grade * one <= low * unit, dtype=bool)
+    parts[below] = nearest(np.full(int(below.sum()), first * 10**PLACES, dtype=object), 10**finest)
+    return parts
+
+
+def accepted_by(accepts: Accepts, frame: pd.DataFrame, project: Project) -> NDArray[np.bool_]:
+    """Returns whether each row of a checked table is accepted: by its codes and its in-situ grades."""
+    table, found = project.table, np.ones(len(frame), dtype=bool)
+    columns = {ROCK_TYPE: table.rock_type, DOMAIN: table.domain, CLASS: table.resource_class}
+    for key, codes in accepts.codes.items():
+        if codes:
+            found &= frame[columns[key]].astype(str).isin(codes).to_numpy()
+    for grade in accepts.grades:
+        values = frame[grade.column].to_numpy(dtype=float)
+        found &= values >= (-np.inf if grade.min is None else grade.min)
+        found &= values <= (np.inf if grade.max is None else grade.max)
+    return found
+
+
+# Lengths are kept to a millimetre, elevations of floors to a micrometre.
+LENGTH_PLACES, ELEVATION_PLACES = 3, 6
+
+
+@dataclass(frozen=True)
+class Roads:
+    """Haul roads of the rows of a table: exact metres to the exit, and cost per tonne."""
+
+    metres: Exact
+    rules: Haulage
+
+    @staticmethod
+    def of(grid: Grid, rules: Haulage) -> Roads:
+        metres = (
+            flat_lengths(grid, rules)[grid.rows % grid.per_level]
+            + ramp_lengths(grid, rules)[grid.rows // grid.per_level]
+        )
+        return Roads(Exact(np.rint(metres * 10**LENGTH_PLACES).astype(np.int64), LENGTH_PLACES), rules)
+
+    @property
+    def waste(self) -> Exact:
+        """Cost per tonne of material."""
+        return self.cost(self.rules.waste)
+
+    @property
+    def ore_more(self) -> Exact:
+        """What a tonne of mill feed costs more than as waste; below 0 if less."""
+        return self.cost(self.rules.ore).minus(self.waste)
+
+    def cost(self, road: Road) -> Exact:
+        count = len(self.metres.whole)
+        return self.metres.plus(Exact.of(road.ex_pit_distance, count)).times(Exact.of(road.cost.scaleb(-3), count))
+
+
+@dataclass(frozen=True)
+class Hauled:
+    """Haul distance of each cell in whole millimetres, and haulage costs in millionths of the currency: of the block as waste, part of its mining
+    cost; and of its mill feed beyond that, part of its processing cost.
+    """
+
+    road: np.ndarray
+    waste: np.ndarray
+    ore_more: np.ndarray
+
+
+def flat_lengths(grid: Grid, rules: Haulage) -> np.ndarray:
+    """Returns the horizontal metres from the exit to the centre of each column of blocks, shape (rows x columns,)."""
+    x, y, _ = grid.centres(np.arange(grid.per_level))
+    return np.hypot(x - float(rules.pit_exit[0]), y - float(rules.pit_exit[1]))
+
+
+def ramp_lengths(grid: Grid, rules: Haulage) -> np.ndarray:
+    """Returns the horizontal metres of the ramp from each level's floor to the elevation of the exit, from the top."""
+    floors = Exact.of_floats(grid.toes().round(ELEVATION_PLACES))
+    rise = floors.minus(Exact.of(rules.pit_exit[2], len(floors.whole))).floats()
+    return np.asarray(np.abs(rise) / float(rules.ramp_gradient))
 
 
 def reference_level(money: Economics, grid: Grid) -> int:
@@ -174,7 +303,7 @@ class Rows:
     def recovered(self, metal: Metal, feed: Feed) -> Exact:
         """Returns the recovered quantity of a metal in tonnes, or in grams if the grade is in grams per tonne."""
         grade, nowhere = Exact.of_floats(self.frame[metal.column].to_numpy()), np.zeros(len(self.frame), dtype=bool)
-        share = recovery_curves.of_rows(metal.recovery, self.rock, Head(grade, feed.tonnes_of))
+        share = of_rows(metal.recovery, self.rock, Head(grade, feed.tonnes_of))
         if metal.tail_grade:
             tail = self.by_code(metal.tail_grade, nowhere, "tail_grade").times(feed.tonnes_of)
             left = grade.minus(tail)

@@ -8,8 +8,7 @@ from typing import Any
 
 import numpy as np
 
-from pitplan.blockmodel.axes import turn_of
-from pitplan.blockmodel.grid import Grid, metres
+from pitplan.blockmodel.grid import Grid, metres, turn_of
 from pitplan.core.optional_packages import load
 from pitplan.errors import PlanError
 from pitplan.results.folder import Folder

@@ -12,8 +12,7 @@ from typing import Any, BinaryIO
 import numpy as np
 import pandas as pd
 
-from pitplan.blockmodel.axes import turn_of
-from pitplan.blockmodel.grid import Grid
+from pitplan.blockmodel.grid import Grid, turn_of
 from pitplan.results.folder import Folder
 from pitplan.results.names import TABLE
 from pitplan.results.pit_states import Shape

@@ -18,7 +18,7 @@ from pitplan.errors import PlanError
 from pitplan.results import names
 from pitplan.results.folder import Folder
 from pitplan.results.pit_states import FACTOR, GROUND, Shape, places_of
-from pitplan.results.sheet_heads import heads_of
+from pitplan.results.rounding import heads_of
 
 from . import datamine, lines, mesh as mesh_export, omf, planner_table, xlsx
 from .mesh import PACKAGE, save, write_image

@@ -17,7 +17,7 @@ from pitplan.config.smelter import BOTH
 from pitplan.core.optional_packages import load
 from pitplan.economics.smelter_terms import concentrate, payable_share
 from pitplan.plan import shown_name
-from pitplan.results.cash_flow_columns import CASH_FLOW
+from pitplan.results.columns import CASH_FLOW
 from pitplan.scheduling import methods
 
 from .xlsx import cell

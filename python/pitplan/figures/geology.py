@@ -15,7 +15,7 @@ from matplotlib.figure import Figure
 from matplotlib.patches import Patch
 from numpy.typing import NDArray
 
-from pitplan.blockmodel.guessed_model import Model, least_gap, size_of, turned_grid
+from pitplan.blockmodel.guesses import Model, least_gap, size_of, turned_grid
 from pitplan.config.economics import GRADE_SIGNS
 from pitplan.plan import Plan
 

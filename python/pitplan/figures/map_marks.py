@@ -12,10 +12,8 @@ from matplotlib.lines import Line2D
 from matplotlib.patheffects import withStroke
 from numpy.typing import NDArray
 
-from pitplan.blockmodel import topography_cut
-from pitplan.blockmodel.axes import turn_of
-from pitplan.blockmodel.grid import Grid, metres
-from pitplan.blockmodel.tin import HAIR
+from pitplan.blockmodel.grid import Grid, metres, turn_of
+from pitplan.blockmodel.topography import HAIR, surveyed
 from pitplan.core.cell_outlines import edges
 from pitplan.plan import Plan
 
@@ -185,7 +183,7 @@ def topography_of(plan: Plan) -> Topography:
     shape, floor, top = grid.shape[1:], grid.extent()[4], grid.extent()[5]
     if file is not None:
         box = (grid.shape, grid.origin, grid.size, grid.azimuth)
-        found = topography_cut.surveyed(file, file.state, box)[1]
+        found = surveyed(file, file.state, box)[1]
         height = np.where(found.covered > HAIR, floor + found.height * grid.size[2], np.nan)
         return Topography(height.reshape(shape), True)
     solid = grid.cube(plan.values.tonnes > 0)

@@ -21,7 +21,7 @@ from numpy.typing import NDArray
 
 from pitplan.core.magnitude import scaled
 from pitplan.results import names
-from pitplan.results.parameter_names import spoken, unit_of
+from pitplan.results.rounding import parameter_unit, spoken
 
 from .style import STYLE, finish
 
@@ -199,7 +199,7 @@ def plot(table: pd.DataFrame, currency: str, ax: Axes) -> Axes:
 
 def label_axis(axis: Axis, values: Values, name: str, currency: str) -> Callable[[float], str]:
     """Labels an axis with a parameter in words, in a unit with few digits. Returns how a value of it is written."""
-    unit, largest = unit_of(name, currency), float(np.abs(values).max())
+    unit, largest = parameter_unit(name, currency), float(np.abs(values).max())
     size, sign = scaled(largest) if unit else (1.0, "")
     label = f"{sign}{unit}" if unit in ("t", "t a year") else f"{sign} {unit}".strip()
     axis.set_label_text(f"{spoken(name)}, {label}" if label else spoken(name))

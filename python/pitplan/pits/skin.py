@@ -1,18 +1,75 @@
-"""The skin of a pit: the outermost shell increments, which earn least per tonne and are least certain."""
+"""Search for the revenue factors at which nested shells hold given tonnages."""
 
 from __future__ import annotations
 
+from collections.abc import Callable
 from dataclasses import dataclass, replace
 from decimal import Decimal
 
 import numpy as np
 
+from pitplan.config.project import Project
 from pitplan.config.pushbacks import LEAST_FACTOR
-from pitplan.pits.factor_search import between, neighbours, with_factors
+from pitplan.core.revenue_factors import of_per_mille, per_mille
 from pitplan.plan import Plan
 from pitplan.solver import problem
 
 from . import shell_tables
+
+# How many factors between two known ones are solved together.
+TRIED = 8
+
+
+# From factors to the tonnes of rock in their shells.
+TonnesAt = Callable[[tuple[float, ...]], dict[float, float]]
+
+
+def with_factors(project: Project, factors: tuple[float, ...]) -> Project:
+    """Returns the project with other revenue factors; the last is selected."""
+    rules = replace(project.shells, revenue_factors=factors, selected=factors[-1], base_price_added=False)
+    return replace(project, shells=rules)
+
+
+def neighbours(known: dict[float, float], share: float) -> tuple[float, float]:
+    """Returns the largest known factor with at most `share` tonnes, and the smallest with more; if one is missing, the other twice."""
+    below = [factor for factor, rock in known.items() if rock <= share]
+    above = [factor for factor, rock in known.items() if rock > share]
+    return max(below or [min(above)]), min(above or [max(below)])
+
+
+def between(low: float, high: float) -> list[float]:
+    """Returns up to TRIED factors evenly between two; none if they are 0.001 apart."""
+    first, last = per_mille(low), per_mille(high)
+    tried = {first + (last - first) * step // (TRIED + 1) for step in range(1, TRIED + 1)} - {first, last}
+    return list(map(of_per_mille, sorted(tried)))
+
+
+def refined(factors: tuple[float, ...], share: float, tonnes_at: TonnesAt) -> tuple[float, ...]:
+    """Returns revenue factors with others between them, until no shell adds more than a share of the last one's tonnes, or only a thousandth of
+    the revenue factor does.
+
+    Parameters
+    ----------
+    factors : tuple of float
+        Rising; the result has all of them.
+    share : float
+        1: the given factors alone.
+    tonnes_at : callable
+    """
+    if share >= 1:
+        return factors
+    known = tonnes_at(tuple(sorted({LEAST_FACTOR, *factors})))
+    last = max(known)
+    while True:
+        rising = sorted(known)
+        wide = [pair for pair in zip(rising, rising[1:]) if known[pair[1]] - known[pair[0]] > share * known[last]]
+        more = sorted({factor for low, high in wide for factor in between(low, high)})
+        if not more:
+            break
+        known |= tonnes_at(tuple(more))
+    # Of shells that are equal to the one before, none is kept but those of the given factors.
+    grows = [high for low, high in zip(rising, rising[1:]) if known[high] > known[low]]
+    return tuple(sorted({*factors, *grows, *([rising[0]] if known[rising[0]] > 0 else [])}))
 
 
 @dataclass(frozen=True)

@@ -21,7 +21,7 @@ from pitplan.core.progress import Progress, silent
 from pitplan.core.revenue_factors import BASE_PRICE, factor_text, factor_texts
 from pitplan.errors import WARNING, PlanError
 from pitplan.pits import shell_tables
-from pitplan.pits.factor_search import TonnesAt, between, neighbours, with_factors
+from pitplan.pits.skin import TonnesAt, between, neighbours, with_factors
 from pitplan.plan import Plan
 from pitplan.solver import problem
 from pitplan.solver.problem import Mine

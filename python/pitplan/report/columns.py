@@ -16,9 +16,9 @@ from pitplan.config.periods import PERIOD, YEAR
 from pitplan.config.project import Project
 from pitplan.core.magnitude import scaled
 from pitplan.core.revenue_factors import factor_text
-from pitplan.results import columns as schema
 from pitplan.results.column_types import GRADE, METAL, METRES, MONEY, SHARE, TEXT, TONNES, WHOLE_YEARS, Column, Table
-from pitplan.results.parameter_names import spoken
+from pitplan.results.columns import METHODS, PUSHBACKS, SENSITIVITY, SHELLS, YEARLY
+from pitplan.results.rounding import spoken
 
 TEMPLATES = Environment(
     loader=FileSystemLoader(Path(__file__).parents[1] / "templates"),
@@ -129,22 +129,22 @@ MATERIAL = (*IN_ROCK, "head_grade_METAL", "recovered_METAL")
 EARNED = ("undiscounted_cash_flow", "npv_best", "npv_worst", "npv_specified")
 BOUNDED = ("npv", "upper_bound")
 AMOUNTS = ("years", "blocks", "tonnes", "feed_tonnes", "unmined_tonnes", "recovered_METAL")
-OF_SHELLS = Display(schema.SHELLS, ("revenue_factor", *MATERIAL, *EARNED, "years"), EARNED)
+OF_SHELLS = Display(SHELLS, ("revenue_factor", *MATERIAL, *EARNED, "years"), EARNED)
 OF_PUSHBACKS = Display(
-    schema.PUSHBACKS,
+    PUSHBACKS,
     ("pushback", "revenue_factor", *MATERIAL, EARNED[0], "mining_cost_added", "deferred_value", "value_lost_to_width")
     + ("pieces", "min_width"),
     EARNED[:1],
 )
-OF_METHODS = Display(schema.METHODS, ("method", *BOUNDED, "optimality_gap", "npv_at_mean_grade", *AMOUNTS), ("npv",))
-OF_BLOCKS = Display(schema.METHODS, (*BOUNDED, "optimality_gap", *AMOUNTS), BOUNDED)
+OF_METHODS = Display(METHODS, ("method", *BOUNDED, "optimality_gap", "npv_at_mean_grade", *AMOUNTS), ("npv",))
+OF_BLOCKS = Display(METHODS, (*BOUNDED, "optimality_gap", *AMOUNTS), BOUNDED)
 SPENT, FLOWS = ("fixed_cost", "capex"), ("cash_flow", "discounted_cash_flow")
 OF_YEARS = Display(
-    schema.YEARLY,
+    YEARLY,
     (YEAR, PERIOD, "case", "total_tonnes", "feed_tonnes", "recovered_METAL", *SPENT, *FLOWS),
     (*FLOWS, *SPENT),
 )
-OF_CASES = Display(schema.SENSITIVITY, (CASE, "npv", NPV_CHANGE, "tonnes", "feed_tonnes", EARNED[0], "years"), ("npv",))
+OF_CASES = Display(SENSITIVITY, (CASE, "npv", NPV_CHANGE, "tonnes", "feed_tonnes", EARNED[0], "years"), ("npv",))
 
 
 def of_cases(table: pd.DataFrame) -> pd.DataFrame:

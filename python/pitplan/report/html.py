@@ -20,20 +20,16 @@ from pitplan.core.atomic_files import hash_of, read_json
 from pitplan.core.revenue_factors import BASE_PRICE
 from pitplan.errors import PlanError
 from pitplan.results import names
-from pitplan.results.conventions import OF_SHELLS
 from pitplan.results.folder import read_record
 from pitplan.results.names import SENSITIVITY, SENSITIVITY_RECORD
+from pitplan.results.rounding import OF_SHELLS
 from pitplan.scheduling import methods
 from planaudit import NOT_VERIFIED
 
-from . import columns as report, key_results, statements, table_one
+from . import columns as report, statements, table_one
 from .assumptions import selected_shell, topics
 from .columns import TEMPLATES, Columns
-from .key_results import BY_BLOCK
-from .physicals import physicals
-from .risks import risks
-from .studies import of_hill, of_prices
-from .written import Written, picture, read_table
+from .statements import BY_BLOCK, Written, of_hill, of_prices, physicals, picture, read_table, risks
 
 # The methods of schedules of pushbacks in words.
 METHODS = {name: methods.NAMES[name] for name in (methods.RULE, methods.LP, methods.MILP)}
@@ -190,7 +186,7 @@ def of_answer(folder: Path, project: Project, record: dict[str, Any]) -> dict[st
         lambda factor: " ".join(["selected"] * (factor == chosen) + ["given"] * (factor == BASE_PRICE))
     )
     found: dict[str, Any] = {"shells": parts_of(shells, report.OF_SHELLS.of, project, marks)}
-    cases, figures = [*OF_SHELLS], key_results.of_shell(shells, chosen, project)
+    cases, figures = [*OF_SHELLS], statements.of_shell(shells, chosen, project)
     if names.PUSHBACKS in record["files"]:
         found["pushbacks"] = parts_of(read_table(folder, names.PUSHBACKS), report.OF_PUSHBACKS.of, project)
     if names.METHODS in record["files"]:
@@ -202,9 +198,9 @@ def of_answer(folder: Path, project: Project, record: dict[str, Any]) -> dict[st
             shown,
         )
         found["method"] = methods.NAMES.get(shown, shown)
-        found["statements"] = statements.of_schedule(folder, project, record, shown)
+        found["statements"] = statements.schedule_statements(folder, project, record, shown)
         found["physicals"] = physicals_of(folder, project, shown) if found["statements"] else []
-        cases, figures = [shown], key_results.of_schedule(folder, project, shown)
+        cases, figures = [shown], statements.schedule_results(folder, project, shown)
     dug = years.frame[
         years.frame["case"].isin(cases)
         & ((years.frame["revenue_factor"] == chosen) | (years.frame["case"] == BY_BLOCK))

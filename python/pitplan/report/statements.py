@@ -1,7 +1,8 @@
-"""The parts of the page that finance and a Competent Person read: cash flow by line, valuation, and ore by resource class."""
+"""Written tables and pictures as parts of the page: each number with the cell that it is."""
 
 from __future__ import annotations
 
+import base64
 from collections.abc import Iterator
 from dataclasses import dataclass
 from pathlib import Path
@@ -12,13 +13,55 @@ import pandas as pd
 from pitplan.config.economics import GRADE_UNITS
 from pitplan.config.project import Project
 from pitplan.core.magnitude import scaled
+from pitplan.core.revenue_factors import factor_text
 from pitplan.figures.style import ranked
 from pitplan.plan import shown_name
 from pitplan.results import names
-from pitplan.results.cash_flow_columns import CASH_FLOW
+from pitplan.results.columns import CASH_FLOW
+from pitplan.results.names import SENSITIVITY
+from pitplan.results.rounding import spoken
 
+from . import columns as report
 from .columns import metal_unit
-from .written import Written, read_table
+
+# Columns of the page that are made from another column of the file.
+NAMED = {(SENSITIVITY, "case"): "parameter"}
+
+
+@dataclass(frozen=True)
+class Figure:
+    """A key result: name, text with unit, and the cell that it shows."""
+
+    name: str
+    text: str
+    source: str
+
+
+@dataclass(frozen=True)
+class Written:
+    """A written table: the name of its file, and its rows, with an index from 0."""
+
+    file: str
+    frame: pd.DataFrame
+
+    def source(self, row: int, column: str) -> str:
+        return f"{self.file} row {row + 2} column {NAMED.get((self.file, column), column)}"
+
+    def figure(self, name: str, row: int, column: tuple[str, str, float, int]) -> Figure:
+        """Returns a key result with its unit, which follows the comma in the heading of its column."""
+        text = report.cell_of(self.frame.at[row, column[0]], column)
+        unit = column[1].partition(", ")[2]
+        return Figure(name, text if text == "–" else f"{text} {unit}".strip(), self.source(row, column[0]))
+
+
+def read_table(folder: Path, name: str) -> Written:
+    return Written(name, pd.read_csv(folder / name, keep_default_na=True))
+
+
+def picture(path: Path) -> str:
+    """Returns a PNG as a data URL."""
+    return "data:image/png;base64," + base64.b64encode(path.read_bytes()).decode("ascii")
+
 
 # The most periods next to each other on A4.
 MOST_PERIODS = 11
@@ -32,7 +75,7 @@ CAPITALS = "ABCDEFGHIJKLMNOPQRSTUVWXYZ"
 Part = dict[str, Any]
 
 
-def of_schedule(folder: Path, project: Project, record: dict[str, Any], method: str) -> dict[str, Any]:
+def schedule_statements(folder: Path, project: Project, record: dict[str, Any], method: str) -> dict[str, Any]:
     """Returns the tables of a schedule: cash flow by line, valuation and reserves; nothing without a schedule, or if nothing is mined."""
     if names.CASH_FLOW not in record["files"]:
         return {}
@@ -185,3 +228,289 @@ class Reserves:
                 text, source = number(float(some[column].sum()), size, places), f"sum of {column}"
             cells.append(cell(text, f"{where}: {source}"))
         return {"mark": "sum" if name is None and category == "ore" else "", "cells": cells}
+
+
+@dataclass(frozen=True)
+class Row:
+    """A row of the table.
+
+    Attributes
+    ----------
+    label : str
+        With its unit.
+    table : Written
+        The rows of a method in cash_flow.csv or years.csv.
+    column : str
+    size : float
+        By what numbers are divided.
+    places : int
+    ratio : tuple of str
+        Of all periods the sum of the first column, by that of the second less that of the third; empty: the sum of `column`.
+    by : float
+        By what that ratio is divided.
+    """
+
+    label: str
+    table: Written
+    column: str
+    size: float
+    places: int
+    ratio: tuple[str, ...] = ()
+    by: float = 1.0
+
+    def total(self) -> dict[str, str]:
+        """Returns the cell of all periods."""
+        sums, file = self.table.frame.sum(numeric_only=True), self.table.file
+        if not self.ratio:
+            return cell(number(float(sums[self.column]), self.size, self.places), f"{file}: sum of {self.column}")
+        over, under, *less = self.ratio
+        base = float(sums[under]) - sum(float(sums[it]) for it in less)
+        value = float(sums[over]) / base / self.by if base > 0 else float("nan")
+        source = f"{file}: sum of {over} by that of {' less '.join((under, *less))}"
+        return cell(number(value, 1.0, self.places), source)
+
+    def cells(self, first: int) -> list[dict[str, str]]:
+        """Returns the cells of MOST_PERIODS periods from one on, numbered from 0."""
+        some = self.table.frame[self.column].iloc[first : first + MOST_PERIODS]
+        return [
+            cell(number(value, self.size, self.places), self.table.source(at, self.column))
+            for at, value in some.items()
+        ]
+
+
+def rows_of(lines: Written, years: Written, project: Project) -> Iterator[Row]:
+    """Yields the rows; `lines` are those of cash_flow.csv, `years` those of years.csv with the feed of each process."""
+    size, sign = scaled(float(lines.frame["total_tonnes"].max()))
+    yield Row(f"total material, {sign}t", lines, "total_tonnes", size, 2)
+    yield Row(f"waste, {sign}t", lines, "waste_tonnes", size, 2)
+    yield Row("strip ratio", lines, "strip_ratio", 1.0, 2, ("waste_tonnes", "total_tonnes", "waste_tonnes"))
+    yield Row(f"mill feed, {sign}t", lines, "feed_tonnes", size, 2)
+    for process in project.processes:
+        yield Row(f"feed of {process.name}, {sign}t", years, f"feed_tonnes_{process.name}", size, 2)
+    for metal in project.metals:
+        head, content = f"head grade {metal.name}, {metal.sign}", (f"contained_{metal.name}", "feed_tonnes")
+        yield Row(head, lines, f"head_grade_{metal.name}", 1.0, 3, content, float(GRADE_UNITS[metal.unit]))
+        for kind in ("recovered", *(["payable"] if metal.smelter else [])):
+            column = f"{kind}_{metal.name}"
+            unit, of_metal = metal_unit(float(lines.frame[column].max()), metal)
+            yield Row(f"{kind} {metal.name}, {of_metal}", lines, column, unit, 2)
+
+
+def physicals(lines: Written, years: Written, project: Project) -> Iterator[Part]:
+    """Yields tables with MOST_PERIODS periods each; the first has all periods together."""
+    word, rows = project.shells.calendar.word, list(rows_of(lines, years, project))
+    for first in range(0, len(lines.frame), MOST_PERIODS):
+        periods = [f"{word} {number}" for number in lines.frame[word].iloc[first : first + MOST_PERIODS]]
+        cells = [[cell(it.label, ""), *([] if first else [it.total()]), *it.cells(first)] for it in rows]
+        headings = ["quantity", *([] if first else ["all"]), *periods]
+        yield {"file": lines.file, "headings": headings, "rows": [{"mark": "", "cells": it} for it in cells]}
+
+
+BY_BLOCK = "block"
+
+
+def of_shell(shells: Written, chosen: float, project: Project) -> list[Figure]:
+    """Returns the key results of a pit without a schedule."""
+    row = int(shells.frame.index[shells.frame["revenue_factor"] == chosen][0])
+    columns = {column[0]: column for column in report.OF_SHELLS.of(shells.frame.loc[[row]], project)}
+    names = {
+        "npv_best": "Net present value, best case",
+        "npv_worst": "Net present value, worst case",
+        "npv_specified": "Net present value, specified case",
+        "undiscounted_cash_flow": "Undiscounted cash flow",
+        "tonnes": "Total material",
+        "feed_tonnes": "Mill feed",
+        "strip_ratio": "Strip ratio, waste to in-situ ore",
+    }
+    found = [shells.figure(name, row, columns[column]) for column, name in names.items() if column in columns]
+    found += [*grades(shells, chosen, project), *recovered(shells, row, columns, project)]
+    return [*found, shells.figure("Life, best case", row, ("years", "life, years", 1.0, 1))]
+
+
+def grades(shells: Written, factor: float, project: Project) -> list[Figure]:
+    row = int(shells.frame.index[shells.frame["revenue_factor"] == factor][0])
+    return [
+        shells.figure(
+            f"{metal.name.capitalize()} head grade of the pit at revenue factor {factor_text(factor)}",
+            row,
+            (f"head_grade_{metal.name}", f"grade, {metal.sign}", 1.0, 3),
+        )
+        for metal in project.metals
+    ]
+
+
+def recovered(
+    table: Written, row: int, columns: dict[str, tuple[str, str, float, int]], project: Project
+) -> list[Figure]:
+    return [
+        table.figure(f"{metal.name.capitalize()} recovered", row, columns[f"recovered_{metal.name}"])
+        for metal in project.metals
+    ]
+
+
+def schedule_results(folder: Path, project: Project, shown: str) -> list[Figure]:
+    """Returns the key results of a schedule."""
+    ways = read_table(folder, names.METHODS)
+    row = int(ways.frame.index[ways.frame["method"] == shown][0])
+    only_one = ways.frame.loc[[row]]
+    display = report.OF_BLOCKS if shown == BY_BLOCK else report.OF_METHODS
+    columns = {column[0]: column for column in display.of(only_one, project)}
+    bound = "Upper bound, any schedule by block" if shown == BY_BLOCK else "Upper bound, these pushbacks"
+    labels = {"npv": "Net present value", "upper_bound": bound}
+    tonnes = {"tonnes": "Total material", "feed_tonnes": "Mill feed"}
+    if "unmined_tonnes" in columns and only_one["unmined_tonnes"].iloc[0] > 0:
+        tonnes["unmined_tonnes"] = "Unmined material"
+    lines, values = (only(read_table(folder, name), shown) for name in (names.CASH_FLOW, names.VALUATION))
+    return [
+        *(ways.figure(label, row, columns[name]) for name, label in labels.items()),
+        *(of_money(lines, values, project) if len(lines.frame) else ()),
+        *(ways.figure(label, row, columns[name]) for name, label in tonnes.items()),
+        *(of_feed(lines, project) if len(lines.frame) else ()),
+        *recovered(ways, row, columns, project),
+        ways.figure("Life", row, ("years", "life, years", 1.0, columns["years"][3])),
+    ]
+
+
+def of_money(lines: Written, values: Written, project: Project) -> list[Figure]:
+    """Returns NPV after tax if there is closure cost or tax, the internal rate of return, payback and capital.
+
+    If nothing has to be paid back there is no rate of return, and a payback of 0 years would say nothing: both are left out.
+    """
+    rules, rate = project.cash_flow, project.shells.discount_rate
+    row = int((values.frame["discount_rate"] - rate).abs().idxmin())
+    is_taxed = bool(rules.closure_cost or rules.tax_rate)
+    after, kind = (" after tax", "_after_tax") if is_taxed else ("", "")
+    size, sign = scaled(abs(float(values.frame.at[row, "npv"])))
+    money = f"{sign} {project.economics.currency}".strip()
+    shown = [("npv_after_tax", "Net present value after tax", size, 2, money)] if is_taxed else []
+    if float(values.frame.at[row, f"payback{kind}"]) != 0:
+        shown += [(f"irr{kind}", f"Internal rate of return{after}", 0.01, 1, "%")]
+        shown += [(f"payback{kind}", f"Payback{after}", 1.0, 1, "years")]
+    found = []
+    for name, label, unit, places, sign in shown:
+        text = number(float(values.frame.at[row, name]), unit, places)
+        found.append(Figure(label, text if text == "–" else f"{text} {sign}", values.source(row, name)))
+    if "capex" in lines.frame:
+        text = number(float(lines.frame["capex"].sum()), size, 2)
+        found.append(Figure("Capital", f"{text} {money}", f"{lines.file}: sum of column capex"))
+    return found
+
+
+def of_feed(lines: Written, project: Project) -> list[Figure]:
+    """Returns strip ratio and head grades of a schedule, over all periods."""
+    total, waste, feed = (float(lines.frame[it].sum()) for it in ("total_tonnes", "waste_tonnes", "feed_tonnes"))
+    ratio = number(waste / (total - waste) if total > waste else float("nan"), 1.0, 2)
+    source = f"{lines.file}: sum of waste_tonnes by that of total_tonnes less waste_tonnes"
+    found = [Figure("Strip ratio, waste to in-situ ore", ratio, source)]
+    for metal in project.metals:
+        content = float(lines.frame[f"contained_{metal.name}"].sum()) / float(GRADE_UNITS[metal.unit])
+        text = number(content / feed if feed else float("nan"), 1.0, 3)
+        source = f"{lines.file}: sum of contained_{metal.name} by that of feed_tonnes"
+        found.append(Figure(f"{metal.name.capitalize()} head grade of the mill feed", f"{text} {metal.sign}", source))
+    return found
+
+
+def risks(project: Project, record: dict[str, Any], shell: pd.Series, cases: Optional[pd.DataFrame]) -> list[str]:
+    """Returns sentences for the section on risks.
+
+    Parameters
+    ----------
+    project : Project
+    record : dict
+        plan.json.
+    shell : Series
+        The row of the selected shell in shells.csv.
+    cases : DataFrame, optional
+        sensitivity.csv, with the base case first; None without one.
+    """
+    found = [note.removeprefix("WARNING: ") for note in record["notes"] if note.startswith("WARNING")]
+    found += of_classes(project, shell)
+    found += of_sensitivity(cases, project.economics.currency)
+    found.append(
+        "Grades are those of one block model. Scenarios over realisations show what their uncertainty means: run pitplan scenarios."
+    )
+    if not record["verified"]:
+        found.append("The numbers were not verified: run pitplan verify.")
+    return found
+
+
+def of_classes(project: Project, shell: pd.Series) -> Iterator[str]:
+    if project.table.resource_class is None:
+        yield "The block model has no resource classes, so ore may include inferred material, which reserves must not."
+        return
+    treated = [
+        code
+        for code, treatment in project.classes.given.items()
+        if treatment == "ore" and not project.classes.may_be_reserve(code)
+    ]
+    if treated:
+        yield f"Classes {', '.join(treated)} are treated as ore by a rule of the project, although reporting codes exclude them from reserves."
+    waste = float(shell.get("mineralised_waste_tonnes", 0.0))
+    if waste:
+        size, sign = scaled(waste)
+        yield f"The shell holds {waste / size:,.1f} {sign}t that would pay but are waste by their resource class."
+
+
+def of_sensitivity(cases: Optional[pd.DataFrame], currency: str) -> Iterator[str]:
+    """Yields the case that lowers the NPV most, and whether it becomes negative."""
+    if cases is None or len(cases) < 2:
+        yield "No sensitivity analysis of these inputs is at hand: run pitplan sensitivity."
+        return
+    alone = cases[cases["second_parameter"].isna() | (cases["second_parameter"] == "")]
+    base, worst = float(cases["npv"].iloc[0]), alone.loc[alone["npv"].idxmin()]
+    size, sign = scaled(max(abs(base), abs(float(worst["npv"]))))
+    if worst["npv"] < base:
+        money = f"{base / size:,.1f} to {worst['npv'] / size:,.1f} {sign} {currency}".replace("  ", " ")
+        yield f"A change of {str(worst['parameter']).replace('_', ' ')} by {100 * worst['change']:+g} % moves the NPV from {money}, the most of all cases."
+
+
+# Columns of price_path_quantiles.csv, and what they are called.
+OF_PATHS = {
+    "npv": "at the project's prices",
+    "npv_mean": "mean",
+    "npv_least": "lowest",
+    "npv_quantile_0.1": "P10",
+    "npv_quantile_0.5": "P50",
+    "npv_quantile_0.9": "P90",
+    "npv_greatest": "highest",
+}
+
+
+def of_hill(folder: Path, project: Project) -> dict[str, Any]:
+    """Returns the hill of value: its picture, and the NPVs as a table with a row per value of the second parameter."""
+    table = read_table(folder, names.HILL)
+    frame, figure = table.frame, folder / names.HILL_FIGURE
+    size, sign = scaled(float(frame["npv"].abs().max()))
+    one, other = frame["parameter"].iloc[0], frame["second_parameter"].iloc[0]
+    rows = [
+        {
+            "mark": "",
+            "cells": [
+                {"text": f"{value:,.10g}", "source": table.source(some.index[0], "second_value")},
+                *({"text": f"{npv / size:,.2f}", "source": table.source(at, "npv")} for at, npv in some["npv"].items()),
+            ],
+        }
+        for value, some in frame.sort_values("value").groupby("second_value")
+    ]
+    headings = [spoken(other), *(f"{value:,.10g}" for value in sorted(frame["value"].unique()))]
+    unit = f"{sign} {project.economics.currency}".strip()
+    return {
+        "picture": picture(figure) if figure.is_file() else "",
+        "part": {"file": table.file, "headings": headings, "rows": rows},
+        "caption": f"Hill of value: NPV, {unit}, by {spoken(one)} (columns) and {spoken(other)} (rows)",
+    }
+
+
+def of_prices(folder: Path, project: Project, record: dict[str, Any]) -> dict[str, Any]:
+    """Returns the table of NPVs over price paths, and how many there are; nothing without them."""
+    if names.PRICE_QUANTILES not in record["files"]:
+        return {}
+    table = read_table(folder, names.PRICE_QUANTILES)
+    row = table.frame.iloc[0]
+    size, sign = scaled(float(table.frame[list(OF_PATHS)].abs().max().max()))
+    cells = [{"text": f"{row[name] / size:,.2f}", "source": table.source(0, name)} for name in OF_PATHS]
+    below = {"text": f"{100 * row['share_below_zero']:,.1f}", "source": table.source(0, "share_below_zero")}
+    headings = [*OF_PATHS.values(), "paths below 0, %"]
+    unit = f"{sign} {project.economics.currency}".strip()
+    part = {"file": table.file, "headings": headings, "rows": [{"mark": "", "cells": [*cells, below]}]}
+    return {"part": part, "caption": f"NPV of the schedule over {int(row['paths']):,} price paths, {unit}"}

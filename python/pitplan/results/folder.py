@@ -1,7 +1,15 @@
-"""A results folder, read back with the hashes of its files."""
+"""Records (.json) as they are read back: each part is of the kind that whatever reads it takes for granted, or the record is refused.
+
+A kind is a `Kind`; or a list of one kind, for a list of any length; or a tuple of kinds, for a list of that length; or a dictionary of
+kinds by key, for a table that has every key that is not `Lacking`. The key "*" means each key.
+"""
 
 from __future__ import annotations
 
+import json
+import math
+import re
+from collections.abc import Callable
 from dataclasses import dataclass
 from pathlib import Path
 from typing import Any
@@ -11,17 +19,179 @@ import pandas as pd
 from numpy.typing import NDArray
 
 from pitplan.blockmodel.grid import Grid, grid_of
+from pitplan.config.kinds import FARTHEST, cut
 from pitplan.core.atomic_files import hash_of
-from pitplan.core.revenue_factors import with_exact_factors
+from pitplan.core.revenue_factors import is_factor, with_exact_factors
 from pitplan.errors import PlanError
 
-from . import json_records
 from .names import RECORD, TABLE
+
+# Cells that a grid may have along an axis and in all.
+MOST_ALONG, MOST_CELLS = 10**6, 64 * 10**6
+HASH = re.compile("[0-9a-f]{64}")
+
+
+@dataclass(frozen=True)
+class Kind:
+    """What is expected of a value, in words, and whether it holds."""
+
+    expected: str
+    holds: Callable[[Any], bool]
+
+
+@dataclass(frozen=True)
+class Lacking:
+    """A key that may be missing."""
+
+    kind: Any
+
+
+def is_number(value: Any) -> bool:
+    return isinstance(value, (int, float)) and not isinstance(value, bool) and abs(value) <= FARTHEST
+
+
+def whole(least: int, most: int) -> Kind:
+    return Kind(
+        f"a whole number from {least:,} to {most:,}", lambda value: type(value) is int and least <= value <= most
+    )
+
+
+def is_plain_path(value: Any) -> bool:
+    return isinstance(value, str) and "\0" not in value and not {"", ".", ".."} & {*value.split("/")}
+
+
+TEXT = Kind("a text", lambda value: isinstance(value, str))
+PATH = Kind("the path of a file", lambda value: isinstance(value, str) and value != "" and "\0" not in value)
+FILE = Kind("the path of a file within the folder", is_plain_path)
+NUMBER = Kind("a number", lambda value: is_number(value) and math.isfinite(value))
+LENGTH = Kind("a length in metres above 0", lambda value: is_number(value) and value > 0)
+TRUTH = Kind("true or false", lambda value: isinstance(value, bool))
+SHA256 = Kind("a SHA-256", lambda value: isinstance(value, str) and HASH.fullmatch(value) is not None)
+FACTOR = Kind("a revenue factor from 0 to 100 with at most three decimals", is_factor)
+ALONG = whole(1, MOST_ALONG)
+RISING = Kind(
+    "revenue factors, each greater than the one before",
+    lambda value: isinstance(value, list)
+    and len(value) > 0
+    and all(map(FACTOR.holds, value))
+    and all(a < b for a, b in zip(value, value[1:])),
+)
+GRID = {
+    "shape": (ALONG, ALONG, ALONG),
+    "origin": (NUMBER, NUMBER, NUMBER),
+    "size": (LENGTH, LENGTH, LENGTH),
+    "azimuth": Lacking(NUMBER),
+}
+SOLVER = {
+    "by": Kind("library or program", lambda value: value in ("library", "program")),
+    "version": TEXT,
+    "sha256": SHA256,
+    "proved": Lacking(TRUTH),
+}
+SHELLS = {"revenue_factors": RISING, "selected": FACTOR, "solver": SOLVER}
+PLAN = {
+    "title": TEXT,
+    "grid": GRID,
+    "walls": [{"levels": Lacking(whole(1, 1000))}],
+    "revenue_factors": RISING,
+    "summary": [TEXT],
+    "notes": [TEXT],
+    "codes": [TEXT],
+    "tonnes": TEXT,
+    "metals": [{"name": TEXT, "column": TEXT, "sign": TEXT}],
+    "project": Lacking(PATH),
+    "verified": Lacking([TEXT]),
+    "inputs": Lacking({"*": SHA256}),
+    "files": Lacking({"*": SHA256}),
+    "shells": Lacking(SHELLS),
+    "pushbacks": Lacking(whole(1, 100_000)),
+    "schedule": Lacking(TEXT),
+    "by_block": Lacking(TRUTH),
+    "figures": Lacking(TRUTH),
+}
+
+# The verification requires the grid, and checks the other parts where they are present.
+LAID = {key: kind if key == "grid" or isinstance(kind, Lacking) else Lacking(kind) for key, kind in PLAN.items()}
+LAID["shells"] = Lacking({key: kind if key == "revenue_factors" else Lacking(kind) for key, kind in SHELLS.items()})
+
+
+class Reader:
+    """Checks a record part by part; `again` is the command that writes it."""
+
+    def __init__(self, path: Path, again: str) -> None:
+        self.path, self.again = path, again
+
+    def read(self, kind: Any) -> dict[str, Any]:
+        """The record. Raises PlanError, with the part, where it is not of this kind, and OSError where it cannot be opened."""
+        try:
+            record = json.loads(self.path.read_text(encoding="utf-8"))
+        except (ValueError, RecursionError) as error:
+            raise self.wrong("", f"cannot be read as JSON ({' '.join(str(error).split())})") from error
+        self.demand(record, kind, "")
+        return dict(record)
+
+    def wrong(self, where: str, why: str) -> PlanError:
+        return PlanError(f"{self.path}: {f'{where}: ' if where else ''}{why}: run {self.again} again")
+
+    def demand(self, value: Any, kind: Any, where: str) -> None:
+        """Raises PlanError where a part is of another kind."""
+        if isinstance(kind, Kind):
+            if not kind.holds(value):
+                raise self.wrong(where, f"found {cut(json.dumps(value, ensure_ascii=False))}, expected {kind.expected}")
+        elif isinstance(kind, dict):
+            self.demand_table(value, kind, where)
+        else:
+            self.demand_list(value, kind, where)
+
+    def demand_table(self, value: Any, kinds: dict[str, Any], where: str) -> None:
+        if not isinstance(value, dict):
+            raise self.wrong(where, f"found {cut(json.dumps(value))}, expected a table")
+        for key, kind in kinds.items():
+            inner = f"{where}.{key}" if where else key
+            if key == "*":
+                for name, item in value.items():
+                    self.demand(item, kind, f"{where}.{name}")
+            elif key in value:
+                self.demand(value[key], kind.kind if isinstance(kind, Lacking) else kind, inner)
+            elif not isinstance(kind, Lacking):
+                raise self.wrong(inner, "is missing")
+
+    def demand_list(self, value: Any, kinds: Any, where: str) -> None:
+        count = len(kinds) if isinstance(kinds, tuple) else None
+        if not isinstance(value, list) or (count is not None and len(value) != count):
+            raise self.wrong(
+                where, f"found {cut(json.dumps(value))}, expected a list{'' if count is None else f' of {count}'}"
+            )
+        for number, item in enumerate(value):
+            self.demand(item, kinds[number] if count is not None else kinds[0], f"{where}[{number}]")
+
+
+def read_plan(path: Path, is_whole: bool = True) -> dict[str, Any]:
+    """What plan.json says; while a run is verified it has no hashes yet. Raises PlanError as `Reader.read` does."""
+    reader = Reader(path, "pitplan shells")
+    record = reader.read(PLAN if is_whole else LAID)
+    demand_plan(reader, record)
+    for key in ("inputs", "files", *(("project", "verified") if "shells" in record else ())):
+        if is_whole and key not in record:
+            raise reader.wrong(key, "is missing")
+    return record
+
+
+def demand_plan(reader: Reader, record: dict[str, Any]) -> None:
+    """Raises PlanError where parts of the right kinds do not fit each other."""
+    levels, rows, columns = record["grid"]["shape"]
+    if levels * rows * columns > MOST_CELLS:
+        raise reader.wrong("grid.shape", f"found {levels} x {rows} x {columns} cells, expected {MOST_CELLS:,} at most")
+    shells = record.get("shells", {})
+    if "selected" in shells and shells["selected"] not in shells["revenue_factors"]:
+        raise reader.wrong("shells.selected", f"found {shells['selected']}, expected one of the revenue factors")
+    for name in record.get("files", ()):
+        reader.demand(name, FILE, "files")
 
 
 def read_record(folder: Path) -> dict[str, Any]:
     """What plan.json says. Raises PlanError where a part of it is missing or of another kind, and OSError where it cannot be opened."""
-    return json_records.read_plan(folder / RECORD)
+    return read_plan(folder / RECORD)
 
 
 @dataclass(frozen=True)

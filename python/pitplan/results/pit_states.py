@@ -12,7 +12,8 @@ from pitplan.blockmodel.grid import Grid
 from pitplan.config.periods import PERIOD, YEAR
 from pitplan.core.revenue_factors import BASE_PRICE, factor_text
 from pitplan.errors import PlanError
-from pitplan.results.folder import Folder
+
+from .folder import Folder
 
 FACTOR, PUSHBACK = "revenue_factor", "pushback"
 KINDS = (FACTOR, PUSHBACK, YEAR)

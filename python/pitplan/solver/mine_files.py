@@ -12,7 +12,7 @@ from pitplan.core import byte_lines
 from pitplan.core.layout import SOLVER
 from pitplan.plan import Plan
 from pitplan.precedences import MOST_PAIRS, Needs, Pairs
-from pitplan.slopes.arcs import ABSENT, slices
+from pitplan.slopes.domains import ABSENT, slices
 
 BLOCKS, MODEL, PREC, FIXED = "mine.blocks", "mine.upit", "mine.prec", "mine.fixed"
 REST_BLOCKS, REST_PREC, PIT_MODEL = "rest.blocks", "rest.prec", "pit.upit"

@@ -25,7 +25,7 @@ from pitplan.errors import PlanError
 from pitplan.figures import style
 from pitplan.results.folder import read_folder
 from pitplan.results.names import RECORD
-from pitplan.results.sheet_heads import unit_in
+from pitplan.results.rounding import unit_in
 from pitplan.survey import readers
 
 from .kept import Kept

@@ -22,8 +22,7 @@ from .run_form import WrongForm
 
 # The modules of block models need pandas, which is loaded when a page needs it.
 if TYPE_CHECKING:
-    from pitplan.blockmodel.column_roles import Role
-    from pitplan.blockmodel.guessed_model import Rows
+    from pitplan.blockmodel.guesses import Role, Rows
 
 # The names of fields that hold the role of a column begin with this, those of options of the command with the other.
 PREFIX, OPTION = "role:", "--role="
@@ -32,12 +31,11 @@ PREFIX, OPTION = "role:", "--role="
 @cache
 def groups() -> dict[str, list[tuple[str, str]]]:
     """Returns the roles to choose from, by their keys and in words, in groups."""
-    from pitplan.blockmodel.column_guesses import METALS
-    from pitplan.blockmodel.column_roles import WORDS, Role
+    from pitplan.blockmodel.guesses import METALS, ROLE_WORDS, Role
     from pitplan.config.economics import GRADE_SIGNS
 
     def named(*keys: str) -> list[tuple[str, str]]:
-        return [(key, WORDS[key]) for key in keys]
+        return [(key, ROLE_WORDS[key]) for key in keys]
 
     grades = {
         f"Grade, {sign}": [(Role(metal, unit).text, f"grade of {metal}, {sign}") for metal in METALS.values()]
@@ -83,7 +81,7 @@ class RowsOfLast:
 
     def of(self, file: Path) -> Rows:
         """Returns the rows of a file. Raises PlanError if it cannot be read."""
-        from pitplan.blockmodel import guessed_model
+        from pitplan.blockmodel import guesses
 
         with self.lock:
             try:
@@ -93,7 +91,7 @@ class RowsOfLast:
             key = (str(file), state.st_mtime_ns, state.st_size)
             if self.rows is None or key != self.key:
                 self.rows = None
-                self.rows, self.key = guessed_model.rows_of(file), key
+                self.rows, self.key = guesses.rows_of(file), key
             return self.rows
 
 
@@ -128,9 +126,9 @@ class RolePages:
 
     def previewed(self, job: Job, roles: Mapping[str, Role]) -> dict[str, Any]:
         """Returns the text of the project, the columns, and the warnings."""
-        from pitplan.blockmodel import guessed_model, wizard
+        from pitplan.blockmodel import guesses, wizard
 
-        model = guessed_model.model_of(self.last.of(self.pages.workspace.place(table_of(job))), roles)
+        model = guesses.model_of(self.last.of(self.pages.workspace.place(table_of(job))), roles)
         text, found = wizard.project_of(model, self.pages.workspace.root / job.project)
         warnings = [it.removeprefix(WARNING) for it in found.warnings]
         return {"text": text, "columns": found.records, "warnings": warnings}
@@ -153,7 +151,7 @@ class RolePages:
 
     def roles_of(self, job: Job, form: Mapping[str, str]) -> dict[str, Role]:
         """Returns the roles of a form that differ from the guesses, and those that the import had. Raises PlanError if one is wrong."""
-        from pitplan.blockmodel.column_roles import demand_each_once, role_of_text
+        from pitplan.blockmodel.guesses import demand_each_once, role_of_text
 
         texts = dict(word.removeprefix(OPTION).rpartition("=")[::2] for word in job.words if word.startswith(OPTION))
         for it in self.recognised(job).columns:

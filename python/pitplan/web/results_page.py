@@ -20,7 +20,7 @@ from pitplan.core import layout
 from pitplan.core.text_format import MOST_IN_A_LINE
 from pitplan.errors import WARNING, PlanError
 from pitplan.results.names import TABLE
-from pitplan.results.sheet_heads import heads_of
+from pitplan.results.rounding import heads_of
 
 from .kept import Kept
 from .workspace import RECORDS, Workspace

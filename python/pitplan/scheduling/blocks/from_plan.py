@@ -19,7 +19,7 @@ from pitplan.pushbacks.bench_table import CASH, ORE, ROCK
 from pitplan.scheduling.bench_sequencing import Limits, costs_of_years
 from pitplan.scheduling.limits import SUM, all_limits_of, periods_of
 from pitplan.slopes import closure
-from pitplan.slopes.arcs import ABSENT, slices
+from pitplan.slopes.domains import ABSENT, slices
 
 from .head_grades import HeadGrade, head_grades
 from .integer_values import upward

@@ -8,7 +8,7 @@ from typing import Optional
 import numpy as np
 from numpy.typing import NDArray
 
-from pitplan.pits import dump_costs
+from pitplan.pits import shell_tables
 from pitplan.plan import Plan
 
 from .dumping import SET
@@ -40,7 +40,7 @@ def of_cells(plan: Plan, cells: NDArray[np.int64]) -> Optional[DumpSets]:
     """Returns the sets of cells with tonnes; None without `[[dumps]]`. Raises PlanError if no dump accepts some of them."""
     if not plan.project.dumps:
         return None
-    accepted, number = np.unique(dump_costs.accepted(plan, cells), axis=0, return_inverse=True)
+    accepted, number = np.unique(shell_tables.accepted(plan, cells), axis=0, return_inverse=True)
     of_cell = np.full(plan.grid.count, -1)
     of_cell[cells] = number.ravel()
     return DumpSets(accepted, of_cell)

@@ -11,8 +11,8 @@ from numpy.typing import NDArray
 from pitplan.config.project import Project
 from pitplan.config.schedule import FEED as OF_FEED, TOTAL, ScheduleRules
 from pitplan.economics import period_costs
-from pitplan.economics.acceptance import accepted_by
-from pitplan.economics.value_bins import BINS, edges_of
+from pitplan.economics.cutoff_grades import BINS, edges_of
+from pitplan.economics.weighing import accepted_by
 from pitplan.plan import MILLION, Plan
 from pitplan.pushbacks import bench_table
 from pitplan.pushbacks.bench_table import CASH, ROCK, PushbackBenches

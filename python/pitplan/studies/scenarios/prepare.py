@@ -11,7 +11,7 @@ from typing import Any
 import numpy as np
 
 from pitplan.blockmodel import summary
-from pitplan.blockmodel.figure_bounds import demand_within
+from pitplan.blockmodel.grid import demand_within
 from pitplan.config import project_writer
 from pitplan.config.economics import ByDomain
 from pitplan.config.project import Project

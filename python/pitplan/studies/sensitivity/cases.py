@@ -33,8 +33,7 @@ from pitplan.core.processes import each_done
 from pitplan.core.progress import Progress, silent
 from pitplan.errors import PlanError
 from pitplan.pits import shell_tables
-from pitplan.pits.factor_search import refined, with_factors
-from pitplan.pits.skin import Skin, of_pit
+from pitplan.pits.skin import Skin, of_pit, refined, with_factors
 from pitplan.plan import Plan, prepared
 from pitplan.solver import choice as solver, problem
 from pitplan.solver.choice import Solver
