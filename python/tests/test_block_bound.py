@@ -20,16 +20,19 @@ from hypothesis import given, strategies as st
 
 from pitplan import PlanError
 from pitplan.config.schedule import Effort
-from pitplan.scheduling.blocks import bienstock_zuckerberg, nodes as node_module, partition, restricted_lp as master
-from pitplan.scheduling.blocks.bienstock_zuckerberg import relaxed
-from pitplan.scheduling.blocks.integer_values import upward
-from pitplan.scheduling.blocks.lagrangian import priced
-from pitplan.scheduling.blocks.partition import Groups, History
-from pitplan.scheduling.blocks.presolve import earliest_years, worth_digging
-from pitplan.scheduling.blocks.problem import BlockProblem, Limit, demand_sound
-from pitplan.scheduling.blocks.ranks import ranks_of
-from pitplan.scheduling.blocks.reduction import reduced
-from pitplan.scheduling.blocks.restricted_lp import Master
+from pitplan.scheduling.blocks import problem as problems, relaxation
+from pitplan.scheduling.blocks.filling import ranks_of
+from pitplan.scheduling.blocks.problem import BlockProblem, Limit, demand_sound, upward
+from pitplan.scheduling.blocks.relaxation import (
+    Groups,
+    History,
+    Master,
+    earliest_years,
+    priced,
+    reduced,
+    relaxed,
+    worth_digging,
+)
 
 
 def first_years(problem):
@@ -129,7 +132,7 @@ def test_years_that_the_library_does_not_take_together_have_a_greater_bound(monk
     problem = problem_of([[5.0, 4.0, 3.0], [-9.0, 4.0, 1.0]], [], ([1, 1], [1, 1, 1]))
     prices = np.array([[0.0, 100.0, 0.0]])
     exact = priced(without_first(problem), prices).bound
-    monkeypatch.setattr(node_module, "MOST_NODES", 3)
+    monkeypatch.setattr(problems, "MOST_NODES", 3)
     found = priced(without_first(problem), prices)
     assert found.parts == 3 and found.bound == pytest.approx((5 + 96) + (-9 + 96) + (3 + 1) + 100)
     assert exact == pytest.approx(106) and found.in_closure.tolist() == [True, True, False, False, True, True]
@@ -190,10 +193,10 @@ def test_pairs_of_many_groups_are_the_same(monkeypatch):
     """Those by sorting and those by marks."""
     bounds = []
     for most in (0, 2**28):
-        monkeypatch.setattr(master, "MOST_MARKS", most)
+        monkeypatch.setattr(relaxation, "MOST_MARKS", most)
         bounds.append([round(relaxed(without_first(random_problem(seed)), EXACT).bound, 9) for seed in range(20)])
     assert bounds[0] == bounds[1]
-    assert master.distinct([np.array([5, 3, 5]), np.array([3, 1])], 2**30).tolist() == [1, 3, 5]
+    assert relaxation.distinct([np.array([5, 3, 5]), np.array([3, 1])], 2**30).tolist() == [1, 3, 5]
 
 
 @pytest.mark.parametrize("rounds", [1, 3])
@@ -201,8 +204,8 @@ def test_groups_that_rounds_do_not_tell_apart_are_put_together(monkeypatch, roun
     """In problems of any size: the bound is the same, over fewer groups."""
     problems = [random_problem(seed, most=30) for seed in range(12)]
     most = [relaxed(without_first(problem), EXACT).rounds[-1].groups for problem in problems]
-    monkeypatch.setattr(bienstock_zuckerberg, "FEW_GROUPS", 0)
-    monkeypatch.setattr(partition, "ROUNDS_KEPT", rounds)
+    monkeypatch.setattr(relaxation, "FEW_GROUPS", 0)
+    monkeypatch.setattr(relaxation, "ROUNDS_KEPT", rounds)
     fewer = 0
     for problem, groups in zip(problems, most):
         found, optimum = relaxed(without_first(problem), EXACT), linear_optimum(problem)
@@ -214,7 +217,7 @@ def test_groups_that_rounds_do_not_tell_apart_are_put_together(monkeypatch, roun
 def test_groups_are_put_together_by_what_the_last_rounds_found(monkeypatch):
     """Of three groups the first is divided. The second and the third have had the same share in both rounds, and been on the same side of the
     closure; the parts of the first differ in the last round."""
-    monkeypatch.setattr(partition, "ROUNDS_KEPT", 2)
+    monkeypatch.setattr(relaxation, "ROUNDS_KEPT", 2)
     groups = Groups(np.array([0, 0, 1, 2], dtype=np.int32), 3)
     history = History(np.array([[1.0, 1.0], [0.5, 0.0], [0.5, 0.0]]))
     divided = groups.divided(np.array([True, False, False, False]))
@@ -289,9 +292,9 @@ def test_what_has_no_bound_is_refused(change, said):
 def test_more_blocks_or_pairs_than_the_library_takes_are_refused(monkeypatch):
     """By blocks, whatever the years and destinations are."""
     problem = problem_of(np.ones((3, 4, 5)), [(1, 0)])
-    monkeypatch.setattr(node_module, "MOST_NODES", 3)
+    monkeypatch.setattr(problems, "MOST_NODES", 3)
     assert len(without_first(problem)) == 60
-    monkeypatch.setattr(node_module, "MOST_PAIRS", 0)
+    monkeypatch.setattr(problems, "MOST_PAIRS", 0)
     with pytest.raises(PlanError, match="3 blocks and 1 precedences, expected at most 3 and 0"):
         without_first(problem)
 

@@ -13,7 +13,7 @@ import pitplan
 from pitplan import PlanError, ProgramError, load
 from pitplan.core import paths
 from pitplan.scheduling import certificate
-from pitplan.scheduling.blocks.certificate import shares_of
+from pitplan.scheduling.blocks.tables import shares_of
 
 # The ore of three pillars of 1, 0.7 and 0.5 % copper, of 100 t each.
 DIRTY = {"as_ppm": lambda i, j, k: 0 if k else (200, 100, 50)[i]}
@@ -163,7 +163,7 @@ def test_a_run_without_removes_an_earlier_certificate(plan_folder):
 
 def test_whole_shares_add_up():
     """Thirds of a block are 333,333 and 333,334 millionths."""
-    from pitplan.scheduling.blocks.schedule import BlockSchedule
+    from pitplan.scheduling.blocks.problem import BlockSchedule
 
     thirds = BlockSchedule(np.array([0, 2]), np.array([[1 / 3, 1 / 3, 1 / 3], [0.5, 0.5, 0]]))
     found = shares_of(thirds, 2)

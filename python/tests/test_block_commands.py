@@ -175,7 +175,7 @@ def test_one_project_has_both_kinds_of_schedule(plan_folder):
 
 
 def test_too_many_blocks_are_refused_before_anything_is_solved(plan_folder, monkeypatch):
-    monkeypatch.setattr("pitplan.scheduling.blocks.nodes.MOST_NODES", 5)
+    monkeypatch.setattr("pitplan.scheduling.blocks.problem.MOST_NODES", 5)
     for solver in ("pitplan.commands.schedule.problem.solve", "pitplan.scheduling.blocks.from_plan.pitshell.solve"):
         monkeypatch.setattr(solver, lambda *given: pytest.fail("solved"))
     with pytest.raises(PlanError, match=r"project.toml: a schedule by block would have 6 blocks and 3 precedences"):

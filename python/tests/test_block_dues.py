@@ -12,11 +12,8 @@ from scipy.optimize import Bounds, LinearConstraint, linprog, milp
 from pitplan import PlanError
 from pitplan.config.schedule import Effort
 from pitplan.scheduling.blocks import solve
-from pitplan.scheduling.blocks.bienstock_zuckerberg import relaxed
-from pitplan.scheduling.blocks.lagrangian import priced
-from pitplan.scheduling.blocks.presolve import worth_digging
 from pitplan.scheduling.blocks.problem import Due, demand_sound as demand_problem
-from pitplan.scheduling.blocks.reduction import reduced
+from pitplan.scheduling.blocks.relaxation import priced, reduced, relaxed, worth_digging
 
 
 def with_dues(problem, seed):

@@ -19,14 +19,17 @@ from pitplan import PlanError
 from pitplan.config.schedule import Effort
 from pitplan.core.progress import silent
 from pitplan.scheduling.blocks import solve
-from pitplan.scheduling.blocks.bienstock_zuckerberg import relaxed
-from pitplan.scheduling.blocks.greedy import paying, schedule_of
-from pitplan.scheduling.blocks.lagrangian import priced
-from pitplan.scheduling.blocks.presolve import earliest_years, worth_digging
-from pitplan.scheduling.blocks.problem import Limit, demand_sound as demand_problem
-from pitplan.scheduling.blocks.ranks import ranks_of
-from pitplan.scheduling.blocks.reduction import first_required, reduced, relaxed_as_required
-from pitplan.scheduling.blocks.schedule import BlockSchedule
+from pitplan.scheduling.blocks.filling import paying, ranks_of, schedule_of
+from pitplan.scheduling.blocks.problem import BlockSchedule, Limit, demand_sound as demand_problem
+from pitplan.scheduling.blocks.relaxation import (
+    earliest_years,
+    first_required,
+    priced,
+    reduced,
+    relaxed,
+    relaxed_as_required,
+    worth_digging,
+)
 
 
 def graded(problem, seed, loose=0.0):

@@ -17,10 +17,8 @@ import pitplan
 from pitplan import PlanError
 from pitplan.config.schedule import Effort
 from pitplan.scheduling.blocks import solve
-from pitplan.scheduling.blocks.bienstock_zuckerberg import relaxed
-from pitplan.scheduling.blocks.lagrangian import priced
-from pitplan.scheduling.blocks.problem import demand_sound as demand_problem
-from pitplan.scheduling.blocks.schedule import BlockSchedule
+from pitplan.scheduling.blocks.problem import BlockSchedule, demand_sound as demand_problem
+from pitplan.scheduling.blocks.relaxation import priced, relaxed
 
 
 def costly(seed, most):

@@ -13,14 +13,20 @@ from helpers.random_tests import seeds
 from pitplan.config.schedule import Effort
 from pitplan.scheduling import highs_process
 from pitplan.scheduling.blocks import solve
-from pitplan.scheduling.blocks.bienstock_zuckerberg import relaxed
-from pitplan.scheduling.blocks.destinations import with_best_shares
-from pitplan.scheduling.blocks.greedy import Filling, paying, preferences, schedule_of
-from pitplan.scheduling.blocks.local_search import moved
-from pitplan.scheduling.blocks.ranks import ranks_of
-from pitplan.scheduling.blocks.reduction import reduced
-from pitplan.scheduling.blocks.schedule import BlockSchedule, nothing
-from pitplan.scheduling.blocks.toposort import Sequence, in_order, sequences
+from pitplan.scheduling.blocks.filling import (
+    Filling,
+    Sequence,
+    in_order,
+    moved,
+    paying,
+    preferences,
+    ranks_of,
+    schedule_of,
+    sequences,
+    with_best_shares,
+)
+from pitplan.scheduling.blocks.problem import BlockSchedule, nothing
+from pitplan.scheduling.blocks.relaxation import reduced, relaxed
 from pitplan.scheduling.blocks.window_milp import window_of
 
 
@@ -251,6 +257,6 @@ def test_an_interruption_before_there_is_a_bound_is_passed_on(monkeypatch):
     def interrupt(*given):
         raise KeyboardInterrupt
 
-    monkeypatch.setattr("pitplan.scheduling.blocks.bienstock_zuckerberg.priced", interrupt)
+    monkeypatch.setattr("pitplan.scheduling.blocks.relaxation.priced", interrupt)
     with pytest.raises(KeyboardInterrupt):
         solve(random_problem(3003, most=50))

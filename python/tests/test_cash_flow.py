@@ -16,7 +16,7 @@ from helpers.verified import UNVERIFIED
 import pitplan
 from pitplan import PlanError, load, verify
 from pitplan.export import xlsx
-from pitplan.scheduling.cash_flow.finance import RATES, Finance, by_production, straight_line
+from pitplan.scheduling.cash_flow.tables import RATES, Finance, by_production, straight_line
 from planaudit.inputs import answer as answers
 from planaudit.schedules import cash_flow, material_flow
 

@@ -10,13 +10,11 @@ from helpers.benches import benches_of, problem_of
 from pitplan.config.dumps import Dump
 from pitplan.config.stockpiles import Stockpile
 from pitplan.scheduling.bench_sequencing import Limits
-from pitplan.scheduling.flow.conflict_sets import Unit, smallest
-from pitplan.scheduling.flow.conflicts import Conflict, in_words
-from pitplan.scheduling.flow.dumping import SET
-from pitplan.scheduling.flow.limit_names import MAX
+from pitplan.scheduling.flow.conflicts import Conflict, Unit, in_words, smallest
+from pitplan.scheduling.flow.material import SET, Ore
 from pitplan.scheduling.flow.model import FlowModel, OpeningOre
-from pitplan.scheduling.flow.ore import Ore
 from pitplan.scheduling.flow.programme import FlowProgramme
+from pitplan.scheduling.limits import MAX
 
 
 def model_of(limits, **more):

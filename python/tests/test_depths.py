@@ -8,14 +8,14 @@ from helpers.random_tests import examples
 from hypothesis import given, strategies as st
 
 from pitplan.scheduling.bench_sequencing import Limits, Sequence, dig
-from pitplan.scheduling.flow import depths
+from pitplan.scheduling.flow import scheduler
 from pitplan.scheduling.flow.programme import FlowProgramme
-from pitplan.scheduling.flow.whole_benches import whole_shares
+from pitplan.scheduling.flow.scheduler import whole_shares
 
 
 def improved(problem, dug):
     model = without_flows(problem, dug.shape[1])
-    found = depths.improved(model, dug, problem.value(dug))
+    found = scheduler.improved_depths(model, dug, problem.value(dug))
     return dug if found is None else found
 
 
@@ -54,7 +54,7 @@ def test_depths_are_of_whole_benches_and_worth_no_less(pits, limits, lag, speed)
     dug = dig(problem, Sequence(np.arange(len(benches)), pace=pace), years)
     dug = np.pad(dug, ((0, 0), (0, years - dug.shape[1])))
     for deeper in (True, False):
-        least, most = depths.around(benches, dug.cumsum(axis=1), deeper)
+        least, most = scheduler.around(benches, dug.cumsum(axis=1), deeper)
         assert (least <= dug.cumsum(axis=1) + 1e-9).all() and (dug.cumsum(axis=1) <= most + 1e-9).all()
         demand_diggable(benches, limits, inside(problem, least, most))
     found = improved(problem, dug)
@@ -67,4 +67,4 @@ def inside(problem, least, most):
     """The shares of an optimum between these, which is that of whole benches."""
     model = without_flows(problem, least.shape[1])
     optimum = FlowProgramme(model, between=(least, most)).solved()
-    return whole_shares(np.clip(optimum.cumulative, least, most), depths.SLIGHT)
+    return whole_shares(np.clip(optimum.cumulative, least, most), scheduler.DEPTH_NOISE)

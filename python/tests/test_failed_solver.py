@@ -8,15 +8,15 @@ from helpers.benches import benches_of
 
 from pitplan import PlanError
 from pitplan.config.dumps import Dump
-from pitplan.scheduling.flow import dumping, rows
+from pitplan.scheduling.flow import material, model
 
 FAILED = SimpleNamespace(status=4, message="Numerical difficulties encountered.", x=None, fun=None)
 
 
 def test_waste_without_a_solution_is_an_error_with_the_status(monkeypatch):
-    monkeypatch.setattr(dumping, "linprog", lambda *args, **options: FAILED)
+    monkeypatch.setattr(material, "linprog", lambda *args, **options: FAILED)
     ones, limits = np.ones((1, 1)), (np.zeros((1, 2)), np.full((1, 2), np.inf))
-    waste = dumping.Waste(
+    waste = material.Waste(
         (Dump("far", 1.0),), ones > 0, 100 * ones, np.zeros((1, 0)), np.zeros(0, dtype=int), *limits, np.ones(2)
     )
     with pytest.raises(PlanError, match="HiGHS found no dump for the waste: status 4: Numerical difficulties"):
@@ -24,6 +24,6 @@ def test_waste_without_a_solution_is_an_error_with_the_status(monkeypatch):
 
 
 def test_benches_without_a_closure_are_an_error_with_the_status(monkeypatch):
-    monkeypatch.setattr(rows, "linprog", lambda *args, **options: FAILED)
+    monkeypatch.setattr(model, "linprog", lambda *args, **options: FAILED)
     with pytest.raises(PlanError, match="HiGHS found no closure of benches that pay: status 4: Numerical"):
-        rows.paying(np.array([1.0, -1.0]), benches_of((1, 0, 100, 0, 1), (1, 1, 100, 0, -1)))
+        model.paying(np.array([1.0, -1.0]), benches_of((1, 0, 100, 0, 1), (1, 1, 100, 0, -1)))

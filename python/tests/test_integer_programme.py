@@ -22,7 +22,7 @@ from pitplan.config.schedule import Effort
 from pitplan.results.folder import read_record
 from pitplan.scheduling import highs, highs_process
 from pitplan.scheduling.bench_sequencing import Limits
-from pitplan.scheduling.flow import integer
+from pitplan.scheduling.flow import scheduler
 
 
 @examples(12)
@@ -30,7 +30,7 @@ from pitplan.scheduling.flow import integer
 def test_it_is_the_best_schedule_of_all(pit, limits, lag):
     benches, years = random_benches(pit, lag), 5
     model = without_flows(problem_of(benches, limits), years)
-    flows, bound = integer.best_schedule(model, Effort(0.0, 60.0))
+    flows, bound = scheduler.best_schedule(model, Effort(0.0, 60.0))
     best, slack = integer_optimum(benches, limits, years), 2e-6 * max(1.0, np.abs(benches.of("cash_flow")).sum())
     assert flows is not None
     demand_diggable(benches, limits, flows.dug)
@@ -50,18 +50,18 @@ def test_it_is_the_best_schedule_of_all(pit, limits, lag):
 )
 def test_what_keeps_to_the_rules_by_hand(shares, is_kept):
     problem = problem_of(benches_of(*THREE), Limits({"feed_tonnes": 100, "total_tonnes": 200}))
-    assert integer.keeps(without_flows(problem, 2), np.array(shares, dtype=float)) == is_kept
+    assert scheduler.keeps(without_flows(problem, 2), np.array(shares, dtype=float)) == is_kept
 
 
 def test_a_pushback_that_sinks_too_fast_does_not_keep_to_the_rules():
     problem = problem_of(benches_of(*THREE), Limits({"feed_tonnes": 1000}, vertical_advance_rate=1.5))
-    assert integer.keeps(without_flows(problem, 2), np.array([[1, 0], [0.5, 0.5], [1, 0]]))
-    assert not integer.keeps(without_flows(problem, 2), np.array([[1, 0], [0.6, 0.4], [1, 0]]))
+    assert scheduler.keeps(without_flows(problem, 2), np.array([[1, 0], [0.5, 0.5], [1, 0]]))
+    assert not scheduler.keeps(without_flows(problem, 2), np.array([[1, 0], [0.6, 0.4], [1, 0]]))
 
 
 def test_an_integer_programme_is_the_same_in_a_process_of_its_own(highs_apart):
     problem = problem_of(benches_of(*THREE), Limits({"feed_tonnes": 100, "total_tonnes": 200}))
-    flows, bound = integer.best_schedule(without_flows(problem, 3), Effort(0.0, 60.0))
+    flows, bound = scheduler.best_schedule(without_flows(problem, 3), Effort(0.0, 60.0))
     assert bound == pytest.approx(800 / 1.1 + 500 / 1.21) == flows.value
 
 
@@ -69,7 +69,7 @@ def test_pushbacks_sink_each_by_itself():
     """Of three pushbacks each digs its one bench in the same year."""
     benches = benches_of(*((pushback, 0, 100, 100, 500) for pushback in (1, 2, 3)))
     problem = problem_of(benches, Limits({"feed_tonnes": 1000}, vertical_advance_rate=1.5))
-    assert integer.keeps(without_flows(problem, 2), np.ones((3, 1)))
+    assert scheduler.keeps(without_flows(problem, 2), np.ones((3, 1)))
 
 
 @pytest.mark.parametrize(("seconds", "more"), [(5.0, {"time_limit": 5.0}), (None, {})])
@@ -85,10 +85,10 @@ def test_a_programme_that_goes_on_when_its_time_is_up_is_ended(highs_apart, monk
     """It would sleep for a minute: it has a quarter of a second, twice that, and half a second more."""
     (tmp_path / "highs.py").write_text("import time\ntime.sleep(60)\n")
     monkeypatch.setattr(highs_process.highs, "__file__", str(tmp_path / "highs.py"))
-    monkeypatch.setattr(integer, "LATE", 0.5)
+    monkeypatch.setattr(scheduler, "LATE", 0.5)
     began = time.monotonic()
     problem = problem_of(benches_of(*THREE), Limits({"feed_tonnes": 100, "total_tonnes": 200}))
-    assert integer.best_schedule(without_flows(problem, 3), Effort(0.0, 0.25)) == (None, np.inf)
+    assert scheduler.best_schedule(without_flows(problem, 3), Effort(0.0, 0.25)) == (None, np.inf)
     assert 1.0 <= time.monotonic() - began < 20
 
 
@@ -108,7 +108,7 @@ def test_it_is_written_as_a_way_of_its_own(plan_folder):
 
 
 def test_where_none_is_found_in_time_the_others_stand(plan_folder, monkeypatch):
-    monkeypatch.setattr(integer, "solve", lambda programme, effort, patience: highs.Optimum(None, np.inf))
+    monkeypatch.setattr(scheduler, "solve", lambda programme, effort, patience: highs.Optimum(None, np.inf))
     project = load(plan_folder(pillars(), PUSHBACKS + "[schedule]\nmilp = { seconds = 1 }\n"))
     assert pitplan.write_schedule(project)["method"].tolist() == ["rule", "lp"]
     assert "WARNING: milp found no schedule within its time limit" in read_record(project.folder / "schedule")["notes"]

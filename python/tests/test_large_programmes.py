@@ -13,11 +13,11 @@ from pitplan.config.periods import Calendar, Period
 from pitplan.scheduling import highs_process
 from pitplan.scheduling.bench_sequencing import Limits
 from pitplan.scheduling.flow import programme
+from pitplan.scheduling.flow.material import Ore
 from pitplan.scheduling.flow.model import FlowModel
-from pitplan.scheduling.flow.near import years_near
-from pitplan.scheduling.flow.ore import Ore
 from pitplan.scheduling.flow.programme import FlowProgramme
 from pitplan.scheduling.highs import Programme, optimum_of
+from pitplan.scheduling.pushback_schedule import years_near
 
 
 def test_years_near_those_of_a_bench_by_hand():

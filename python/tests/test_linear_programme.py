@@ -28,7 +28,7 @@ from scipy.sparse import csr_matrix
 from pitplan import PlanError
 from pitplan.scheduling import highs, highs_process
 from pitplan.scheduling.bench_sequencing import Limits, by_rule
-from pitplan.scheduling.flow import orders, scheduler
+from pitplan.scheduling.flow import scheduler
 from pitplan.scheduling.flow.flows import none_of
 from pitplan.scheduling.flow.programme import FlowProgramme
 
@@ -119,7 +119,7 @@ def test_the_bound_is_that_of_another_solver(pit, limits, lag):
 def test_orders_have_what_the_optimum_digs_by_its_last_year():
     """The ore comes in the last year, and the second pushback is left; each order has the waste before its ore."""
     benches = benches_of(*THREE)
-    found = [order.tolist() for order in orders.of_optimum(np.array([[1.0, 1], [0, 1], [0, 0]]), benches)]
+    found = [order.tolist() for order in scheduler.of_optimum(np.array([[1.0, 1], [0, 1], [0, 0]]), benches)]
     assert len(found) > 3 and all(order == [0, 1] for order in found)
 
 

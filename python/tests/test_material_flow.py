@@ -26,8 +26,7 @@ from pitplan.economics.cutoff_grades import edges_of
 from pitplan.scheduling.bench_sequencing import Limits
 from pitplan.scheduling.flow import scheduler
 from pitplan.scheduling.flow.bound import Lagrangian, upper_bound
-from pitplan.scheduling.flow.ore import Ore
-from pitplan.scheduling.flow.parcels import Material, by_choice
+from pitplan.scheduling.flow.material import Material, Ore, by_choice
 from pitplan.scheduling.flow.programme import FlowProgramme
 
 

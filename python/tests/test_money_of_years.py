@@ -21,11 +21,11 @@ from pitplan.economics import period_costs
 from pitplan.economics.period_costs import YearlyMoney
 from pitplan.pushbacks.bench_table import PushbackBenches
 from pitplan.scheduling.bench_sequencing import Limits, Problem, by_rule
-from pitplan.scheduling.flow import integer, scheduler
+from pitplan.scheduling.flow import scheduler
 from pitplan.scheduling.flow.bound import upper_bound
 from pitplan.scheduling.flow.flows import none_of
+from pitplan.scheduling.flow.material import Ore
 from pitplan.scheduling.flow.model import FlowModel
-from pitplan.scheduling.flow.ore import Ore
 from pitplan.scheduling.flow.programme import FlowProgramme
 
 MONEY = ("mining_cost = 2\n", "mining_cost = 2\nfixed_cost_per_year = 100\ncapex = [[3, 1000], [1, 300], [2, 50]]\n")
@@ -163,7 +163,7 @@ def test_a_schedule_by_hand(money, by_rules, best):
     optimum = optimum_of(problem, 2)
     assert optimum.value == pytest.approx(best) and optimum.cash.sum() == pytest.approx(best)
     assert problem.value(made_of(problem, 2)) == pytest.approx(best)
-    flows, bound = integer.best_schedule(without_flows(problem, 2), Effort())
+    flows, bound = scheduler.best_schedule(without_flows(problem, 2), Effort())
     assert flows.value == pytest.approx(best) and bound == pytest.approx(best)
 
 

@@ -9,8 +9,8 @@ from helpers.random_tests import examples
 from hypothesis import given, strategies as st
 
 from pitplan.scheduling.bench_sequencing import Limits
+from pitplan.scheduling.flow.model import kept_behind, pace_rows
 from pitplan.scheduling.flow.programme import FlowProgramme
-from pitplan.scheduling.flow.rows import kept_behind, pace_rows
 from planaudit.schedules.pushback_bounds import steps_of
 
 

@@ -19,7 +19,7 @@ from pitplan.config.shells import ShellRules, SpecifiedCase
 from pitplan.economics.period_costs import YearlyMoney
 from pitplan.pits import best_worst_case
 from pitplan.pits.best_worst_case import BEST, SPECIFIED, WORST, Benches, best_shares, of_case
-from pitplan.pits.shell_tables import OreKinds, unions
+from pitplan.pits.ore_kinds import OreKinds, unions
 
 NAMES = ("total_tonnes", "feed_tonnes", "feed_tonnes_mill", "feed_tonnes_leach", "recovered_copper", "cash_flow")
 RULES = ShellRules((0.5, 1.0), None, 0.1, 100.0, None, "end_of_year", False, (40.0, 60.0), names=("mill", "leach"))

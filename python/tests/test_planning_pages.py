@@ -15,7 +15,7 @@ from pitplan.config.pushbacks import PushbackRules
 from pitplan.config.sensitivity import SensitivityRules
 from pitplan.config.stockpiles import Stockpile
 from pitplan.scheduling import pushback_schedule
-from pitplan.scheduling.flow.cutoffs import cutoffs
+from pitplan.scheduling.flow.tables import cutoffs
 from pitplan.solver import mine_files
 
 PAGES = {page.stem: page.read_text(encoding="utf-8") for page in (ROOT / "docs" / "planning").glob("*.md")}

@@ -17,8 +17,8 @@ from hypothesis import given, strategies as st
 
 import pitplan
 from pitplan.scheduling.bench_sequencing import Limits
-from pitplan.scheduling.flow.limit_names import RUNNING, whole_price
 from pitplan.scheduling.flow.programme import FlowProgramme
+from pitplan.scheduling.limits import RUNNING, whole_price
 
 
 def scheduled(path):

@@ -14,7 +14,7 @@ import pitplan
 from pitplan import PlanError, verify, write_schedule
 from pitplan.economics import block_values
 from pitplan.economics.block_values import Way, best_way, steps_of
-from pitplan.pits import best_worst_case, shell_tables
+from pitplan.pits import best_worst_case, ore_kinds, shell_tables
 from pitplan.solver import mine_files
 
 
@@ -264,8 +264,8 @@ def test_ore_that_goes_elsewhere_than_is_best_is_found(plan_folder, monkeypatch)
 
 def test_a_mine_that_waits_for_each_process_is_found(plan_folder, monkeypatch):
     """By the years of a small leach, which pays to be passed by."""
-    waits = shell_tables.OreKinds.waits
-    monkeypatch.setattr(shell_tables.OreKinds, "waits", lambda self, settings: waits(self, settings)[-1:])
+    waits = ore_kinds.OreKinds.waits
+    monkeypatch.setattr(ore_kinds.OreKinds, "waits", lambda self, settings: waits(self, settings)[-1:])
     path = plan_folder(deposit(), PROJECT, *MORE, ("capacity = 300", "capacity = 2"))
     pitplan.write_shells(path, writing=pitplan.Writing(verifies=False))
     assert differing(path.parent / "plan", "years")

@@ -24,7 +24,7 @@ from pitplan.scheduling.certificate import checked, write
 from pitplan.scheduling.flow import scheduler
 from pitplan.scheduling.flow.certificate import FlowCertificate
 from pitplan.scheduling.flow.programme import FlowProgramme
-from pitplan.scheduling.pushback_certificate import LimitsAlone
+from pitplan.scheduling.pushback_schedule import LimitsAlone
 
 # Shares and discount factors have six decimals.
 ROUNDED = 3e-6

@@ -20,7 +20,7 @@ from pitplan.export import xlsx
 from pitplan.figures import schedule as schedule_figures, style
 from pitplan.report import viewer3d
 from pitplan.results.folder import Folder, read_folder
-from pitplan.scheduling import pushback_record, pushback_schedule
+from pitplan.scheduling import pushback_schedule
 from pitplan.scheduling.bench_sequencing import Limits
 from pitplan.scheduling.flow.flows import none_of
 from pitplan.scheduling.flow.programme import FlowOptimum
@@ -252,7 +252,7 @@ def test_the_page_has_a_colour_a_year(solved):
 
 @pytest.mark.parametrize(("bound", "told"), [(1234.56789, 1234.568), (np.inf, None), (None, None)])
 def test_a_bound_is_told_to_a_thousandth_where_there_is_one(schedule, bound, told):
-    assert pushback_record.record(replace(schedule, milp_upper_bound=bound))["milp_upper_bound"] == told
+    assert pushback_schedule.record(replace(schedule, milp_upper_bound=bound))["milp_upper_bound"] == told
 
 
 @pytest.mark.parametrize("way", ["rule", "lp"])
@@ -270,7 +270,7 @@ def test_a_way_that_mines_nothing_is_drawn_with_a_sentence(schedule, way):
     assert [text.get_text() for text in legend.get_texts()][:2] == ["mill", "waste"]
     axes = schedule_figures.plot_gantt(empty, Figure().subplots(1, 2))
     assert "nothing is mined" in [text.get_text() for text in axes[place].texts]
-    (note,) = [note for note in pushback_record.notes(empty) if "mines nothing" in note]
+    (note,) = [note for note in pushback_schedule.notes(empty) if "mines nothing" in note]
     named = {"rule": "rule", "lp": "linear programme"}[way]
     # The bound is above 0.
     warns = "WARNING: " if empty.shown == way else ""

@@ -16,7 +16,7 @@ from hypothesis import HealthCheck, given, strategies as st
 
 import pitplan
 from pitplan import Plan, PlanError, constraints, load, verify
-from pitplan.blockmodel import grid as grid_blockmodel, missing_blocks, reader
+from pitplan.blockmodel import grid as grids, missing_blocks, reader
 from pitplan.cli import main
 from pitplan.commands.audited import demand
 from pitplan.economics import weighing
@@ -640,8 +640,8 @@ def test_a_grid_that_begins_above_the_table_is_found(plan_folder, monkeypatch):
             grid, shape=(levels + 1, *sides), origin=(x, y, z + grid.size[2]), rows=grid.rows + grid.per_level
         )
 
-    laid = grid_blockmodel.of_table
-    monkeypatch.setattr(grid_blockmodel, "of_table", higher)
+    laid = grids.of_table
+    monkeypatch.setattr(grids, "of_table", higher)
     said = refused(plan_folder, None, TEXT)
     assert "blocks: the highest level of the grid is at 55 m, that of the table at 45" in said
 

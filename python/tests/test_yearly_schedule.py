@@ -19,7 +19,7 @@ from pitplan.cli import main
 from pitplan.export import xlsx
 from pitplan.results.folder import read_record
 from pitplan.scheduling import pushback_schedule
-from pitplan.scheduling.flow import depths, programme
+from pitplan.scheduling.flow import programme as programmes, scheduler
 from pitplan.scheduling.flow.flows import none_of
 
 # What each pillar is worth: 40 a per cent and tonne, less 10 for processing and 4 for mining.
@@ -405,7 +405,7 @@ def test_an_interruption_keeps_what_is_found_so_far(plan_folder, capsys, monkeyp
     def interrupted(programme, effort=None):
         os.kill(os.getpid(), signal.SIGINT)
 
-    monkeypatch.setattr(programme, "solve", interrupted)
+    monkeypatch.setattr(programmes, "solve", interrupted)
     path = plan_folder(pillars(), PUSHBACKS)
     assert main(["schedule", str(path), "--quiet"]) == 130
     folder = path.parent / "plan" / "schedule"
@@ -419,7 +419,7 @@ def test_an_interruption_while_depths_are_improved_keeps_the_schedule(plan_folde
     def interrupted(model, dug, value):
         raise KeyboardInterrupt
 
-    monkeypatch.setattr(depths, "improved", interrupted)
+    monkeypatch.setattr(scheduler, "improved", interrupted)
     assert main(["schedule", str(path := plan_folder(pillars(), PUSHBACKS))]) == 130
     told = json.loads((path.parent / "plan/schedule/schedule.json").read_text())
     assert list(told["methods"]) == ["rule", "lp"] and told["interrupted"]

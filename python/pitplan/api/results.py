@@ -16,7 +16,7 @@ from pitplan.core.warned import warn
 from pitplan.errors import ResultWarning
 from pitplan.pits import shell_tables
 from pitplan.pushbacks import nested
-from pitplan.scheduling import pushback_record, pushback_schedule
+from pitplan.scheduling import pushback_schedule
 from pitplan.scheduling.pushback_schedule import YearlySchedule
 from pitplan.solver.program import Solution
 
@@ -236,7 +236,7 @@ class PushbackSchedule:
     @property
     def notes(self) -> list[str]:
         """Notes on the schedule."""
-        return pushback_record.notes(self.found)
+        return pushback_schedule.notes(self.found)
 
     def plot(self, axes: Any) -> list[Axes]:
         """Draws the years of the benches of each pushback, a method on each of the axes; returns these."""

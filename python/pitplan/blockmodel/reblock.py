@@ -24,8 +24,8 @@ from pitplan.core.decimals import MOST_WHOLE, Exact, greatest, nearest, product
 from pitplan.core.numeric_fields import at_row
 from pitplan.errors import PlanError
 
-from . import grid as grid_blockmodel
-from .grid import Frame
+from . import grid as grids
+from .grid import Frame, metres
 from .reader import Table
 
 # Cells that are numbered by an array of all of them, for each row.
@@ -91,7 +91,7 @@ def of_table(table: Table, project: Project) -> Reblocked:
     lattice = of_counts(table, project, rules) if rules.counts else of_corner(table, project, rules)
     places, parts = parts_of(table.frame[project.table.tonnes].to_numpy(), lattice)
     frame, mixed = put_together(table.frame, lattice.centres(places), places, parts, project)
-    x, y, z = (grid_blockmodel.metres(side) for side in lattice.size)
+    x, y, z = (metres(side) for side in lattice.size)
     notes = [f"{len(table.frame):,} rows were reblocked into {len(frame):,} blocks of {x} x {y} x {z} m", *mixed]
     if table.cells:
         notes += volume_notes(table.cells.volumes, parts.block, lattice.size[0] * lattice.size[1] * lattice.size[2])
@@ -116,7 +116,7 @@ def of_cell_size(table: Table, project: Project) -> Project:
 def of_counts(table: Table, project: Project, rules: Reblock) -> Lattice:
     """Combines a number of whole blocks in each direction, from the west, the south and the floor."""
     assert rules.counts is not None
-    grid = grid_blockmodel.of_table(table.frame, project, table.source, any_size=True)
+    grid = grids.of_table(table.frame, project, table.source, any_size=True)
     column, row, level = grid.indices(grid.rows)
     places = [place // count for place, count in zip((column, row, grid.shape[0] - 1 - level), rules.counts)]
     west, _, south, _, floor, _ = grid.extent()
@@ -138,7 +138,7 @@ def of_corner(table: Table, project: Project, rules: Reblock) -> Lattice:
         steps = (along - edge[k]) / rules.size[k]
         between = np.abs(steps - np.rint(steps)) * rules.size[k] <= project.grid.tolerance
         if between.any():
-            size, corner = (grid_blockmodel.metres(it[k]) for it in (rules.size, rules.corner))
+            size, corner = (metres(it[k]) for it in (rules.size, rules.corner))
             why = f"lies on the boundary of two blocks of {size} m from {corner}: check the corner"
             raise at_row(table.source, int(between.argmax()), name, why)
         place = np.floor(steps).astype(np.int64)

@@ -161,10 +161,10 @@ def write_tables(answered: Answered, stage: Path) -> Tables:
         (stage / layout.SOLVER / mine_files.ANSWER).write_bytes(solution.answer)
     blocks = shell_tables.blocks(plan, solution) if pushbacks is None else nested.blocks(pushbacks)
     if answered.schedule is not None:
-        from pitplan.scheduling import inventory, pushback_blocks, pushback_schedule
+        from pitplan.scheduling import inventory, pushback_schedule
 
-        blocks["year"] = pushback_blocks.blocks_year(answered.schedule)[blocks["id"].to_numpy()]
-        blocks["bin"] = pushback_blocks.blocks_bin(answered.schedule)[blocks["id"].to_numpy()]
+        blocks["year"] = pushback_schedule.blocks_year(answered.schedule)[blocks["id"].to_numpy()]
+        blocks["bin"] = pushback_schedule.blocks_bin(answered.schedule)[blocks["id"].to_numpy()]
         for name, shares in inventory.blocks_shares(answered.schedule).items():
             blocks[name] = shares[blocks["id"].to_numpy()]
         years = pd.concat([years, pushback_schedule.years(answered.schedule)], ignore_index=True)
@@ -190,9 +190,9 @@ def curves_of(answered: Answered, shells: pd.DataFrame) -> pd.DataFrame:
     pushbacks of the selected shell."""
     plan, pushbacks = answered.plan, answered.pushbacks
     if answered.blocks is not None:
-        from pitplan.scheduling.blocks import inventory
+        from pitplan.scheduling.blocks.tables import grade_tonnage_table
 
-        return inventory.grade_tonnage_table(answered.blocks)
+        return grade_tonnage_table(answered.blocks)
     if pushbacks is not None:
         return grade_tonnage.of_pushbacks(pushbacks.plan, pushbacks.pushback, len(pushbacks.factors))
     entry = answered.solution.entry[: plan.grid.count]

@@ -16,7 +16,7 @@ from pitplan.core.optional_packages import load_library
 from pitplan.errors import WARNING, PlanError
 from pitplan.export import xlsx
 from pitplan.pushbacks import nested
-from pitplan.scheduling import certificate as certificates, pushback_certificate, pushback_record, pushback_schedule
+from pitplan.scheduling import certificate as certificates, pushback_schedule
 from pitplan.solver import problem
 
 from .answers import Answered, write_answer
@@ -74,8 +74,8 @@ def write_schedule(
         without = list[str]()
         if certificate:
             with writing.progress.step("certifying the schedule"), noting(without):
-                schedule = pushback_certificate.certified(schedule, run.stage, paths.schedule_program())
-        run.record["notes"] += [*pushbacks.notes, *pushback_record.notes(schedule), *without]
+                schedule = pushback_schedule.certified(schedule, run.stage, paths.schedule_program())
+        run.record["notes"] += [*pushbacks.notes, *pushback_schedule.notes(schedule), *without]
         write_answer(Answered(pushbacks.plan, pushbacks.solution, pushbacks, schedule), run)
     return pushback_schedule.methods(schedule)
 
@@ -120,8 +120,8 @@ def write_block_schedule(
     xlsx.demand_library()
     # Its modules import the library themselves.
     from pitplan.scheduling.blocks import tables
-    from pitplan.scheduling.blocks.certificate import demand_free
-    from pitplan.scheduling.blocks.keys import demand_of_blocks
+    from pitplan.scheduling.blocks.from_plan import demand_of_blocks
+    from pitplan.scheduling.blocks.tables import demand_free
 
     project = read(project)
     demand_of_blocks(project)
@@ -155,7 +155,7 @@ def noting(notes: list[str]) -> Iterator[None]:
 
 def certified(made: ScheduledBlocks, run: Run) -> ScheduledBlocks:
     """Writes the certificate of a schedule by block, and returns the schedule with what is proved of it."""
-    from pitplan.scheduling.blocks.certificate import sides_of
+    from pitplan.scheduling.blocks.tables import sides_of
 
     with run.writing.progress.step("certifying the schedule"):
         certificate = made.certificate

@@ -17,8 +17,8 @@ from pitplan.scheduling.methods import BLOCK
 
 if TYPE_CHECKING:
     from pitplan.scheduling.blocks.tables import ScheduledBlocks
-    from pitplan.scheduling.cash_flow.finance import Finance
-    from pitplan.scheduling.cash_flow.operation import Operation
+    from pitplan.scheduling.cash_flow.lines import Operation
+    from pitplan.scheduling.cash_flow.tables import Finance
     from pitplan.scheduling.price_paths import PriceScenarios
     from pitplan.scheduling.pushback_schedule import YearlySchedule
 
@@ -75,28 +75,28 @@ class ScheduleTables:
 def of_pushbacks(schedule: YearlySchedule) -> ScheduleTables:
     """Returns the tables of a schedule of pushbacks."""
     from pitplan.scheduling import inventory
-    from pitplan.scheduling.cash_flow.of_pushbacks import finances, operations
+    from pitplan.scheduling.cash_flow.tables import operations, pushback_finances
     from pitplan.scheduling.flow import tables
-    from pitplan.scheduling.flow.cutoff_table import cutoff_table
+    from pitplan.scheduling.flow.tables import cutoff_table
 
     flows = {"feed": tables.feed_table(schedule), "flows": schedule.material_flows, "cutoffs": cutoff_table(schedule)}
     flows[INVENTORY] = inventory.inventory_table(schedule)
     flows |= {"stockpiles": tables.stockpile_table(schedule)} if schedule.is_stocked else {}
     flows |= {"dumps": tables.dump_table(schedule)} if schedule.model.dumps else {}
     project = schedule.pushbacks.plan.project
-    found, method = finances(schedule), schedule.shown
+    found, method = pushback_finances(schedule), schedule.shown
     prices = priced(operations(schedule)[method], next(it for it in found if it.statement.method == method))
     return ScheduleTables(method, *money(project, found), flows, prices)
 
 
 def of_blocks(blocks: ScheduledBlocks) -> ScheduleTables:
     """Returns the tables of a schedule by block."""
-    from pitplan.scheduling.blocks import inventory
-    from pitplan.scheduling.cash_flow.of_blocks import BlockOperation, finances
+    from pitplan.scheduling.blocks import tables
+    from pitplan.scheduling.cash_flow.tables import BlockOperation, block_finances
 
     project = blocks.planned.plan.project
-    flows = {INVENTORY: inventory.inventory_table(blocks)}
-    found = finances(blocks)
+    flows = {INVENTORY: tables.inventory_table(blocks)}
+    found = block_finances(blocks)
     return ScheduleTables(BLOCK, *money(project, found), flows, priced(BlockOperation(blocks), found[0]))
 
 
@@ -117,13 +117,12 @@ def money(project: Project, found: list[Finance]) -> tuple[pd.DataFrame, pd.Data
 
 def write_pushbacks(schedule: YearlySchedule, project: Project, stage: Path) -> None:
     """Writes the tables that only schedules of pushbacks have: schedule.csv, methods.csv, schedule.json, limits.csv and bound.csv."""
-    from pitplan.scheduling import pushback_record, pushback_schedule
-    from pitplan.scheduling.flow.limit_table import limit_table
-    from pitplan.scheduling.flow.tables import bound_table
+    from pitplan.scheduling import pushback_schedule
+    from pitplan.scheduling.flow.tables import bound_table, limit_table
 
     write_csv(shown(pushback_schedule.table(schedule)), stage / names.SCHEDULE, project)
     write_csv(shown(pushback_schedule.methods(schedule)), stage / names.METHODS, project)
-    write_json(stage / names.SCHEDULE_RECORD, pushback_record.record(schedule))
+    write_json(stage / names.SCHEDULE_RECORD, pushback_schedule.record(schedule))
     named(shown(limit_table(schedule)), project).to_csv(stage / names.LIMITS, index=False)
     if schedule.optimum is not None:
         named(bound_table(schedule), project).to_csv(stage / names.BOUND, index=False)

@@ -25,22 +25,7 @@ from pitplan.core.revenue_factors import BASE_PRICE
 from pitplan.errors import PlanError
 
 from .smelter_terms import charge, net, payable_share
-from .weighing import HIGH_GRADES, Feed, Hauled, Rows, accepted_by
-
-
-@dataclass(frozen=True)
-class Way:
-    """One process: revenue and cost of each cell in millionths, and the recovered quantity of each metal. `name` is "" if there is only one."""
-
-    name: str
-    revenue: np.ndarray
-    cost: np.ndarray
-    metal: dict[str, np.ndarray]
-
-    def within(self, cells: np.ndarray) -> Way:
-        """The same with neither revenue nor cost nor metal outside some cells; `cells` is a mask."""
-        metal = {name: np.where(cells, amounts, 0.0) for name, amounts in self.metal.items()}
-        return Way(self.name, np.where(cells, self.revenue, 0), np.where(cells, self.cost, 0), metal)
+from .weighing import HIGH_GRADES, Feed, Hauled, Rows, Way, accepted_by
 
 
 @dataclass(frozen=True)

@@ -13,10 +13,10 @@ from pitplan.blockmodel.grid import Grid
 from pitplan.config.project import Project
 from pitplan.core.decimals import Exact
 
-from .block_values import Values, Way
+from .block_values import Values
 from .period_costs import PROCESSING_COST, SELLING_COST, SMELTED, of_project
 from .smelter_terms import PENALTIES, multiplied, net
-from .weighing import HAULAGE, MILLIONTHS, Rows
+from .weighing import HAULAGE, MILLIONTHS, Rows, Way
 
 PROCESSING, ROYALTY = "processing", "royalty"
 # Amounts of cells by line.

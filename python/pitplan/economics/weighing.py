@@ -21,11 +21,25 @@ from pitplan.config.project import Project
 from pitplan.core.decimals import Exact, Rounding, nearest, whole_and_places
 from pitplan.core.numeric_fields import at_row
 
-from .block_values import Way
 from .smelter_terms import charge_of_ore, paid, penalty_rates
 
 # A recovery by grade is kept to a millionth, since the line between two grades has no end of decimals.
 PLACES = 6
+
+
+@dataclass(frozen=True)
+class Way:
+    """One process: revenue and cost of each cell in millionths, and the recovered quantity of each metal. `name` is "" if there is only one."""
+
+    name: str
+    revenue: np.ndarray
+    cost: np.ndarray
+    metal: dict[str, np.ndarray]
+
+    def within(self, cells: np.ndarray) -> Way:
+        """The same with neither revenue nor cost nor metal outside some cells; `cells` is a mask."""
+        metal = {name: np.where(cells, amounts, 0.0) for name, amounts in self.metal.items()}
+        return Way(self.name, np.where(cells, self.revenue, 0), np.where(cells, self.cost, 0), metal)
 
 
 @dataclass(frozen=True)

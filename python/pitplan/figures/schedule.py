@@ -26,7 +26,7 @@ from pitplan.core.magnitude import scaled
 from pitplan.core.revenue_factors import factor_text
 from pitplan.pits import shell_tables
 from pitplan.pushbacks.bench_table import ROCK
-from pitplan.scheduling.cash_flow.of_blocks import BlockOperation
+from pitplan.scheduling.cash_flow.tables import BlockOperation
 from pitplan.scheduling.flow.tables import feed_table
 from pitplan.scheduling.methods import LP, MILP, NAMES, RULE
 from pitplan.scheduling.pushback_schedule import YearlySchedule

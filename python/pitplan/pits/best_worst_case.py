@@ -22,7 +22,7 @@ from pitplan.config.shells import ShellRules, SpecifiedCase
 from pitplan.economics.period_costs import MINING_COST, PLAIN, YearlyMoney, is_shown
 from pitplan.errors import PlanError
 
-from .shell_tables import OreKinds, Wait, with_mining
+from .ore_kinds import OreKinds, Wait, with_mining
 
 # Relative tolerance of capacities, since sums of floats differ from them by rounding.
 STRICT_HAIR = 1e-12

@@ -28,7 +28,6 @@ from .column_types import (
     Table,
     Unit,
 )
-from .rounding import DISCOUNTING, OUTLINE
 
 SEVERAL = "with several processes"
 RF = Column("revenue_factor", FACTOR, "that of the shell", "revenue factor")
@@ -46,6 +45,7 @@ CASH = Column("undiscounted_cash_flow", MONEY, "at the base price", "undiscounte
 NPV = Column("npv", MONEY, "sum of `discounted_cash_flow` in `years.csv`", "NPV")
 BOUND = Column("upper_bound", MONEY, "upper bound on the NPV of any such schedule; empty without one", "upper bound")
 GAP = Column("optimality_gap", SHARE, "what the NPV stays below the bound, as a share of the bound", "gap")
+DISCOUNTING, OUTLINE = "discounting", "outline"
 DISCOUNTS = Column(DISCOUNTING, TEXT, "`end_of_year`, `mid_year` or `continuous`")
 WIDTH = "with a minimum mining width"
 OUTLINES = Column(OUTLINE, TEXT, "`shell`: the shells before widening; `pushback`: the pushbacks", when=WIDTH)

@@ -15,9 +15,8 @@ from pitplan.config.periods import YEAR
 from pitplan.config.project import Project
 
 from .column_types import AMOUNT, COUNT, GRADE, METAL, NUMBER, SHARE, TEXT, Unit
-from .columns import TABLES, unit_of
+from .columns import DISCOUNTING, OUTLINE, TABLES, unit_of
 
-DISCOUNTING, OUTLINE = "discounting", "outline"
 SHELL, PUSHBACK = "shell", "pushback"
 # The columns of discounted amounts.
 DISCOUNTED = {"npv_best", "npv", "discounted_cash_flow", "common_npv"}

@@ -23,9 +23,8 @@ from pitplan.config.price_paths import PricePath, PricePaths
 from pitplan.config.project import Project
 from pitplan.config.smelter import BOTH
 from pitplan.economics.smelter_terms import PARTICIPATION, charges, net
-
-from .cash_flow.finance import Finance
-from .cash_flow.operation import Operation
+from pitplan.scheduling.cash_flow.lines import Operation
+from pitplan.scheduling.cash_flow.tables import Finance
 
 QUANTILES = (0.1, 0.5, 0.9)
 # A price step from which slopes of prices are taken, so that their rounding does not matter.

@@ -1,4 +1,4 @@
-"""A yearly schedule of a pit's pushbacks by several methods, with an upper bound on the NPV of all of them."""
+"""The years near those in which an optimum mines each bench."""
 
 from __future__ import annotations
 
@@ -6,36 +6,61 @@ import math
 from collections.abc import Iterator
 from dataclasses import dataclass, field, replace
 from functools import cached_property
-from typing import Optional
+from pathlib import Path
+from typing import Any, Optional
 
 import numpy as np
 import pandas as pd
+import scipy
+from numpy.typing import NDArray
 
+from pitplan.config.economics import GRADE_UNITS
+from pitplan.config.periods import Calendar
+from pitplan.config.places import MILL
 from pitplan.config.project import Project
 from pitplan.config.schedule import Effort, ScheduleRules
 from pitplan.config.shells import ShellRules
 from pitplan.core.progress import Progress, silent
 from pitplan.economics import period_costs
-from pitplan.errors import PlanError
+from pitplan.errors import WARNING, PlanError
 from pitplan.pits.best_worst_case import year_discounts
 from pitplan.pushbacks import bench_table
 from pitplan.pushbacks.bench_table import CASH, ORE, ROCK, PushbackBenches
 from pitplan.pushbacks.nested import Pushbacks
+from pitplan.scheduling.bench_sequencing import HAIR
+from pitplan.scheduling.flow.material import Material, by_choice, by_value, names_of, of_pushbacks, with_grades
+from pitplan.scheduling.flow.opening import balance_at_start
+from pitplan.scheduling.flow.tables import cutoffs
 
 from .bench_sequencing import Problem, running
-from .certificate import Certified
-from .flow import bound, integer, opening, parcels, scheduler, tables
+from .certificate import Certified, checked, write
+from .flow import bound, opening, scheduler, tables
+from .flow.certificate import FlowCertificate
 from .flow.conflicts import Conflict
 from .flow.flows import Flows
-from .flow.limit_names import Prices
 from .flow.mixed_reclaim import loss_by_mixing
 from .flow.model import FlowModel
-from .flow.near import years_near
 from .flow.opening import Lots
-from .flow.parcels import Material
 from .flow.programme import FlowOptimum, FlowProgramme
-from .limits import all_limits_of, periods_of
-from .methods import LP, MILP, RULE
+from .flow.tables import stockpile_table
+from .limits import Prices, all_limits_of, periods_of
+from .methods import LP, MILP, NAMES, RULE, notes_of_gap
+
+# The years around those of a bench in which the next programme may mine it.
+NEAR = 3.0
+
+
+def years_near(cumulative: NDArray[np.float64], calendar: Calendar) -> NDArray[np.bool_]:
+    """Returns the years in which a bench may be mined that an optimum mines by these shares, shape (benches, years): from NEAR years before those
+    in which it does so to NEAR years after them."""
+    years = cumulative.shape[1]
+    ends, lengths = calendar.ends(years), calendar.lengths(years)
+    begun, through = cumulative > HAIR, cumulative > 1 - HAIR
+    first = np.where(begun.any(axis=1), begun.argmax(axis=1), years - 1)
+    last = np.where(through.any(axis=1), through.argmax(axis=1), years - 1)
+    is_late = ends >= (ends - lengths)[first, None] - NEAR + HAIR
+    return np.asarray(is_late & (ends - lengths <= ends[last, None] + NEAR - HAIR))
+
 
 # The linear programme may take this part of the rule's years more.
 MORE_YEARS = 0.2
@@ -120,7 +145,7 @@ class YearlySchedule:
     @property
     def names(self) -> list[str]:
         """The processes by name; "" of a project that names none."""
-        return parcels.names_of(self.pushbacks.plan)
+        return names_of(self.pushbacks.plan)
 
     @property
     def is_stocked(self) -> bool:
@@ -191,8 +216,8 @@ def make(pushbacks: Pushbacks, progress: Progress = silent) -> YearlySchedule:
         nothing.
     """
     project, rules = pushbacks.plan.project, rules_of(pushbacks.plan.project)
-    material = parcels.of_pushbacks(pushbacks, rules)
-    limits = parcels.with_grades(all_limits_of(project, rules), project)
+    material = of_pushbacks(pushbacks, rules)
+    limits = with_grades(all_limits_of(project, rules), project)
     problem = Problem(material.benches, limits, project.shells, period_costs.of_project(project))
     most, count = periods_of(project, rules), len(material.benches)
     lots = opening.of_plan(pushbacks.plan, rules)
@@ -242,7 +267,7 @@ def better(schedule: YearlySchedule, rules: ScheduleRules, progress: Progress) -
         yield schedule
     if rules.milp is not None:
         with progress.step(f"solving the integer programme, up to {rules.milp.seconds:,.0f} s"):
-            best, most = integer.best_schedule(model, rules.milp)
+            best, most = scheduler.best_schedule(model, rules.milp)
         found = {} if best is None else {MILP: best}
         schedule = replace(schedule, flows=schedule.flows | found, milp_upper_bound=most)
         refusal = PlanError(
@@ -269,7 +294,7 @@ def is_small(schedule: YearlySchedule) -> bool:
 def with_integer_programme(schedule: YearlySchedule) -> YearlySchedule:
     """Returns the schedule with that of a short integer programme, if it is better than all others."""
     try:
-        best, most = integer.best_schedule(schedule.model, UNASKED)
+        best, most = scheduler.best_schedule(schedule.model, UNASKED)
     except PlanError:
         return schedule
     others = max((flows.value for flows in schedule.flows.values()), default=-math.inf)
@@ -286,7 +311,7 @@ def relaxations(schedule: YearlySchedule, rules: ScheduleRules, progress: Progre
     """
     is_large = FlowProgramme(schedule.model).is_large
     if is_large:
-        few = parcels.by_value(schedule.material, schedule.names, FEW_BINS, FEW_PARTS)
+        few = by_value(schedule.material, schedule.names, FEW_BINS, FEW_PARTS)
         schedule = with_material(schedule, few, rules)
     schedule = relaxed(schedule, progress)
     yield schedule
@@ -334,7 +359,7 @@ def in_finer_bins(schedule: YearlySchedule, rules: ScheduleRules) -> YearlySched
     """Returns the schedule with parcels of blocks that choose alike at the prices of the linear programme, and the rule's flows of these."""
     assert schedule.optimum is not None
     relaxation = bound.Lagrangian(replace(schedule.model, ore=schedule.material.blocks), schedule.optimum.prices)
-    return with_material(schedule, parcels.by_choice(schedule.material, relaxation.choices[1]), rules)
+    return with_material(schedule, by_choice(schedule.material, relaxation.choices[1]), rules)
 
 
 def with_material(schedule: YearlySchedule, material: Material, rules: ScheduleRules) -> YearlySchedule:
@@ -427,3 +452,169 @@ def methods(schedule: YearlySchedule) -> pd.DataFrame:
             }
         )
     return pd.DataFrame(rows)
+
+
+# A grade that differs by a smaller share from another is the same for a planner.
+APART = 0.01
+
+
+def record(schedule: YearlySchedule) -> dict[str, Any]:
+    """Returns what schedule.json has: of each method NPV, years, unmined tonnes and cut-offs; the bounds; and the limits."""
+    limits = schedule.problem.limits
+    most = schedule.milp_upper_bound
+    return {
+        "revenue_factor": schedule.factor,
+        "methods": {method: record_of(schedule, method) for method in schedule.flows},
+        "upper_bound": None if schedule.upper_bound is None else round(schedule.upper_bound, 3),
+        "milp_upper_bound": None if most is None or math.isinf(most) else round(most, 3),
+        "years": schedule.time(schedule.years),
+        **periods_in(schedule, schedule.years),
+        "shown": schedule.shown,
+        "lead": schedule.lead,
+        "lag": schedule.benches.lag,
+        "limits": limits.most,
+        **({"least": limits.least} if limits.least else {}),
+        "ramp_up": list(limits.ramp_up),
+        "vertical_advance_rate": None if math.isinf(limits.vertical_advance_rate) else limits.vertical_advance_rate,
+        "bins": {name or MILL: edges.tolist() for name, edges in schedule.material.edges.items()},
+        "stockpiles": [it.name for it in schedule.model.stockpiles],
+        **({"dumps": [it.name for it in schedule.model.dumps]} if schedule.model.dumps else {}),
+        "interrupted": schedule.interrupted,
+        **({"certificate": schedule.certified.record} if schedule.certified else {}),
+        "solver": f"HiGHS of scipy {scipy.__version__}",
+    }
+
+
+def record_of(schedule: YearlySchedule, method: str) -> dict[str, Any]:
+    """Returns the record of a method; those of programmes with the cut-offs, by process, in net value per tonne of feed by year."""
+    years = schedule.flows[method].years
+    by_process = {name or MILL: values[:years].round(6).tolist() for name, values in cutoffs(schedule).items()}
+    return {
+        "npv": round(schedule.value(method), 3),
+        "years": schedule.time(years),
+        **periods_in(schedule, years),
+        "unmined_tonnes": round(schedule.left(method), 3),
+        **({} if method == RULE or schedule.optimum is None else {"cutoffs": by_process}),
+    }
+
+
+def periods_in(schedule: YearlySchedule, count: int) -> dict[str, Any]:
+    """Returns the number of periods unless they are years."""
+    return {} if schedule.settings.calendar.is_yearly else {"periods": count}
+
+
+def notes(schedule: YearlySchedule) -> list[str]:
+    """Returns what a planner should know of the schedule."""
+    found = []
+    if RULE in schedule.flows:
+        found.append(
+            f"rule: each pushback follows the one before by {schedule.lead} benches, the lead with the highest NPV"
+        )
+    if schedule.interrupted:
+        found.append(f"{WARNING}the run was interrupted before all methods had finished; the table has those that did")
+    if schedule.upper_bound is not None:
+        scope = f"any schedule of these pushbacks of up to {schedule.time(schedule.years):.10g} years within these limits, wherever each block goes"
+        found.append(f"upper bound on the NPV of {scope}: {schedule.upper_bound:,.0f}")
+    if schedule.milp_upper_bound is not None and MILP not in schedule.flows:
+        found.append(f"{WARNING}milp found no schedule within its time limit")
+    elif schedule.milp_upper_bound is not None:
+        found.append(f"upper bound of milp on schedules by these value bins: {schedule.milp_upper_bound:,.0f}")
+    found += [schedule.certified.note] if schedule.certified else []
+    currency = schedule.pushbacks.plan.project.economics.currency
+    for name, values in cutoffs(schedule).items() if schedule.optimum is not None else ():
+        by_year = ", ".join(f"{worth:.2f}" for worth in values[: schedule.flows[schedule.shown].years])
+        found.append(
+            f"cut-off of {name or MILL} by {schedule.settings.calendar.word} (net value of a tonne of feed, {currency}): {by_year}"
+        )
+    if schedule.upper_bound is not None and not schedule.interrupted:
+        rules = schedule.pushbacks.plan.project.schedule
+        found += notes_of_gap(schedule.value(schedule.shown), schedule.upper_bound, rules.milp if rules else None)
+    found += notes_of_stockpiles(schedule)
+    if schedule.model.dumps and RULE not in schedule.flows and not schedule.model.asks_least:
+        found.append("no schedule by rule: its waste finds no room in the dumps")
+    for method in schedule.flows:
+        rock = schedule.left(method)
+        if not schedule.shares[method].any():
+            pays = schedule.shown == method and (schedule.upper_bound or 0.0) > 0
+            found.append(
+                f"{WARNING if pays else ''}{NAMES[method]} mines nothing: at these prices and costs it finds no schedule with an NPV above 0"
+            )
+        elif rock > 0.5:
+            found.append(f"{NAMES[method]}: {rock:,.0f} t of the pushbacks remain unmined")
+    return found
+
+
+def notes_of_stockpiles(schedule: YearlySchedule) -> list[str]:
+    """Returns what a planner should know of stockpiles whose reclaimed grade differs from the mean of the pile, and what the mean would earn."""
+    found, metals = [], schedule.pushbacks.plan.project.metals
+    table = stockpile_table(schedule).query("method == @schedule.shown") if schedule.is_stocked else pd.DataFrame()
+    for name, rows in table.groupby("stockpile", sort=False) if len(table) else ():
+        start = balance_at_start(schedule, str(name))
+        for metal in metals:
+            at_start = float(start[f"contained_{metal.name}"]) / float(GRADE_UNITS[metal.unit])
+            first = at_start / start["feed_tonnes"] if start["feed_tonnes"] > 0 else np.nan
+            lay, taken = np.append(first, rows[f"grade_{metal.name}"])[:-1], rows[f"reclaimed_grade_{metal.name}"]
+            apart = np.flatnonzero(np.abs(taken - lay) > APART * np.abs(lay))
+            by_year = [f"{rows['year'].iloc[k]}: {taken.iloc[k]:.4g} of {lay[k]:.4g}" for k in apart]
+            if by_year:
+                what = f"reclaimed grade of {metal.name} of the mean of the pile, {metal.sign}"
+                found.append(f"stockpile {name}: {what}, by {schedule.settings.calendar.word}: {', '.join(by_year)}")
+    if found:
+        value = schedule.value(schedule.shown) - loss_by_mixing(schedule.flows[schedule.shown])
+        found.append(f"{WARNING}if each stockpile gives back the mean of what lies there, the NPV is {value:,.0f}")
+    return found
+
+
+class LimitsAlone(FlowProgramme):
+    """The linear programme without what only schedules of whole benches keep, as in the texts of a certificate."""
+
+    def __init__(self, model: FlowModel) -> None:
+        super().__init__(model, paced=False)
+
+    @property
+    def reachable(self) -> NDArray[np.float64]:
+        return np.ones((len(self.model.benches), self.years))
+
+
+def prices_of(schedule: YearlySchedule) -> Prices:
+    """Returns the prices of limits at which the bound of the texts is lowest; none if the run was interrupted before the linear programme."""
+    return {} if schedule.optimum is None else LimitsAlone(schedule.model).solved().prices
+
+
+def certified(schedule: YearlySchedule, stage: Path, program: Optional[Path]) -> YearlySchedule:
+    """Writes the texts of the schedule that is shown into a folder, and returns it with what the program proves.
+
+    Raises
+    ------
+    PlanError
+        If the texts cannot state the problem.
+    ProgramError
+        If the program does not prove the texts.
+    """
+    model = replace(schedule.model, ore=schedule.material.blocks)
+    found = FlowCertificate(model, schedule.material.parcel, schedule.flows[schedule.shown], prices_of(schedule))
+    toes, made = schedule.pushbacks.plan.grid.toes(), found.made
+    write(made, found.names(toes, schedule.material.cells), stage)
+    processes, stockpiles = [it or "mill" for it in schedule.names], [it.name for it in model.stockpiles]
+    destinations = tuple(it.named(processes, stockpiles) for it in found.destinations)
+    proved = checked(stage, program, made.unit)
+    return replace(schedule, certified=replace(proved, destinations=destinations, limits=tuple(found.amounts)))
+
+
+def blocks_year(schedule: YearlySchedule) -> np.ndarray:
+    """Returns for each cell the year by whose end its bench of its pushback is mined, by the method that is shown; 0 if it never is."""
+    shares, grid = schedule.shares[schedule.shown], schedule.pushbacks.plan.grid
+    # Before the first year nothing is mined.
+    through = (np.pad(shares, ((0, 0), (1, 0))).cumsum(axis=1) > 1 - 1e-6).argmax(axis=1)
+    year_of = np.zeros((len(schedule.pushbacks.factors) + 1, grid.shape[0]), dtype=np.int16)
+    year_of[schedule.benches.pushback, schedule.benches.level] = through
+    return year_of[schedule.pushbacks.pushback, np.arange(grid.count) // grid.per_level]
+
+
+def blocks_bin(schedule: YearlySchedule) -> np.ndarray:
+    """Returns the value bin of each cell's ore, from 1; 0 for waste, and with dumps minus the number of the set that accepts it."""
+    found, sets = np.zeros(schedule.pushbacks.plan.grid.count, dtype=np.int16), schedule.material.sets
+    if sets is not None:
+        found[:] = -np.maximum(sets.of_cell, 0)
+    found[schedule.material.cells] = schedule.material.blocks.bin
+    return found

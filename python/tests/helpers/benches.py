@@ -9,8 +9,8 @@ from pitplan.config.periods import Calendar
 from pitplan.pushbacks.bench_table import PushbackBenches
 from pitplan.scheduling.bench_sequencing import Problem
 from pitplan.scheduling.flow import scheduler
+from pitplan.scheduling.flow.material import Ore
 from pitplan.scheduling.flow.model import FlowModel
-from pitplan.scheduling.flow.ore import Ore
 from pitplan.scheduling.flow.programme import FlowProgramme
 
 # By so much of it a limit may be missed.

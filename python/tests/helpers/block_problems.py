@@ -7,8 +7,7 @@ import pytest
 from scipy.optimize import Bounds, LinearConstraint, linprog, milp
 
 from pitplan.config.schedule import Effort
-from pitplan.scheduling.blocks.nodes import nodes_of
-from pitplan.scheduling.blocks.problem import BlockProblem, Limit, Needs
+from pitplan.scheduling.blocks.problem import BlockProblem, Limit, Needs, nodes_of
 
 EXACT = Effort(1e-9)
 

@@ -6,8 +6,8 @@ import numpy as np
 
 from pitplan.config.stockpiles import Stockpile
 from pitplan.scheduling.bench_sequencing import Limits
+from pitplan.scheduling.flow.material import Ore
 from pitplan.scheduling.flow.model import FlowModel, OpeningOre
-from pitplan.scheduling.flow.ore import Ore
 
 from .benches import benches_of, problem_of
 

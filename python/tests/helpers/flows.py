@@ -12,8 +12,8 @@ from scipy.optimize import Bounds, LinearConstraint, linprog, milp
 from pitplan.config.stockpiles import Opening, Stockpile
 from pitplan.economics.period_costs import MINING_COST, PROCESSING_COST, SELLING_COST, YearlyMoney
 from pitplan.scheduling.bench_sequencing import Limits
+from pitplan.scheduling.flow.material import Ore, joined
 from pitplan.scheduling.flow.model import FlowModel, OpeningOre
-from pitplan.scheduling.flow.ore import Ore, joined
 
 # Tonnes of a parcel, and what it gains in the first process.
 parcel = st.tuples(st.sampled_from([10, 50]), st.integers(0, 400))

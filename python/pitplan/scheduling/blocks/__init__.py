@@ -12,8 +12,7 @@ in the order in which the relaxation mines (`toposort`, `greedy`), improved by m
 `destinations`, `blending`), and by integer programmes (`window_milp`).
 """
 
-from .problem import BlockProblem, Limit, Needs
-from .schedule import BlockSchedule
+from .problem import BlockProblem, BlockSchedule, Limit, Needs
 from .scheduler import Scheduled, solve
 
 __all__ = ["BlockProblem", "BlockSchedule", "Limit", "Needs", "Scheduled", "solve"]

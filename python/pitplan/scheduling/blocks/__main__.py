@@ -20,10 +20,10 @@ from pitplan.core.progress import on_standard_error, silent
 from pitplan.errors import PlanError, ProgramError
 from pitplan.scheduling import certificate
 
-from .certificate import of_schedule
 from .from_minelib import of_minelib
 from .problem import BlockProblem
 from .scheduler import Scheduled, solve
+from .tables import of_schedule
 
 
 def parser() -> argparse.ArgumentParser:

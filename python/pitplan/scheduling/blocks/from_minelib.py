@@ -10,8 +10,7 @@ import numpy as np
 from minelib import precedence, schedule_models
 from minelib.schedule_models import ScheduleModel
 
-from .nodes import MOST_NODES
-from .problem import BlockProblem, Limit, Needs
+from .problem import MOST_NODES, BlockProblem, Limit, Needs
 
 
 def of_minelib(model: Path, prec: Path, second: Optional[str] = None) -> BlockProblem:

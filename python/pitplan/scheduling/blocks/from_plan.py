@@ -1,4 +1,4 @@
-"""The blocks of a plan as a problem: what they earn by year, what they need, and the limits of `[schedule]`."""
+"""Keys of a project that a schedule by block refuses, and those that it does not apply."""
 
 from __future__ import annotations
 
@@ -12,22 +12,121 @@ from pitplan.config.places import MILL, WASTE
 from pitplan.config.project import Project
 from pitplan.config.schedule import FEED, MOST_YEARS, TOTAL, ScheduleRules, Sum
 from pitplan.economics.period_costs import MINING_COST, YearlyMoney, of_project
-from pitplan.errors import PlanError
+from pitplan.errors import WARNING, PlanError
 from pitplan.pits.best_worst_case import year_discounts
 from pitplan.plan import MILLION, Plan
 from pitplan.pushbacks.bench_table import CASH, ORE, ROCK
 from pitplan.scheduling.bench_sequencing import Limits, costs_of_years
-from pitplan.scheduling.limits import SUM, all_limits_of, periods_of
+from pitplan.scheduling.flow.material import content_of
+from pitplan.scheduling.limits import GRADE, SUM, GradeLimit, all_limits_of, grade_limits, periods_of
 from pitplan.slopes import closure
 from pitplan.slopes.domains import ABSENT, slices
 
-from .head_grades import HeadGrade, head_grades
-from .integer_values import upward
-from .keys import demand_of_blocks
-from .nodes import demand_room
-from .problem import BlockProblem, Due, Limit, Needs
-from .ranks import greatest_needed, ranks_of
-from .schedule import BlockSchedule
+from .filling import greatest_needed, ranks_of
+from .problem import BlockProblem, BlockSchedule, Due, Limit, Needs, demand_room, upward
+
+ADDED_COST = "[pushbacks] mining_cost_added"
+
+
+def demand_of_blocks(project: Project) -> None:
+    """Raises PlanError, with the key, if the project asks for what a schedule by block does not have, and without which its value is another."""
+    if project.schedule is not None and project.schedule.stockpiles:
+        why = "found one, expected none by block: ore goes to a process in the year in which it is mined"
+        raise PlanError(f"{project.path}: [schedule] stockpile: {why}: remove it, or schedule pushbacks")
+    if project.dumps:
+        why = "found dumps, expected none by block: their capacities in all years have no price in its upper bound"
+        raise PlanError(f"{project.path}: [[dumps]]: {why}: remove them, or schedule pushbacks")
+
+
+def of_pushbacks(project: Project) -> list[str]:
+    """Returns the keys of the project that apply to pushbacks alone."""
+    rules = project.schedule or ScheduleRules()
+    asked = {
+        "[schedule] bench_lag": rules.bench_lag > 0,
+        "[schedule] vertical_advance_rate": rules.vertical_advance_rate is not None,
+        "[schedule] bins": rules.bins is not None,
+        ADDED_COST: bool(project.pushbacks and project.pushbacks.mining_cost_added),
+    }
+    return [key for key, is_asked in asked.items() if is_asked]
+
+
+def unapplied(project: Project) -> list[str]:
+    """Returns warnings of keys that a schedule by block does not apply."""
+    keys = of_pushbacks(project)
+    found = (
+        [f"{WARNING}a schedule by block does not apply {', '.join(keys)}: only pushbacks have these"] if keys else []
+    )
+    if ADDED_COST in keys:
+        found.append(f"{WARNING}the NPV of this schedule by block leaves out the cost of {ADDED_COST}")
+    return found
+
+
+@dataclass(frozen=True)
+class HeadGrade:
+    """A grade of the feed of a process that has limits.
+
+    Attributes
+    ----------
+    name : str
+        Its column in years.csv, such as head_grade_mill_as_ppm.
+    destination : int
+        The number of the process among the destinations, of which waste is 0.
+    limits : dict of str to GradeLimit
+        The limits by name, such as grade_mill_as_ppm_max; one for each value that some period has.
+    content, feed : array, shape (cells,)
+        What each cell adds to the content and to the tonnes of the feed.
+    pays : bool array, shape (cells,)
+        Whether it recovers metal in the process.
+    """
+
+    name: str
+    destination: int
+    limits: dict[str, GradeLimit]
+    content: NDArray[np.float64]
+    feed: NDArray[np.float64]
+    pays: NDArray[np.bool_]
+
+    def excess(self, name: str) -> NDArray[np.float64]:
+        """Returns what each cell in the process adds to the content above a maximum, or below a minimum."""
+        limit = self.limits[name]
+        found = limit.sign * (self.content - limit.grade * self.feed)
+        return np.where(self.pays, found, np.maximum(found, 0.0))
+
+    def limits_of(self, cells: NDArray[np.int64], destinations: int, years: int) -> list[Limit]:
+        """Returns the limits of cells that are scheduled."""
+        found = []
+        for name, limit in self.limits.items():
+            amounts = np.zeros((len(cells), destinations))
+            amounts[:, self.destination] = self.excess(name)[cells]
+            most = np.where(limit.in_years(years), 0.0, np.inf)
+            found.append(Limit(name, amounts, most, signed=True))
+        return found
+
+    def of_years(self, cells: NDArray[np.int64], schedule: BlockSchedule, years: int) -> NDArray[np.float64]:
+        """Returns the head grade of each year; nan without feed."""
+        share = schedule.share[:, self.destination]
+        content, feed = (
+            np.bincount(schedule.year, amounts[cells] * share, minlength=years + 1)[:years]
+            for amounts in (self.content, self.feed)
+        )
+        return np.where(feed > 0, content / np.where(feed > 0, feed, 1.0), np.nan)
+
+
+def head_grades(plan: Plan) -> list[HeadGrade]:
+    """Returns the head grades that `[processes.feed]`, `[schedule.feed]` and `feed` of periods limit."""
+    values, cells, found = plan.values, np.arange(plan.grid.count), []
+    names = [process.name for process in plan.project.processes] or [""]
+    limits = grade_limits(plan.project)
+    for grade in plan.project.feed_grades:
+        number = names.index(grade.process)
+        prefix = GRADE + "_".join(grade.words)
+        mine = [it for it in limits if it.shown in (f"{prefix}_max", f"{prefix}_min")]
+        sides = {it.name: it for it in mine}
+        pays = values.by_process[number].revenue > 0
+        content = content_of(plan, mine[0], cells)
+        found.append(HeadGrade(f"head_{prefix}", 1 + number, sides, content, values.feed, pays))
+    return found
+
 
 # A schedule may take this part of the years more that its limits ask for.
 MORE_YEARS = 0.2

@@ -1,20 +1,63 @@
-"""What is scheduled block by block: what each block earns by year, what it needs, and what a year may hold.
+"""Money as the whole numbers that the library of pits takes, always rounded upward.
 
-With one destination this is the constrained pit limit problem (CPIT), with several the precedence constrained production scheduling
-problem (PCPSP) of Espinoza, Goycoolea, Moreno and Newman (MineLib: a library of open pit mining problems, Annals of Operations Research
-206, 2013).
+The library solves a closure exactly, in whole numbers. So what a block earns in a year is rounded up to a whole number of a unit, and
+what the library makes of these is at least what any schedule earns. The unit is a power of two, by which floats are divided exactly, and so
+small that the greatest amount takes 50 bits of the 64. A pit is the same in any unit: the library's millionths stand for it here.
 """
 
 from __future__ import annotations
 
+from collections.abc import Iterator, Sequence
 from dataclasses import dataclass, replace
-from typing import Optional
+from fractions import Fraction
+from functools import cached_property
+from typing import Any, Optional
 
 import numpy as np
 from numpy.typing import NDArray
 
+import pitshell
 from pitplan.config.periods import YEAR
 from pitplan.errors import PlanError
+
+BITS = 50
+# Half the distance from 1 to the next float: the greatest error, as a share, of one sum or product.
+ROUNDING = 2.0**-53
+
+
+@dataclass(frozen=True)
+class Whole:
+    """Amounts as whole numbers of a unit of money, which is a power of two."""
+
+    amounts: NDArray[np.int64]
+    unit: float
+
+
+def upward(values: NDArray[np.float64], error: NDArray[np.float64] | float = 0.0) -> Whole:
+    """The least whole numbers that are at least `values`, each of which may be too small by its error, 0 or more."""
+    most = float(np.abs(values).max(initial=0.0) + np.max(error, initial=0.0))
+    exponent = int(np.frexp(most)[1]) - BITS if most else 0
+    # The sum itself may be rounded down.
+    safe = values + error
+    safe += 2 * ROUNDING * np.abs(safe) * (np.asarray(error) > 0)
+    return Whole(np.ceil(np.ldexp(safe, -exponent)).astype(np.int64), float(np.ldexp(1.0, exponent)))
+
+
+def by_end(amounts: NDArray[Any]) -> NDArray[Any]:
+    """From what is earned where something is done in each step, by the last axis, what is earned where it is done by the end of a step and
+    not before, less the same of the next step: these add up to what the step earns."""
+    return -np.diff(amounts, axis=-1, append=0)
+
+
+def worth_of(pit: pitshell.Pit) -> int:
+    """The pit's worth in the unit of its values, exactly."""
+    return int(pit.worth.scaleb(6))
+
+
+def least_float(exact: Fraction) -> float:
+    """The least float that is not below a number."""
+    near = float(exact)
+    return float(np.nextafter(near, np.inf)) if Fraction(near) < exact else near
 
 
 @dataclass(frozen=True)
@@ -196,3 +239,210 @@ def demand_sound(problem: BlockProblem) -> None:
             raise PlanError(
                 f"{due.name}: expected amounts by block and destination of 0 or more, and a minimum of 0 or more"
             )
+
+
+# What the library of pits takes.
+MOST_NODES, MOST_PAIRS = 4_194_304, 67_108_864
+
+
+@dataclass(frozen=True)
+class Nodes:
+    """The nodes year by year, there block by block, and there destination by destination.
+
+    problem  of which they are, its blocks by rising first years
+    first    the first year in which each block can be mined, from 0: shape (blocks,)
+    """
+
+    problem: BlockProblem
+    first: NDArray[np.int64]
+
+    @cached_property
+    def counts(self) -> list[int]:
+        """The number of blocks that can be mined by each year."""
+        return np.searchsorted(self.first, np.arange(self.problem.years), side="right").tolist()
+
+    @cached_property
+    def before(self) -> list[int]:
+        """The number of nodes before each year, and of all."""
+        sizes = np.array(self.counts) * self.problem.destinations
+        return [0, *np.cumsum(sizes).tolist()]
+
+    def __len__(self) -> int:
+        return self.before[-1]
+
+    def by_year(self, of_nodes: NDArray) -> Iterator[NDArray]:
+        """Yields what is given by node, for each year as an array of blocks and destinations."""
+        for first, last in zip(self.before, self.before[1:]):
+            yield of_nodes[first:last].reshape(-1, self.problem.destinations)
+
+    def spread(self, values: NDArray) -> NDArray:
+        """Returns what is given by block, destination and year, by node."""
+        parts = [values[:count, :, year].ravel() for year, count in enumerate(self.counts)]
+        return np.concatenate(parts)
+
+    def gathered(self, of_nodes: NDArray) -> NDArray:
+        """Returns what is given by node, by block, destination and year, and 0 if there is no node."""
+        found = np.zeros(self.problem.values.shape, dtype=of_nodes.dtype)
+        for year, (count, part) in enumerate(zip(self.counts, self.by_year(of_nodes))):
+            found[:count, :, year] = part
+        return found
+
+    def expanded(self, mined: Sequence[NDArray[np.bool_]], best: NDArray[np.integer]) -> NDArray[np.bool_]:
+        """Returns the nodes of blocks that go where they are worth most in the year in which they are mined.
+
+        mined  by year whether each block that can be mined by then is mined by then
+        best   by block and year the destination where it is worth most
+        """
+        parts, before, number = [], np.zeros(0, dtype=bool), np.arange(self.problem.destinations)
+        for year, by_then in enumerate(mined):
+            is_old = np.zeros(len(by_then), dtype=bool)
+            is_old[: len(before)] = before & by_then[: len(before)]
+            goes = by_then[:, None] & (number >= best[: len(by_then), year, None])
+            parts.append((is_old[:, None] | goes).ravel())
+            before = by_then
+        return np.concatenate(parts)
+
+    def of_year(self, year: int) -> Needs:
+        """Returns what the blocks that can be mined by a year need of each other."""
+        needs = self.problem.needs
+        starts = needs.starts[: self.counts[year] + 1]
+        return Needs(starts, needs.needed[: starts[-1]])
+
+    def size_of(self, first: int, last: int) -> tuple[int, int]:
+        """Returns the number of blocks by year, and of precedences, of the closure of the years from `first` up to `last`, without that."""
+        counts, starts = self.counts[first:last], self.problem.needs.starts
+        return sum(counts), int(sum(int(starts[count]) for count in counts)) + sum(counts[:-1])
+
+    def fits(self, first: int, last: int) -> bool:
+        """Whether the library takes the closure of the years from `first` up to `last`, without that."""
+        nodes, pairs = self.size_of(first, last)
+        return nodes <= MOST_NODES and pairs <= MOST_PAIRS
+
+    def of_years(self, first: int, last: int) -> Needs:
+        """Returns the precedences of blocks by year, of the years from `first` up to `last`, without that: mined by the end of a year a block
+        is mined by the end of the next one too."""
+        if last - first == 1:
+            return self.of_year(first)
+        parts, counts = [self.of_year(year) for year in range(first, last)], self.counts[first:last]
+        base = np.concatenate([[0], np.cumsum(counts)])
+        lengths = np.concatenate([np.diff(part.starts.astype(np.int64)) for part in parts])
+        lengths[: base[-2]] += 1
+        starts = np.concatenate([[0], np.cumsum(lengths)])
+        needed = np.empty(starts[-1], dtype=np.uint32)
+        for part, offset, count, following in zip(parts, base, counts, [*base[1:-1], None]):
+            row = np.repeat(np.arange(count), np.diff(part.starts.astype(np.int64)))
+            place = starts[offset + row] + np.arange(len(part.needed)) - part.starts[row]
+            needed[place] = part.needed + np.uint32(offset)
+            if following is not None:
+                needed[starts[offset + np.arange(count) + 1] - 1] = following + np.arange(count)
+        return Needs(starts.astype(np.uint32), needed)
+
+
+def demand_room(blocks: int, pairs: int, source: str = "") -> None:
+    """Raises PlanError, which begins with the source, if these are more than the library takes."""
+    if blocks > MOST_NODES or pairs > MOST_PAIRS:
+        raise PlanError(
+            f"{source}a schedule by block would have {blocks:,} blocks and {pairs:,} precedences, expected at most {MOST_NODES:,} and "
+            f"{MOST_PAIRS:,}: set [table] reblock, or reduce [slopes] precedence_benches"
+        )
+
+
+def nodes_of(problem: BlockProblem, first: NDArray[np.int64]) -> Nodes:
+    """Returns the nodes of a problem whose blocks stand by rising first years. Raises PlanError if those of a year are more than the library
+    takes."""
+    demand_room(problem.blocks, len(problem.needs.needed))
+    return Nodes(problem, first)
+
+
+# By such a share of it a limit may be missed, as sums of floats do.
+HAIR = 1e-9
+
+
+@dataclass(frozen=True)
+class BlockSchedule:
+    """When blocks are dug, and where they go.
+
+    year   of each block, from 0; as many as there are years where it is not dug: shape (blocks,)
+    share  of each block that goes to each destination; of one that is not dug nothing: shape (blocks, destinations)
+    """
+
+    year: NDArray[np.int64]
+    share: NDArray[np.float64]
+
+    def value(self, problem: BlockProblem) -> float:
+        """What it earns, discounted, in money, less what the years cost up to the last in which a block is mined."""
+        return float(self.worths(problem).sum() - problem.running_costs[: self.life(problem)].sum())
+
+    def life(self, problem: BlockProblem) -> int:
+        """The number of years up to the last in which a block is mined."""
+        return int(self.year[self.year < problem.years].max(initial=-1)) + 1
+
+    def shortened(self, problem: BlockProblem) -> BlockSchedule:
+        """The schedule without the blocks of its last years if it earns more without these years: it ends with the best year, or mines nothing.
+        With a minimum it stays as it is."""
+        if problem.costs is None or problem.owes:
+            return self
+        earned = np.bincount(self.year, self.worths(problem), minlength=problem.years + 1)[: problem.years]
+        by_end = np.concatenate([[0.0], np.cumsum(earned - problem.running_costs)])[: self.life(problem) + 1]
+        stays = self.year < int(by_end.argmax())
+        return BlockSchedule(np.where(stays, self.year, problem.years), np.where(stays[:, None], self.share, 0.0))
+
+    def worths(self, problem: BlockProblem) -> NDArray[np.float64]:
+        """What each block earns, discounted, in money; one that is not dug nothing."""
+        dug = np.minimum(self.year, problem.years - 1)
+        return (problem.values[np.arange(problem.blocks), :, dug] * self.share).sum(axis=1)
+
+    def sums(self, problem: BlockProblem) -> NDArray[np.float64]:
+        """What each limit's amounts add up to in each year: shape (limits, years)."""
+        taken = [(limit.amounts * self.share).sum(axis=1) for limit in problem.limits]
+        by_year = [np.bincount(self.year, amounts, minlength=problem.years + 1)[: problem.years] for amounts in taken]
+        return np.array(by_year).reshape(len(problem.limits), problem.years)
+
+    def slack(self, problem: BlockProblem) -> NDArray[np.float64]:
+        """By how much each limit may be missed in each year, as sums of floats do: shape (limits, years)."""
+        found = np.full((len(problem.limits), problem.years), HAIR)
+        for number, limit in enumerate(problem.limits):
+            if not limit.signed:
+                found[number] += HAIR * limit.most
+                continue
+            size = (np.abs(limit.amounts) * self.share).sum(axis=1)
+            found[number] += HAIR * np.bincount(self.year, size, minlength=problem.years + 1)[: problem.years]
+        return found
+
+    def exceeded(self, problem: BlockProblem) -> NDArray[np.bool_]:
+        """Whether each year is above a limit by more than a hair."""
+        most = np.array([limit.most for limit in problem.limits]).reshape(len(problem.limits), problem.years)
+        return np.asarray((self.sums(problem) > most + self.slack(problem)).any(axis=0))
+
+    def lacking(self, problem: BlockProblem) -> float:
+        """What lacks of what years must hold at least, as shares of it added up; 0 where nothing does but for a hair."""
+        floors = np.array([limit.floor for limit in problem.limits]).reshape(len(problem.limits), problem.years)
+        short = [np.maximum(floors - self.sums(problem), 0.0) / np.where(floors > 0, floors, 1.0)]
+        short += [
+            np.array([max(due.least - float((due.amounts * self.share).sum()), 0.0) / (due.least or 1.0)])
+            for due in problem.dues
+        ]
+        shares = np.concatenate([part.ravel() for part in short])
+        return float(shares[shares > HAIR].sum())
+
+    def is_better(self, other: BlockSchedule, problem: BlockProblem) -> bool:
+        """Whether less lacks than of another, or no more and it earns more."""
+        mine, its = self.lacking(problem), other.lacking(problem)
+        return mine < its - HAIR or (mine <= its + HAIR and self.value(problem) > other.value(problem))
+
+    def keeps(self, problem: BlockProblem) -> bool:
+        """Whether it is allowed, and nothing lacks."""
+        return self.is_allowed(problem) and not self.lacking(problem)
+
+    def is_allowed(self, problem: BlockProblem) -> bool:
+        """Whether no block is dug before one that it needs, each goes whole to destinations, and no year is above a limit but for a
+        hair."""
+        is_dug = self.year < problem.years
+        whole = np.abs(self.share.sum(axis=1) - is_dug) <= HAIR
+        ordered = self.year[problem.needs.users] >= self.year[problem.needs.needed]
+        return bool(whole.all() and (self.share >= 0).all() and ordered.all() and not self.exceeded(problem).any())
+
+
+def nothing(problem: BlockProblem) -> BlockSchedule:
+    """The schedule that digs nothing."""
+    return BlockSchedule(np.full(problem.blocks, problem.years), np.zeros((problem.blocks, problem.destinations)))

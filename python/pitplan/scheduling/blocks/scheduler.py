@@ -15,17 +15,9 @@ from pitplan.config.schedule import Effort
 from pitplan.core.progress import Progress, silent
 from pitplan.errors import PlanError
 
-from .bienstock_zuckerberg import Relaxation, Round
-from .blending import blended
-from .destinations import with_best_shares
-from .divided import Divided, divided
-from .greedy import Filling
-from .local_search import moved
-from .nodes import demand_room
-from .problem import BlockProblem, demand_sound
-from .reduction import Reduced, first_required, reduced, relaxed_as_required
-from .schedule import HAIR, BlockSchedule, nothing
-from .toposort import ALL, LEAST, Sequence, sequences
+from .filling import ALL, LEAST, Divided, Filling, Sequence, blended, divided, moved, sequences, with_best_shares
+from .problem import HAIR, BlockProblem, BlockSchedule, demand_room, demand_sound, nothing
+from .relaxation import Reduced, Relaxation, Round, first_required, reduced, relaxed_as_required
 from .window_milp import Window, sizes_of, window_of
 
 # The relaxation is solved to this share of its bound.

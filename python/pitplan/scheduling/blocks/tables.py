@@ -11,20 +11,37 @@ import pandas as pd
 import scipy
 from numpy.typing import NDArray
 
+from pitplan.config.economics import GRADE_UNITS
+from pitplan.config.places import PIT, WASTE
 from pitplan.config.schedule import ScheduleRules
 from pitplan.core.progress import Progress, silent
 from pitplan.core.revenue_factors import BASE_PRICE
 from pitplan.economics.period_costs import is_shown, of_project
-from pitplan.errors import WARNING
+from pitplan.errors import WARNING, PlanError
+from pitplan.pits import grade_tonnage
 from pitplan.pits.best_worst_case import year_discounts
-from pitplan.plan import Plan
+from pitplan.plan import Plan, shown_name
 from pitplan.pushbacks.bench_table import CASH, ORE, ROCK
-from pitplan.scheduling.certificate import Certificate, Certified
+from pitplan.scheduling import inventory
+from pitplan.scheduling.certificate import (
+    UNIT,
+    WHOLE,
+    Certificate,
+    Certified,
+    LimitOfYears,
+    Predecessors,
+    Shares,
+    StatedLimit,
+    Term,
+    millionths,
+    money_unit,
+    rows_of,
+)
+from pitplan.scheduling.flow.material import column_of
 from pitplan.scheduling.methods import BLOCK, notes_of_gap
 
-from .certificate import of_schedule
-from .from_plan import PlannedBlocks, cash_of, of_plan
-from .keys import unapplied
+from .from_plan import PlannedBlocks, cash_of, of_plan, unapplied
+from .problem import BlockProblem, BlockSchedule, Limit
 from .scheduler import Scheduled, gap_of, solve
 
 # How the names of blocks.csv's columns of shares begin.
@@ -212,3 +229,143 @@ def scheduled(planned: PlannedBlocks, progress: Progress = silent) -> ScheduledB
 def make(plan: Plan, progress: Progress = silent) -> ScheduledBlocks:
     """The schedule of a plan's blocks; raises what `collected` and `scheduled` raise."""
     return scheduled(collected(plan, progress), progress)
+
+
+# A share of a block that the solver's tolerance alone may have left.
+SLIGHT = 1e-9
+
+
+def inventory_table(blocks: ScheduledBlocks) -> pd.DataFrame:
+    """Returns the inventory of a schedule by block: that of `scheduling.inventory.summed`, without pushbacks."""
+    plan = blocks.planned.plan
+    parts = [inventory_rows(blocks, number) for number in range(len(blocks.planned.destinations))]
+    return inventory.summed(pd.concat(parts, ignore_index=True), plan.project, [BLOCK])
+
+
+def inventory_rows(blocks: ScheduledBlocks, number: int) -> pd.DataFrame:
+    """Returns a row per block with tonnes of which a share goes to a destination, by its number."""
+    planned, schedule = blocks.planned, blocks.found.schedule
+    plan, destination = planned.plan, planned.destinations[number]
+    mined = (schedule.year < planned.problem.years) & (plan.values.tonnes[planned.cells] > 0)
+    some = np.flatnonzero(mined & (schedule.share[:, number] > SLIGHT))
+    cells, share = planned.cells[some], schedule.share[some, number]
+    found = {"method": BLOCK, "year": schedule.year[some] + 1, "bench": plan.grid.toes()[level_of(plan, cells)]}
+    found |= codes_of(plan, cells) | {"source": PIT, "destination": destination}
+    tonnes, fed = plan.values.tonnes[cells] * share, np.zeros(len(share)) if destination == WASTE else share
+    found |= {"total_tonnes": tonnes}
+    found["feed_tonnes"] = plan.values.feed[cells] * fed
+    for metal in plan.project.metals:
+        grade = column_of(plan, metal.column, cells) * float(GRADE_UNITS[metal.unit])
+        found[f"in_situ_{metal.name}"] = grade * tonnes
+        found[f"contained_{metal.name}"] = grade * plan.values.undiluted[cells] * fed
+        recovered = np.zeros(1) if destination == WASTE else plan.values.by_process[number - 1].metal[metal.name][cells]
+        found[f"recovered_{metal.name}"] = recovered * fed
+    return pd.DataFrame(found)
+
+
+def level_of(plan: Plan, cells: NDArray[np.int64]) -> NDArray[np.int64]:
+    """Returns the number of the level of each cell, from the top."""
+    return cells // plan.grid.per_level
+
+
+def codes_of(plan: Plan, cells: NDArray[np.int64]) -> dict[str, NDArray[np.object_]]:
+    """Returns rock type and resource class of cells with rows, by the columns of tables."""
+    row = np.full(plan.grid.count, -1)
+    row[plan.grid.rows] = np.arange(len(plan.table))
+    table = plan.project.table
+    codes = [name for name in (table.rock_type, table.resource_class) if name]
+    return {shown_name(name): plan.table[name].astype(str).to_numpy()[row[cells]] for name in codes}
+
+
+def grade_tonnage_table(blocks: ScheduledBlocks) -> pd.DataFrame:
+    """Returns grade-tonnage curves of the model, and of the blocks that are mined as the pit."""
+    planned, year = blocks.planned, blocks.found.schedule.year
+    mined = np.zeros(planned.plan.grid.count, dtype=bool)
+    mined[planned.cells[year < planned.problem.years]] = True
+    return grade_tonnage.of_pit(planned.plan, mined)
+
+
+def of_schedule(
+    problem: BlockProblem,
+    schedule: BlockSchedule,
+    multipliers: NDArray[np.float64],
+    discounts: NDArray[np.float64],
+) -> Certificate:
+    """Returns the certificate of a schedule.
+
+    Parameters
+    ----------
+    problem : BlockProblem
+    schedule : BlockSchedule
+    multipliers : ndarray
+        The price of each limit in each year, below 0 for minimums: shape (limits, years).
+    discounts : ndarray
+        The discount factor of each year: shape (years,).
+
+    Raises
+    ------
+    PlanError
+        If values differ by year in more than the discount factor, if blocks must be mined, or if years have costs.
+    """
+    demand_free(problem)
+    if problem.running_costs.any():
+        raise PlanError(f"{WHOLE}: it cannot state costs of years")
+    values = problem.values[:, :, 0] / discounts[0]
+    if not np.allclose(values[:, :, None] * discounts, problem.values, rtol=1e-9, atol=1e-6):
+        raise PlanError(f"{WHOLE}: it cannot state prices or costs that differ by year")
+    prices = multipliers if multipliers.size else np.zeros((len(problem.limits), problem.years))
+    unit = money_unit([values], [np.abs(prices)])
+    limits = [it for limit, paid in zip(problem.limits, prices / unit) for it in stated(limit, paid)]
+    rows, shares = rows_of(limits, shares_of(schedule, problem.years))
+    predecessors = Predecessors(problem.needs.starts, problem.needs.needed)
+    worth = millionths(values / unit)
+    return Certificate(worth.shape[1], terms_of(worth), millionths(discounts), rows, predecessors, shares, unit)
+
+
+def demand_free(problem: BlockProblem) -> None:
+    """Raises PlanError if blocks must be mined, which the texts cannot state."""
+    if problem.dues:
+        raise PlanError(f"{WHOLE}: it cannot state that blocks must be mined: schedule without a certificate")
+
+
+def sides_of(problem: BlockProblem) -> tuple[tuple[str, str], ...]:
+    """Returns name and side of the limits of the texts, in their order."""
+    return tuple((limit.name, side) for limit in problem.limits for side in sides(limit))
+
+
+def sides(limit: Limit) -> list[str]:
+    """Returns whether a limit is a maximum, a minimum, or both."""
+    found = ["max"] if np.isfinite(limit.most).any() else []
+    return found + (["min"] if not limit.signed and (limit.floor > 0).any() else [])
+
+
+def terms_of(amounts: NDArray[np.int64]) -> tuple[Term, ...]:
+    """Returns a term for each destination, from amounts of shape (blocks, destinations)."""
+    return tuple(Term(number, column) for number, column in enumerate(amounts.T))
+
+
+def shares_of(schedule: BlockSchedule, years: int) -> Shares:
+    """Returns the shares in millionths, which add up to the whole of each block that is mined. The greatest share takes what rounding leaves."""
+    shares = np.floor(schedule.share * UNIT + 0.5).astype(np.int64)
+    mined = np.flatnonzero(schedule.year < years)
+    shares[schedule.year >= years] = 0
+    greatest = shares[mined].argmax(axis=1)
+    shares[mined, greatest] += UNIT - shares[mined].sum(axis=1)
+    block, destination = np.nonzero(shares)
+    return Shares(block, schedule.year[block].astype(np.int64), destination, shares[block, destination])
+
+
+def stated(limit: Limit, prices: NDArray[np.float64]) -> list[StatedLimit]:
+    """Returns a limit as one on the most, and one with turned signs on the least, as far as there are such. Amounts are rounded down, so that no schedule
+    of the project exceeds a limit by rounding."""
+    found = []
+    for side in sides(limit):
+        sign, bound = (1.0, limit.most) if side == "max" else (-1.0, limit.floor)
+        terms = used_terms(millionths(sign * limit.amounts, down=True))
+        found.append(StatedLimit(LimitOfYears(limit.name, sign * bound, sign * prices), terms, side == "min"))
+    return found
+
+
+def used_terms(amounts: NDArray[np.int64]) -> tuple[Term, ...]:
+    """Returns the terms of destinations that use a limit at all."""
+    return tuple(it for it in terms_of(amounts) if it.amounts.any())

@@ -19,10 +19,9 @@ from pitplan.config.schedule import Effort
 from pitplan.scheduling.highs import Programme
 from pitplan.scheduling.highs_process import solve
 
-from .presolve import earliest_years
-from .problem import BlockProblem, Due, Limit
-from .ranks import ranks_of
-from .schedule import HAIR, BlockSchedule
+from .filling import ranks_of
+from .problem import HAIR, BlockProblem, BlockSchedule, Due, Limit
+from .relaxation import earliest_years
 
 # A window has about MOST_UNKNOWNS integer unknowns at most, at first FEWER, and at most MOST_YEARS years unless all blocks fit.
 FEWER, MOST_UNKNOWNS, MOST_YEARS = 2_500, 5_000, 4

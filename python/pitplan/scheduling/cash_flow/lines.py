@@ -1,9 +1,13 @@
-"""The lines of the cash flow of a method: physicals, revenue, costs and capex by period, from the quantities of blocks."""
+"""What a schedule mines, feeds and recovers by period, of any amount of its blocks, and of what lies on stockpiles at the start."""
 
 from __future__ import annotations
 
+from abc import ABC, abstractmethod
+from collections.abc import Callable
 from dataclasses import dataclass
 from decimal import Decimal
+from functools import cached_property, partial
+from typing import Optional
 
 import numpy as np
 import pandas as pd
@@ -12,14 +16,177 @@ from numpy.typing import NDArray
 from pitplan.config.economics import GRADE_UNITS, GRAMS, Metal
 from pitplan.config.places import MILL
 from pitplan.config.project import Project
-from pitplan.economics import smelter_terms
-from pitplan.economics.cost_lines import PROCESSING, ROYALTY
+from pitplan.economics import period_costs, smelter_terms
+from pitplan.economics.cost_lines import PROCESSING, ROYALTY, CostLines, cost_lines
 from pitplan.economics.period_costs import MINING_COST, PROCESSING_COST, SELLING_COST, yearly_prices
 from pitplan.economics.weighing import DEPTH, HAULAGE, MILLIONTHS, MINING
 from pitplan.pits import shell_tables
+from pitplan.plan import Plan
+from pitplan.scheduling.flow.material import column_of, names_of
+from pitplan.scheduling.flow.opening import Lots, contained
 
-from .operation import Amounts, Lines, Operation
-from .sales import Sale
+# Amounts of periods, each of shape (periods,).
+Amounts = NDArray[np.float64]
+# Lines by their columns in cash_flow.csv.
+Lines = dict[str, Amounts]
+
+
+@dataclass(frozen=True)
+class CellAmounts:
+    """What each cell of a plan costs and contains. Values are of cells, followed by the lots that lie on stockpiles at the start.
+
+    Attributes
+    ----------
+    plan : Plan
+    lots : Lots, optional
+        None: nothing lies there.
+    """
+
+    plan: Plan
+    lots: Optional[Lots] = None
+
+    @cached_property
+    def costs(self) -> CostLines:
+        """The costs of each cell and lot by line."""
+        found = costs_of(self.plan)
+        return found if self.lots is None else with_lots(found, costs_of(self.lots.plan))
+
+    @cached_property
+    def feed(self) -> NDArray[np.float64]:
+        """The mill feed of each cell and lot."""
+        feed = self.plan.values.feed
+        return np.asarray(feed if self.lots is None else np.append(feed, self.lots.plan.values.feed))
+
+    @cached_property
+    def contained(self) -> dict[str, NDArray[np.float64]]:
+        """Metal in the mill feed of each cell and lot, in tonnes or grams, by metal."""
+        everywhere = np.arange(self.plan.grid.count)
+        found = {
+            metal.name: column_of(self.plan, metal.column, everywhere)
+            * self.plan.values.undiluted
+            * float(GRADE_UNITS[metal.unit])
+            for metal in self.plan.project.metals
+        }
+        lying = {} if self.lots is None else contained(self.lots)
+        return {name: np.append(values, lying.get(name, np.zeros(0))) for name, values in found.items()}
+
+
+class Operation(ABC):
+    """The amounts of a method by period. Values are of cells, as those of `amounts`; results have the shape (periods,)."""
+
+    @property
+    @abstractmethod
+    def amounts(self) -> CellAmounts:
+        """What each cell costs and contains."""
+
+    @property
+    @abstractmethod
+    def years(self) -> int:
+        """The number of periods."""
+
+    @abstractmethod
+    def mined(self, values: NDArray[np.float64]) -> Amounts:
+        """Returns what is mined."""
+
+    @abstractmethod
+    def ore(self, values: NDArray[np.float64]) -> Amounts:
+        """Returns what is mined and goes to a process or a stockpile."""
+
+    @abstractmethod
+    def fed(self, values: NDArray[np.float64], process: int) -> Amounts:
+        """Returns what a process takes, from the pit and from stockpiles."""
+
+    @abstractmethod
+    def recovered(self, metal: str) -> Amounts:
+        """Returns the metal that each process recovers, after what stockpiles lose, shape (processes, periods)."""
+
+    @property
+    def added(self) -> Optional[NDArray[np.float64]]:
+        """What mining each cell costs more in its pushback; None if the project adds nothing."""
+        return None
+
+    @property
+    def stockpile_costs(self) -> Lines:
+        """The costs of stacking and reclaiming; none without stockpiles."""
+        return {}
+
+    @property
+    def dump_costs(self) -> Lines:
+        """The cost of dumps; none without dumps."""
+        return {}
+
+    @property
+    def plan(self) -> Plan:
+        return self.amounts.plan
+
+    @property
+    def names(self) -> list[str]:
+        """The processes by name; "" of a project that names none."""
+        return names_of(self.plan)
+
+    def fed_anywhere(self, values: NDArray[np.float64]) -> Amounts:
+        """Returns what all processes take."""
+        return np.asarray(sum(self.fed(values, process) for process in range(len(self.names))))
+
+    def factors(self, cost: str) -> Amounts:
+        """Returns the factor of a cost in each period."""
+        return period_costs.of_project(self.plan.project).factors(cost, self.years)
+
+
+def costs_of(plan: Plan) -> CostLines:
+    return cost_lines(plan.table, plan.grid, plan.project, plan.values)
+
+
+def with_lots(cells: CostLines, lots: CostLines) -> CostLines:
+    """Returns the costs of cells followed by those of lots, which only processing has; hauling these costs nothing."""
+    nothing = np.zeros(len(lots.mining_rounding))
+    processing = tuple(
+        {name: np.append(values, more.get(name, nothing)) for name, values in lines.items()}
+        for lines, more in zip(cells.processing, lots.processing)
+    )
+    rounding = tuple(map(np.append, cells.processing_rounding, lots.processing_rounding))
+    return CostLines(cells.mining, processing, cells.mining_rounding, rounding)
+
+
+@dataclass(frozen=True)
+class Sale:
+    """A metal of a method.
+
+    Attributes
+    ----------
+    metals : tuple of Metal
+        The metal as each process sells it.
+    recovered : array, shape (processes, periods)
+        What each recovers, in tonnes or grams.
+    prices : list of Decimal
+        The price in each period, in the unit of the metal's price.
+    """
+
+    metals: tuple[Metal, ...]
+    recovered: Amounts
+    prices: list[Decimal]
+
+    @classmethod
+    def of(cls, operation: Operation, number: int, prices: list[Decimal]) -> Sale:
+        """Returns the sale of a metal of the project, by number."""
+        metals = tuple(alone.metals[number] for alone in operation.plan.project.by_process)
+        return cls(metals, operation.recovered(metals[0].name), prices)
+
+    def total(self, value: Callable[[Metal, Decimal], Decimal]) -> Amounts:
+        """Returns the sum over processes of a value per tonne or gram at the price of each period."""
+        a_unit = np.array([[value(metal, price) for price in self.prices] for metal in self.metals], dtype=float)
+        return np.asarray((self.recovered * a_unit).sum(axis=0))
+
+    def charges(self) -> dict[str, Amounts]:
+        """Returns the selling cost and the charges of the smelter, without penalties."""
+        kinds = dict.fromkeys(kind for it in self.metals for kind in smelter_terms.charges(it, it.price))
+        return {kind: self.total(partial(charge, kind)) for kind in kinds}
+
+
+def charge(kind: str, metal: Metal, price: Decimal) -> Decimal:
+    """Returns one of the charges per tonne or gram; 0 if it does not apply."""
+    return smelter_terms.charges(metal, price).get(kind, Decimal(0))
+
 
 # Prices by metal and period, in the unit of the metal's price.
 Prices = dict[str, list[Decimal]]

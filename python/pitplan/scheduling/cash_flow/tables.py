@@ -1,17 +1,328 @@
-"""The tables cash_flow.csv and valuation.csv of a schedule."""
+"""Closure, depreciation and tax of a cash flow, its NPV at any rate, internal rate of return and payback."""
 
 from __future__ import annotations
 
+from dataclasses import dataclass
+from functools import cached_property
+from typing import TYPE_CHECKING, Optional
+
 import numpy as np
 import pandas as pd
+from numpy.typing import NDArray
+from scipy.optimize import brentq
 
+from pitplan.config.cash_flow import CashFlowRules
 from pitplan.config.project import Project
 from pitplan.economics import period_costs
 from pitplan.pits import shell_tables
+from pitplan.pits.best_worst_case import Rate, year_discounts
+from pitplan.plan import Plan
+from pitplan.pushbacks.bench_table import benches_of_cells
+from pitplan.scheduling import pushback_schedule
+from pitplan.scheduling.flow.flows import Flows
+from pitplan.scheduling.methods import BLOCK
+from pitplan.scheduling.pushback_schedule import YearlySchedule
 
-from .finance import Finance
-from .lines import Statement, is_rounded, units_of_price
-from .operation import Lines
+from .lines import Amounts, CellAmounts, Lines, Operation, Statement, is_rounded, statement, units_of_price
+
+if TYPE_CHECKING:
+    from pitplan.scheduling.blocks.tables import ScheduledBlocks
+
+
+# The rates at which an internal rate of return is searched, up to 1,000 %.
+RATES = np.concatenate([np.linspace(0.0, 1.0, 101), np.linspace(1.1, 10.0, 90)])
+
+
+@dataclass(frozen=True)
+class Finance:
+    """The free cash flow of a statement; arrays of shape (periods,), in the currency.
+
+    Attributes
+    ----------
+    project : Project
+        Its discounting applies.
+    statement : Statement
+    """
+
+    project: Project
+    statement: Statement
+
+    @property
+    def rules(self) -> CashFlowRules:
+        return self.project.cash_flow
+
+    @cached_property
+    def closure(self) -> Amounts:
+        """The closure cost, in the last period."""
+        found = np.zeros(len(self.statement.ends))
+        found[-1:] = float(self.rules.closure_cost)
+        return found
+
+    @cached_property
+    def depreciation(self) -> Amounts:
+        """The depreciation of capex; what is left at the end is written off in the last period."""
+        it, years = self.statement, self.rules.depreciation_years
+        if years is None:
+            return by_production(it.capex, it.physicals["feed_tonnes"])
+        return straight_line(it.capex, it.starts, it.ends, float(years))
+
+    @cached_property
+    def taxed(self) -> tuple[Amounts, Amounts]:
+        """The taxable income after losses carried forward, and the tax."""
+        income = self.statement.operating - self.depreciation - self.closure
+        taxable, losses = np.zeros(len(income)), 0.0
+        for period, amount in enumerate(income):
+            taxable[period], losses = max(0.0, amount - losses), max(0.0, losses - amount)
+        return taxable, taxable * float(self.rules.tax_rate)
+
+    @property
+    def tax(self) -> Amounts:
+        return self.taxed[1]
+
+    @property
+    def before_tax(self) -> Amounts:
+        """The cash flow of each period without its capex, before closure cost and tax."""
+        return self.statement.cash_flow + self.statement.capex
+
+    @property
+    def after_tax(self) -> Amounts:
+        """The same after closure cost and tax."""
+        return self.before_tax - self.closure - self.tax
+
+    def factors(self, rate: Rate) -> tuple[Amounts, Amounts]:
+        """Returns the discount factors of the periods at a rate: of their cash, and of capex at their start."""
+        of_cash = year_discounts(self.project.shells, len(self.statement.ends), rate)
+        return of_cash, (1 + rate) ** -self.statement.starts
+
+    @cached_property
+    def factors_of_rates(self) -> tuple[Amounts, Amounts]:
+        """The factors at each of RATES, shape (rates, periods)."""
+        return self.factors(RATES[:, None])
+
+    def npv(self, cash: Amounts, rate: float) -> float:
+        """Returns the net present value of cash and of the capex at a rate."""
+        of_cash, of_capex = self.factors(rate)
+        return float(cash @ of_cash - self.statement.capex @ of_capex)
+
+    def irr(self, cash: Amounts) -> float:
+        """Returns the least rate above 0 from which on the NPV is not positive; nan if it is none at 0 %, or still is at 1,000 %."""
+        of_cash, of_capex = self.factors_of_rates
+        below = np.flatnonzero(of_cash @ cash - of_capex @ self.statement.capex <= 0)
+        if not len(below) or below[0] == 0:
+            return float("nan")
+        low, high = RATES[below[0] - 1], RATES[below[0]]
+        at_low, at_high = self.npv(cash, low), self.npv(cash, high)
+        if not at_high <= 0 < at_low:
+            # At one of the two rates the NPV is 0 within rounding.
+            return float(low if abs(at_low) < abs(at_high) else high)
+        return float(brentq(lambda rate: self.npv(cash, rate), low, high, xtol=1e-12))
+
+    def payback(self, cash: Amounts) -> float:
+        """Returns the years until the cumulative undiscounted cash flow is first 0 again after it was negative; 0 if it never is, nan if it
+        stays so. Cash flows evenly through a period, capex at its start."""
+        it, before, was_negative = self.statement, 0.0, False
+        for start, end, gain, spent in zip(it.starts, it.ends, cash, it.capex):
+            low = before - spent
+            before = low + gain
+            if low < 0 <= before:
+                return float(start + (end - start) * -low / gain)
+            was_negative = was_negative or min(low, before) < 0
+        return float("nan") if was_negative else 0.0
+
+
+def straight_line(capex: Amounts, starts: Amounts, ends: Amounts, years: float) -> Amounts:
+    """Returns the straight-line depreciation, over `years` years, of the capex at the start of each period."""
+    found = np.zeros(len(capex))
+    for period in np.flatnonzero(capex):
+        share = np.clip(ends - starts[period], 0.0, years) - np.clip(starts - starts[period], 0.0, years)
+        share[-1] += years - share.sum()
+        found += capex[period] * share / years
+    return found
+
+
+def by_production(capex: Amounts, feed: Amounts) -> Amounts:
+    """Returns the depreciation of capex in proportion to the mill feed of a period and of all later ones."""
+    found, book = np.zeros(len(capex)), 0.0
+    for period, spent in enumerate(capex):
+        book += spent
+        left = feed[period:].sum()
+        is_last = period == len(capex) - 1
+        found[period] = book if is_last else book * feed[period] / left if left > 0 else 0.0
+        book -= found[period]
+    return found
+
+
+@dataclass(frozen=True)
+class BlockOperation(Operation):
+    """The amounts of a schedule by block.
+
+    Attributes
+    ----------
+    blocks : ScheduledBlocks
+    """
+
+    blocks: ScheduledBlocks
+
+    @cached_property
+    def amounts(self) -> CellAmounts:
+        return CellAmounts(self.blocks.planned.plan)
+
+    @property
+    def years(self) -> int:
+        return self.blocks.count
+
+    @property
+    def share(self) -> NDArray[np.float64]:
+        """The share of each block that goes to each process, shape (blocks, processes)."""
+        return self.blocks.found.schedule.share[:, 1:]
+
+    def by_year(self, values: NDArray[np.float64]) -> Amounts:
+        """Returns the sums of values of blocks that may be mined by the period in which they are."""
+        year = self.blocks.found.schedule.year
+        return np.asarray(np.bincount(year, values, minlength=self.years)[: self.years], dtype=float)
+
+    def mined(self, values: NDArray[np.float64]) -> Amounts:
+        return self.by_year(values[self.blocks.planned.cells])
+
+    def ore(self, values: NDArray[np.float64]) -> Amounts:
+        return self.by_year(values[self.blocks.planned.cells] * self.share.sum(axis=1))
+
+    def fed(self, values: NDArray[np.float64], process: int) -> Amounts:
+        return self.by_year(values[self.blocks.planned.cells] * self.share[:, process])
+
+    def recovered(self, metal: str) -> Amounts:
+        ways = enumerate(self.plan.values.by_process)
+        return np.stack([self.fed(way.metal[metal], process) for process, way in ways])
+
+
+def block_finances(blocks: ScheduledBlocks) -> list[Finance]:
+    """Returns the free cash flow of the schedule."""
+    years = blocks.years
+    return [Finance(blocks.planned.plan.project, statement(BlockOperation(blocks), BLOCK, years))]
+
+
+@dataclass(frozen=True)
+class Material:
+    """The blocks of a schedule, by bench and parcel.
+
+    Attributes
+    ----------
+    schedule : YearlySchedule
+    """
+
+    schedule: YearlySchedule
+
+    @property
+    def plan(self) -> Plan:
+        return self.schedule.pushbacks.plan
+
+    @cached_property
+    def amounts(self) -> CellAmounts:
+        return CellAmounts(self.plan, self.schedule.lots)
+
+    @cached_property
+    def cells(self) -> NDArray[np.int64]:
+        """The cells of the pushbacks with tonnes."""
+        return np.flatnonzero((self.schedule.pushbacks.pushback > 0) & (self.plan.values.tonnes > 0))
+
+    @cached_property
+    def bench(self) -> NDArray[np.int64]:
+        """The bench of each of these cells."""
+        return np.asarray(benches_of_cells(self.schedule.pushbacks, self.schedule.benches, self.cells))
+
+    def of_benches(self, values: NDArray[np.float64]) -> NDArray[np.float64]:
+        """Returns the sums of values of cells by bench."""
+        return np.asarray(
+            np.bincount(self.bench, values[self.cells], minlength=len(self.schedule.benches)), dtype=float
+        )
+
+    def of_parcels(self, values: NDArray[np.float64]) -> NDArray[np.float64]:
+        """Returns the sums of values of cells by parcel of ore."""
+        material = self.schedule.material
+        sums = np.bincount(material.parcel, values[material.cells], minlength=len(material.parcels))
+        return np.asarray(sums, dtype=float)
+
+
+@dataclass(frozen=True)
+class PushbackOperation(Operation):
+    """The amounts of a method by period.
+
+    Attributes
+    ----------
+    material : Material
+    flows : Flows
+    """
+
+    material: Material
+    flows: Flows
+
+    @property
+    def amounts(self) -> CellAmounts:
+        return self.material.amounts
+
+    @property
+    def years(self) -> int:
+        return self.flows.years
+
+    def mined(self, values: NDArray[np.float64]) -> Amounts:
+        return np.asarray(self.material.of_benches(values) @ self.flows.dug)
+
+    def ore(self, values: NDArray[np.float64]) -> Amounts:
+        sent = self.flows.direct.sum(axis=0) + self.flows.stocked.sum(axis=0)
+        return np.asarray(self.material.of_parcels(values) @ sent)
+
+    def fed(self, values: NDArray[np.float64], process: int) -> Amounts:
+        lots = values[self.plan.grid.count :] if self.flows.opened.shape[1] else np.zeros(0)
+        return np.asarray(
+            self.material.of_parcels(values) @ self.flows.fed[process] + lots @ self.flows.opened[process]
+        )
+
+    def recovered(self, metal: str) -> Amounts:
+        name = f"recovered_{metal}"
+        return np.asarray(self.flows.processed(name).sum(axis=1) + self.flows.from_opening(name).sum(axis=1))
+
+    @property
+    def added(self) -> Optional[NDArray[np.float64]]:
+        pushbacks = self.material.schedule.pushbacks
+        rules = self.plan.project.pushbacks
+        return pushbacks.mining_cost_added if rules and rules.mining_cost_added else None
+
+    @property
+    def stockpile_costs(self) -> Lines:
+        if not self.material.schedule.is_stocked:
+            return {}
+        stacking = np.asarray(np.einsum("sp,spt->t", self.flows.model.stacking, self.flows.stocked))
+        return {"stacking_cost": stacking, "reclaim_cost": self.reclaim}
+
+    @property
+    def dump_costs(self) -> Lines:
+        waste = self.flows.model.waste
+        return {"dump_cost": np.asarray(waste.costs @ self.flows.placed)} if waste.dumps else {}
+
+    @property
+    def reclaim(self) -> Amounts:
+        """The cost of reclaiming ore from stockpiles."""
+        a_tonne = np.array([it.reclaim_cost for it in self.flows.model.stockpiles])
+        feed = np.einsum("p,skpt->st", self.flows.model.ore.feed, self.flows.reclaimed)
+        opening = self.flows.model.opening
+        lay = opening.ore.feed * a_tonne[opening.stockpile]
+        return np.asarray(a_tonne @ feed + lay @ self.flows.opened.sum(axis=0))
+
+
+def operations(schedule: YearlySchedule) -> dict[str, PushbackOperation]:
+    """Returns what each method mines and feeds."""
+    material = Material(schedule)
+    return {method: PushbackOperation(material, flows) for method, flows in schedule.flows.items()}
+
+
+def pushback_finances(schedule: YearlySchedule) -> list[Finance]:
+    """Returns the free cash flow of each method."""
+    years = pushback_schedule.years(schedule)
+    return [
+        Finance(it.plan.project, statement(it, method, years[years["case"] == method]))
+        for method, it in operations(schedule).items()
+    ]
+
 
 # The lines of mining, and those that the unit cost of a tonne of feed leaves out.
 OF_MINING = ("mining_cost", "haulage_cost")

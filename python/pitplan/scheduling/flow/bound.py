@@ -18,12 +18,11 @@ from scipy.optimize import linprog
 from scipy.sparse import vstack
 
 from pitplan.scheduling.highs_process import demand_solved
+from pitplan.scheduling.limits import ADVANCE, MAX, MIN, RUNNING, STOCK, Prices
 
-from .limit_names import ADVANCE, MAX, MIN, RUNNING, STOCK, Prices
-from .model import FlowModel
-from .ore import FEED, Ore
+from .material import FEED, Ore
+from .model import FlowModel, by_end, order_rows
 from .programme import FlowProgramme
-from .rows import by_end, order_rows
 
 
 @dataclass(frozen=True)

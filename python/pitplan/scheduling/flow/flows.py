@@ -10,8 +10,8 @@ import numpy as np
 from numpy.typing import NDArray
 
 from pitplan.pushbacks.bench_table import CASH
+from pitplan.scheduling.limits import Prices
 
-from .limit_names import Prices
 from .model import FlowModel
 from .programme import FlowProgramme
 

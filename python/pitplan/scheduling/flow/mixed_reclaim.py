@@ -12,7 +12,7 @@ import numpy as np
 from numpy.typing import NDArray
 
 from .flows import Flows
-from .ore import FEED
+from .material import FEED
 
 Floats = NDArray[np.float64]
 

@@ -15,11 +15,10 @@ import numpy as np
 from numpy.typing import NDArray
 
 from pitplan.scheduling.bench_sequencing import HAIR
+from pitplan.scheduling.limits import MAX, Prices
 
-from .dumping import SET
-from .limit_names import MAX, Prices
+from .material import FEED, SET
 from .model import FlowModel
-from .ore import FEED
 
 GAIN = "gain"
 # Points of the grid over an order's tonnes, and of the refined one around the end of each year.

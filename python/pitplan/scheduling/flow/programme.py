@@ -1,31 +1,88 @@
-"""The linear programme of material flow.
-
-Unknowns, each by year: the share of a bench that is mined by the end of the year; the share of a parcel that a process takes as it is mined,
-that goes to a stockpile, that lies there at the end of the year, and that a process takes from there; the share of a lot that lies on a
-stockpile at the start and that a process takes; the share of the rock of a set of dumps that goes to each of them as waste; and, if years cost
-anything, whether the mine runs. What a parcel sends nowhere is waste. A stockpile gives each parcel back as it was placed.
-"""
+"""Products and rows of small sparse matrices in one step. scipy converts and checks each part, which takes longer than the arithmetic."""
 
 from __future__ import annotations
 
-from collections.abc import Iterator
+from collections.abc import Iterator, Sequence
 from dataclasses import dataclass, field
 from functools import cached_property
-from typing import Optional
+from typing import Any, Optional
 
 import numpy as np
 from numpy.typing import NDArray
-from scipy.sparse import csr_matrix, diags, eye, hstack, spmatrix, vstack
+from scipy.sparse import coo_matrix, csr_matrix, diags, eye, hstack, spmatrix, vstack
 
 from pitplan.config.schedule import Effort
 from pitplan.scheduling.highs import Programme
 from pitplan.scheduling.highs_process import solve
+from pitplan.scheduling.limits import ADVANCE, DUMP, DUMPED, MAX, MIN, RUNNING, STOCK, Prices
 
-from .limit import Limit
-from .limit_names import ADVANCE, DUMP, DUMPED, MAX, MIN, RUNNING, STOCK, Prices
-from .model import FlowModel
-from .rows import by_end, furthest, order_rows
-from .sparse import kron, side_by_side
+from .model import FlowModel, by_end, furthest, order_rows
+
+
+def kron(one: Any, other: Any) -> coo_matrix:
+    """Returns the Kronecker product of two matrices."""
+    first, second = coo_matrix(one), coo_matrix(other)
+    (height, width), (rows, columns) = first.shape, second.shape
+    row = first.row[:, None] * np.int64(rows) + second.row
+    column = first.col[:, None] * np.int64(columns) + second.col
+    data = first.data[:, None] * second.data
+    return coo_matrix((data.ravel(), (row.ravel(), column.ravel())), shape=(height * rows, width * columns))
+
+
+def side_by_side(parts: Sequence[Optional[Any]], widths: Sequence[int]) -> csr_matrix:
+    """Returns matrices side by side, of given widths. None stands for zeros."""
+    starts, height = np.cumsum([0, *widths]), next(part.shape[0] for part in parts if part is not None)
+    there = [(part.tocoo(), start) for part, start in zip(parts, starts.tolist()) if part is not None]
+    row = np.concatenate([part.row for part, _ in there])
+    column = np.concatenate([part.col + start for part, start in there])
+    data = np.concatenate([part.data for part, _ in there])
+    return csr_matrix((data, (row, column)), shape=(height, int(starts[-1])))
+
+
+@dataclass(frozen=True)
+class Limit:
+    """A limit by year: `used @ unknowns` is at most `most` for a maximum, at least for a minimum.
+
+    Attributes
+    ----------
+    name, side : str
+        The limited amount, and MAX or MIN.
+    used : csr matrix, shape (years, unknowns)
+    amount : array, shape (years,)
+        Infinite where there is no limit.
+    """
+
+    name: str
+    side: str
+    used: csr_matrix
+    amount: NDArray[np.float64]
+
+    @property
+    def sign(self) -> float:
+        return -1.0 if self.side == MIN else 1.0
+
+    @property
+    def scale(self) -> float:
+        """A unit in which the limit is near 1."""
+        greatest = float(np.abs(self.amount[self.holds]).max(initial=0.0))
+        return greatest or float(np.abs(self.used.data).max(initial=0.0)) or 1.0
+
+    @property
+    def holds(self) -> NDArray[np.bool_]:
+        """Whether there is a limit in each year."""
+        return np.isfinite(self.amount)
+
+    @property
+    def finite(self) -> NDArray[np.float64]:
+        """The amount, 0 where there is no limit."""
+        return np.where(self.holds, self.amount, 0.0)
+
+    @property
+    def rows(self) -> tuple[csr_matrix, NDArray[np.float64]]:
+        """The rows of the programme, at most; of years without a limit 0 is at most 0."""
+        unit = self.sign / self.scale
+        return diags(self.holds * unit) @ self.used, self.finite * unit
+
 
 # Programmes with more unknowns than these take minutes.
 MANY = 60_000

@@ -1,4 +1,8 @@
-"""Feasible schedules of material flow: by rule, and from orders of benches at their best pace."""
+"""Orders in which the benches of pushbacks may be mined: by leads of each pushback over the next, and as the linear programme mines them.
+
+The latter are benches by their expected year in the optimum, as of Chicoisne, Espinoza, Goycoolea, Moreno and Rubio (A new algorithm for the
+open-pit mine production scheduling problem, Operations Research 60(3), 2012).
+"""
 
 from __future__ import annotations
 
@@ -9,21 +13,192 @@ from typing import Optional
 
 import numpy as np
 from numpy.typing import NDArray
+from scipy.sparse import csr_matrix, hstack, vstack
 
 from pitplan.config.dumps import Dump
+from pitplan.config.schedule import Effort
 from pitplan.errors import PlanError
 from pitplan.pushbacks.bench_table import ORE, PushbackBenches
-from pitplan.scheduling.bench_sequencing import Problem, Sequence, by_lead, dig, leads
-from pitplan.scheduling.highs_process import at_a_time
+from pitplan.scheduling.bench_sequencing import HAIR, Problem, Sequence, by_lead, dig, leads
+from pitplan.scheduling.highs import Programme
+from pitplan.scheduling.highs_process import at_a_time, solve
 
-from . import depths, orders
-from .dumping import FAR
 from .flows import Flows, best, richest_first
-from .model import FlowModel
-from .orders import Ordered
-from .pacing import Pacing
+from .material import FAR
+from .model import FlowModel, paying, started_rows
+from .pacing import Course, Pacing
 from .programme import FlowOptimum, FlowProgramme
-from .rows import paying
+
+# Changes of one pushback's lead that are tried, the largest first; and how often in all.
+STEPS, MOST_TRIALS = (4, 2, 1), 80
+# Shares of a bench that date it: it counts as mined in the year that completes the share. The expected year is another date.
+PARTS = (0.1, 0.5, 0.9)
+# A bench of which the optimum mines less than this share is left; and a share that may be the solver's tolerance alone.
+LEFT, RANK_NOISE = 0.5, 1e-6
+
+
+@dataclass(frozen=True)
+class Ordered:
+    """An order of benches with its best course, over a coarse grid while orders are compared, and the leads that it is made of."""
+
+    order: NDArray[np.int64]
+    course: Course
+    leads: tuple[int, ...] = ()
+
+
+def order_by(benches: PushbackBenches, leads_of: tuple[int, ...]) -> NDArray[np.int64]:
+    """Returns all benches, each pushback behind the one before by its own lead, in benches."""
+    behind = np.append(0, np.cumsum(leads_of)).astype(np.int64)
+    return np.lexsort((benches.pushback, benches.level + behind[benches.pushback - 1]))
+
+
+def by_one_lead(pacing: Pacing) -> list[Ordered]:
+    """Returns the order of each lead that all pushbacks share, the best first."""
+    benches = pacing.model.benches
+    gaps = int(benches.pushback.max(initial=1)) - 1
+    found = [ordered(pacing, (lead,) * gaps) for lead in (leads(benches) if gaps else (0,))]
+    return sorted(found, key=lambda it: it.course.value, reverse=True)
+
+
+def ordered(pacing: Pacing, leads_of: tuple[int, ...]) -> Ordered:
+    order = order_by(pacing.model.benches, leads_of)
+    return Ordered(order, pacing.coarse(order), leads_of)
+
+
+def improved_order(pacing: Pacing, start: Ordered) -> Ordered:
+    """Returns the best order found by changing one lead at a time."""
+    best, tried = start, {start.leads}
+    for step in STEPS:
+        better = True
+        while better and len(tried) < MOST_TRIALS:
+            better = False
+            for leads_of in neighbours(best.leads, step, pacing.model.benches.lag):
+                if leads_of not in tried and len(tried) < MOST_TRIALS:
+                    tried.add(leads_of)
+                    found = ordered(pacing, leads_of)
+                    if found.course.value > best.course.value:
+                        best, better = found, True
+    return best
+
+
+def neighbours(leads_of: tuple[int, ...], step: int, least: int) -> Iterator[tuple[int, ...]]:
+    """Yields the leads with one of them changed by a step."""
+    for place, lead in enumerate(leads_of):
+        for other in (lead - step, lead + step):
+            if other >= least:
+                yield (*leads_of[:place], other, *leads_of[place + 1 :])
+
+
+def of_optimum(cumulative: NDArray[np.float64], benches: PushbackBenches) -> Iterator[NDArray[np.int64]]:
+    """Yields orders by the expected year of each bench, and by that in which a part of it is mined, with and without what is mostly left.
+
+    `cumulative` is the share of each bench that the optimum mines by the end of each year, shape (benches, years).
+    """
+    expected = cumulative.shape[1] + 1 - cumulative.sum(axis=1)
+    for key in (expected, *((cumulative < part - RANK_NOISE).sum(axis=1) for part in PARTS)):
+        order = in_order(benches, key, expected)
+        for least in (LEFT, RANK_NOISE):
+            yield order[cumulative[order, -1] >= least]
+
+
+def in_order(benches: PushbackBenches, key: NDArray[np.float64], second: NDArray[np.float64]) -> NDArray[np.int64]:
+    """Returns the benches by rising keys, each after those that it waits for, whose keys may be greater by the solver's tolerance."""
+    first, second = key.astype(float), second.astype(float)
+    for bench, others in enumerate(benches.waits):
+        for keys in (first, second):
+            keys[bench] = max(keys[bench], *keys[others]) if len(others) else keys[bench]
+    return np.lexsort((np.arange(len(benches)), second, first))
+
+
+# By how much a limit may be missed.
+MISSED_LIMIT = 1e-8
+
+
+def keeps(model: FlowModel, dug: NDArray[np.float64]) -> bool:
+    """Returns whether each bench is started when all that it waits for is mined, and no year exceeds a limit of mining, within a tolerance."""
+    benches, limits, years = model.benches, model.of_mining, dug.shape[1]
+    done = dug.cumsum(axis=1)
+    for bench, others in enumerate(benches.waits):
+        if (done[others][:, dug[bench] > 0] < 1 - HAIR).any():
+            return False
+    sunk = np.stack([dug[benches.pushback == pushback].sum(axis=0) for pushback in np.unique(benches.pushback)])
+    is_within = (limits.amounts(benches).T @ dug).T <= limits.of_years(years) * (1 + MISSED_LIMIT)
+    return bool(is_within.all() and (sunk <= limits.sinking(years) + MISSED_LIMIT).all())
+
+
+def whole_shares(cumulative: NDArray[np.float64], slight: float) -> NDArray[np.float64]:
+    """Returns the shares of benches by year from those by the end of each year; differences up to `slight` are the solver's tolerance."""
+    rounded = np.where(cumulative > 1 - slight, 1.0, np.where(cumulative < slight, 0.0, cumulative))
+    shares = np.diff(np.maximum.accumulate(rounded, axis=1), axis=1, prepend=0.0)
+    return np.where(shares > HAIR, shares, 0.0)
+
+
+# So many programmes are solved at most, fewer of large ones. They end when two in turn gain less than this share. What gains less than the other
+# share may be noise.
+PROGRAMMES, OF_LARGE, GAINED, NOISE = 24, 8, 1e-4, 1e-7
+# A share that may be the solver's tolerance alone.
+DEPTH_NOISE = 1e-7
+
+
+def improved_depths(model: FlowModel, dug: NDArray[np.float64], value: float) -> Optional[NDArray[np.float64]]:
+    """Returns shares of benches by year that are worth more than those of a schedule, near it; None if none are found.
+
+    Parameters
+    ----------
+    model : FlowModel
+    dug : array, shape (benches, years)
+        Shares of whole benches, each begun when those that it waits for are through.
+    value : float
+        The net present value of the schedule.
+    """
+    found, idle = None, 0
+    for number in range(OF_LARGE if FlowProgramme(model).is_large else PROGRAMMES):
+        least, most = around(model.benches, dug.cumsum(axis=1), deeper=number % 2 == 0)
+        try:
+            optimum = FlowProgramme(model, between=(least, most)).solved()
+        except PlanError:
+            break
+        shares = whole_shares(np.clip(optimum.cumulative, least, most), DEPTH_NOISE)
+        gained = optimum.value - value
+        idle = 0 if gained > GAINED * abs(value) else idle + 1
+        if gained > NOISE * abs(value) and keeps(model, shares):
+            found = dug = shares
+            value = optimum.value
+        if idle == 2:
+            break
+    return found
+
+
+def around(
+    benches: PushbackBenches, done: NDArray[np.float64], deeper: bool
+) -> tuple[NDArray[np.float64], NDArray[np.float64]]:
+    """Returns the least and the greatest share of each bench that is mined by the end of each year while the same benches are in work.
+
+    Parameters
+    ----------
+    benches : PushbackBenches
+    done : array, shape (benches, years)
+        The share of each bench that is mined by the end of each year.
+    deeper : bool
+        Whether a pushback without a bench in progress may begin its next one, or leave its last one unfinished.
+    """
+    through, begun = done >= 1 - HAIR, done > HAIR
+    least, most = through.astype(float), begun.astype(float)
+    count = len(benches)
+    waits = np.zeros((count, count), dtype=bool)
+    for bench, others in enumerate(benches.waits):
+        waits[bench, others] = True
+    in_work = begun & ~through
+    for pushback in np.unique(benches.pushback):
+        mine = np.flatnonzero(benches.pushback == pushback)
+        for year in np.flatnonzero(~in_work[mine].any(axis=0)):
+            last = int(through[mine, year].sum())
+            if deeper and last < len(mine) and through[benches.waits[mine[last]], year].all():
+                most[mine[last], year] = 1.0
+            elif not deeper and last and not begun[waits[:, mine[last - 1]], year].any():
+                least[mine[last - 1], year] = 0.0
+    return least, most
+
 
 # Of more processes than these the mine is paced by each one alone or by all.
 MOST_PACING = 3
@@ -186,7 +361,7 @@ def made_of_orders(model: FlowModel, optimum: FlowOptimum) -> list[Flows]:
 def deepened(flows: Flows) -> Flows:
     """Returns the schedule with better depths of pushbacks by year, if they are found."""
     model = flows.model
-    dug = depths.improved(model, padded(flows.dug, model.years), flows.value)
+    dug = improved_depths(model, padded(flows.dug, model.years), flows.value)
     found = None if dug is None else feasible(model, dug)
     return flows if found is None else max(ended(without_loss(found)), flows, key=lambda it: it.value)
 
@@ -195,10 +370,10 @@ def orders_of(model: FlowModel, optimum: FlowOptimum, compared: int) -> list[Ord
     """Returns orders of benches, the best first: by leads, and as the optimum of the linear programme is expected to mine them. So many of the best
     are compared again with all bins."""
     exact, pacing = Pacing(model, optimum.prices), Pacing(model, optimum.prices, MOST_KINDS)
-    found = orders.by_one_lead(pacing)
-    found.append(orders.improved(pacing, found[0]))
+    found = by_one_lead(pacing)
+    found.append(improved_order(pacing, found[0]))
     seen = {tuple(it.order) for it in found}
-    for order in orders.of_optimum(optimum.cumulative, model.benches):
+    for order in of_optimum(optimum.cumulative, model.benches):
         if tuple(order) not in seen:
             seen.add(tuple(order))
             found.append(Ordered(order, pacing.coarse(order)))
@@ -284,3 +459,49 @@ def ended(flows: Flows) -> Flows:
     if model.problem.costs_of_years(model.years).any() and not model.asks_least:
         flows = max((flows.until(year) for year in range(model.years, -1, -1)), key=lambda it: it.value)
     return flows.cut(flows.last)
+
+
+# What the solver's tolerance may add to a share.
+SHARE_NOISE = 1e-6
+# HiGHS may run past its time limit. Its process is ended after TIMES the limit plus LATE seconds, without a result.
+TIMES, LATE = 2.0, 30.0
+
+
+def integer_programme(flow: FlowProgramme) -> Programme:
+    """Returns the linear programme with the whole unknowns behind its own."""
+    given, size = flow.programme, flow.sizes[0]
+    started = started_rows(flow.model.benches, flow.years)
+    between = csr_matrix((started.shape[0], len(given.gain) - size))
+    matrix = vstack(
+        [
+            hstack([given.matrix, csr_matrix((given.matrix.shape[0], size))]),
+            hstack([started[:, :size], between, started[:, size:]]),
+        ],
+        format="csr",
+    )
+    return Programme(
+        gain=np.concatenate([given.gain, np.zeros(size)]),
+        matrix=matrix,
+        most=np.concatenate([given.most, np.zeros(started.shape[0])]),
+        upper=np.concatenate([given.upper, (given.upper[:size] > SHARE_NOISE).astype(float)]),
+        whole=np.repeat([False, True], [len(given.gain), size]),
+    )
+
+
+def best_schedule(model: FlowModel, effort: Effort) -> tuple[Optional[Flows], float]:
+    """Returns the best schedule found, None if there was none in time, and the bound shown by then, infinite if HiGHS had to be ended.
+
+    Raises KeyboardInterrupt if the run is interrupted.
+    """
+    flow = FlowProgramme(model)
+    found = solve(integer_programme(flow), effort, None if effort.seconds is None else TIMES * effort.seconds + LATE)
+    most = found.bound * flow.unit - flow.costs[0]
+    if found.unknowns is None:
+        return None, most
+    if most < 0 and not model.asks_least:
+        most = 0.0
+    dug = whole_shares(found.unknowns[: flow.sizes[0]].reshape(-1, model.years), SHARE_NOISE)
+    flows = feasible(model, dug) if keeps(model, dug) else None
+    if flows is None:
+        return None, most
+    return ended(without_loss(flows)), most

@@ -5,7 +5,7 @@ from __future__ import annotations
 from collections.abc import Iterator
 from dataclasses import dataclass
 from functools import cached_property
-from typing import TYPE_CHECKING, Optional
+from typing import TYPE_CHECKING, Any, Optional
 
 import numpy as np
 import pandas as pd
@@ -15,20 +15,20 @@ from pitplan.config.dumps import Dump
 from pitplan.config.economics import GRADE_UNITS
 from pitplan.config.places import MILL, PIT, WASTE
 from pitplan.config.stockpiles import Stockpile
-from pitplan.economics.period_costs import MINING_COST, SELLING_COST, SMELTED
+from pitplan.economics.cutoff_grades import RockCosts
+from pitplan.economics.period_costs import MINING_COST, PROCESSING_COST, SELLING_COST, SMELTED
 from pitplan.pits import shell_tables
 from pitplan.plan import Plan, shown_name
 from pitplan.pushbacks.bench_table import benches_of_cells
-from pitplan.scheduling.limits import SUM
+from pitplan.scheduling.limits import ADVANCE, DUMP, DUMPED, STOCK, SUM, GradeLimit, grade_limits, whole_price
 
-from .cutoffs import KEYS, cutoff_columns
-from .dumping import SET
 from .flows import Flows
-from .opening_table import balance_at_start, of_opening
-from .parcels import column_of
+from .material import FEED, SET, column_of
+from .opening import balance_at_start, of_opening
 
 if TYPE_CHECKING:
     from pitplan.scheduling.pushback_schedule import YearlySchedule
+
 
 # A stockpile of less than this share of all that was placed there is empty.
 EMPTY = 1e-9
@@ -338,3 +338,236 @@ def bound_table(schedule: YearlySchedule) -> pd.DataFrame:
 def is_shown(name: str) -> bool:
     """Returns whether an amount of benches is a column of tables."""
     return name != MINING_COST and not name.startswith((SUM, SET))
+
+
+Floats = NDArray[np.float64]
+COLUMNS = ("method", "year", "limit", "used", "minimum", "maximum", "utilisation", "shadow_price")
+
+
+def limit_table(schedule: YearlySchedule) -> pd.DataFrame:
+    """Returns one row per method, year and limit.
+
+    Columns: `used` of the amount; its `minimum` and `maximum`; `utilisation`, the share of the maximum that is used; and `shadow_price`, the
+    money of the year that a unit more of the limit would earn in the linear programme, below 0 for a minimum. Of a limit on a head grade all
+    these are of the grade.
+    """
+    found = [limit_rows(schedule, method, name) for method in schedule.flows for name in names_of(schedule)]
+    table = pd.concat(found, ignore_index=True) if found else pd.DataFrame(columns=list(COLUMNS))
+    order = {name: number for number, name in enumerate(names_of(schedule))}
+    table["place"] = table["limit"].map(order)
+    methods = {method: number for number, method in enumerate(schedule.flows)}
+    table["first"] = table["method"].map(methods)
+    return (
+        table.sort_values(["first", "year", "place"], kind="stable")
+        .drop(columns=["first", "place"])
+        .reset_index(drop=True)
+    )
+
+
+def names_of(schedule: YearlySchedule) -> list[str]:
+    """The limits: amounts, head grades, the vertical advance of each pushback, what lies on stockpiles, and what dumps take and hold."""
+    limits, grades = schedule.problem.limits, grades_of(schedule)
+    shown = {it.name: name for name, found in grades.items() for it in found}
+    found = list(dict.fromkeys(shown.get(name, name) for name in (*limits.most, *limits.least)))
+    if np.isfinite(limits.vertical_advance_rate):
+        found += [f"{ADVANCE}{number}" for number in np.unique(schedule.benches.pushback)]
+    model = schedule.model
+    limited = [np.isfinite(most).any() or least.any() for least, most in model.rooms]
+    found += [f"{STOCK}{it.name}" for it, is_limited in zip(model.stockpiles, limited) if is_limited]
+    for it, least, most in zip(model.dumps, model.waste.least, model.waste.most):
+        found += [f"{DUMP}{it.name}"] if least.any() or np.isfinite(most).any() else []
+        found += [f"{DUMPED}{it.name}"] if it.capacity is not None else []
+    return found
+
+
+def limit_rows(schedule: YearlySchedule, method: str, name: str) -> pd.DataFrame:
+    flows, grades = schedule.flows[method], grades_of(schedule).get(name)
+    years, nothing = np.arange(flows.years), np.full(flows.years, np.nan)
+    if grades is not None:
+        used, least, most, price = of_grade(schedule, flows, grades)
+    else:
+        used, least, most = amounts_of(schedule, flows, name)
+        price = shadow_prices(schedule, name)[: flows.years]
+    share = nothing if grades else np.divide(used, most, out=nothing.copy(), where=most > 0)
+    columns = (method, years + 1, name, used, least, most, share, price)
+    return pd.DataFrame(dict(zip(COLUMNS, columns)))
+
+
+def of_grade(schedule: YearlySchedule, flows: Flows, limits: list[GradeLimit]) -> tuple[Floats, Floats, Floats, Floats]:
+    """Returns the head grade of each year, its minimum and maximum, and what a unit more of the limit would earn."""
+    first, years = limits[0], flows.years
+    feed = flows.used_in(FEED, first.process)
+    excess = first.sign * flows.used(first.name)
+    grade = np.divide(excess, feed, out=np.full(years, np.nan), where=feed > 0) + first.grade
+    limit, price = np.full(years, np.nan), np.zeros(years)
+    for it in limits:
+        limit[it.in_years(years)] = it.grade
+        price = price + shadow_prices(schedule, it.name)[:years] * feed * it.sign
+    nothing = np.full(years, np.nan)
+    return grade, *((nothing, limit) if first.sign > 0 else (limit, nothing)), price
+
+
+def amounts_of(schedule: YearlySchedule, flows: Flows, name: str) -> tuple[Floats, Floats, Floats]:
+    """Returns what is used of an amount in each year, its minimum and its maximum; nan where there is none."""
+    limits, years, nothing = schedule.problem.limits, flows.years, np.full(flows.years, np.nan)
+    if name.startswith(ADVANCE):
+        mine = schedule.benches.pushback == int(name.removeprefix(ADVANCE))
+        return flows.dug[mine].sum(axis=0), nothing, limits.sinking(years)
+    if name.startswith(STOCK):
+        return of_stockpile(schedule, flows, name)
+    if name.startswith((DUMP, DUMPED)):
+        return of_dump(schedule, flows, name)
+    most = limits.of_years(max(years, 1))[:years, list(limits.most).index(name)] if name in limits.most else nothing
+    least = limits.least_of_years(years)[name] if name in limits.least else nothing
+    return flows.used(name), least, most
+
+
+def of_dump(schedule: YearlySchedule, flows: Flows, name: str) -> tuple[Floats, Floats, Floats]:
+    """Returns the tonnes that a dump takes in each year, or holds at its end, their minimum and their maximum."""
+    years, dumps, nothing = flows.years, schedule.model.dumps, np.full(flows.years, np.nan)
+    if name.startswith(DUMPED):
+        number = [f"{DUMPED}{it.name}" for it in dumps].index(name)
+        return flows.placed[number].cumsum(), nothing, np.full(years, dumps[number].capacity, dtype=float)
+    number = [f"{DUMP}{it.name}" for it in dumps].index(name)
+    least, most = schedule.model.waste.least[number], schedule.model.waste.most[number, :years]
+    return flows.placed[number], least[:years] if least.any() else nothing, np.where(np.isfinite(most), most, nothing)
+
+
+def of_stockpile(schedule: YearlySchedule, flows: Flows, name: str) -> tuple[Floats, Floats, Floats]:
+    """Returns the tonnes of feed on a stockpile at the end of each year, their minimum and their maximum. The rule places nothing there, and
+    leaves what lay there at the start."""
+    number = [f"{STOCK}{it.name}" for it in schedule.model.stockpiles].index(name)
+    least, most = schedule.model.rooms[number]
+    lay = float(schedule.model.opening.on(number).sum())
+    lies = flows.lying(number) if flows.model.stockpiles else np.full(flows.years, lay)
+    nothing = np.full(flows.years, np.nan)
+    has_least, most = least.any(), most[: flows.years]
+    return lies, least[: flows.years] if has_least else nothing, np.where(np.isfinite(most), most, nothing)
+
+
+def grades_of(schedule: YearlySchedule) -> dict[str, list[GradeLimit]]:
+    """Returns the limits on head grades by the name that is shown."""
+    found: dict[str, list[GradeLimit]] = {}
+    for limit in grade_limits(schedule.pushbacks.plan.project):
+        found.setdefault(limit.shown, []).append(limit)
+    return found
+
+
+def shadow_prices(schedule: YearlySchedule, name: str) -> Floats:
+    """Returns the money of the year that a unit more of a limit would earn in each year of the linear programme; nan without one.
+
+    If years have costs, a limit also shows how far the mine runs in a year, so that a unit more of it saves a part of these costs.
+    """
+    if schedule.optimum is None:
+        return np.full(schedule.years, np.nan)
+    return whole_price(schedule.prices, name, schedule.years) / schedule.discounts(schedule.years)
+
+
+# A flow of a smaller share of the feed of a year may be the solver's tolerance alone.
+SLIGHT = 1e-6
+# What a row of feed.csv or cutoffs.csv is of.
+KEYS = ["method", "year", "process"]
+
+
+def cutoffs(schedule: YearlySchedule) -> dict[str, NDArray[np.float64]]:
+    """Returns by process, "" for the only one, the net value per tonne of feed from which on ore is processed at the prices of the limits.
+
+    It is the shadow price of a tonne of the process's capacity, in the currency of the year: 0 while capacity is left. Each array has the shape
+    (years,); nan without a linear programme.
+    """
+    return {name: price_of(schedule, name) for name in schedule.names}
+
+
+def price_of(schedule: YearlySchedule, process: str) -> NDArray[np.float64]:
+    """Returns the shadow price of a tonne of feed of a process: of its limits, and with several processes of those of the feed of all."""
+    price = shadow_prices(schedule, FEED)
+    return price + shadow_prices(schedule, f"{FEED}_{process}") if process else price
+
+
+def realised(schedule: YearlySchedule) -> pd.Series:
+    """Returns the lowest net value per tonne of feed that each process takes, by method, year and process."""
+    flows = schedule.material_flows.rename(columns={"destination": "process"})
+    fed = flows[flows["process"].isin([name or MILL for name in schedule.names])]
+    some = fed[fed["feed_tonnes"] > SLIGHT * fed.groupby(KEYS)["feed_tonnes"].transform("sum")]
+    return (some["cash_flow"] / some["feed_tonnes"]).groupby([some[key] for key in KEYS]).min()
+
+
+def cutoff_columns(schedule: YearlySchedule, keys: pd.MultiIndex) -> pd.DataFrame:
+    """Returns the columns `cutoff` and `realised_cutoff` of rows by method, year and process."""
+    found = cutoffs(schedule)
+    by_process = {name or MILL: found[name] for name in schedule.names}
+    priced = [float(by_process[process][year - 1]) for _, year, process in keys]
+    return pd.DataFrame({"cutoff": priced, "realised_cutoff": realised(schedule).reindex(keys)}, index=keys)
+
+
+def cutoff_table(schedule: YearlySchedule) -> pd.DataFrame:
+    """Returns one row per method, year, process and rock type that the process takes.
+
+    Columns: `cutoff`, the net value per tonne of feed from which on ore is processed at the prices of the limits; `realised_cutoff`, the lowest one
+    that is processed; `metal`, the first one that is recovered, or with several the metal whose equivalent grade the cut-off is; `cutoff_grade`, the head grade that earns processing cost
+    and cut-off at the prices and costs of the year; `marginal_grade` and `break_even_grade`, the head grades that earn the processing cost, and that and the
+    mining cost, at the base price; `equivalent_METAL`, what a unit of a metal's grade is worth in units of the first, in the year.
+    """
+    names, plan = schedule.names, schedule.pushbacks.plan
+    rocks = [
+        RockCosts(alone, rock)
+        for process, alone in enumerate(plan.project.by_process)
+        for rock in rocks_of(schedule, process)
+    ]
+    process = [k for k in range(len(names)) for _ in rocks_of(schedule, k)]
+    rows = [
+        {"method": method, **row}
+        for method, flows in schedule.flows.items()
+        for year in range(flows.years)
+        for row in cutoff_rows(schedule, year, list(zip(process, rocks)))
+    ]
+    table = pd.DataFrame(rows, columns=[it for it in columns_of(schedule) if it != "realised_cutoff"])
+    at = pd.MultiIndex.from_frame(table[KEYS])
+    table.insert(table.columns.get_loc("cutoff") + 1, "realised_cutoff", realised(schedule).reindex(at).to_numpy())
+    return table
+
+
+def columns_of(schedule: YearlySchedule) -> list[str]:
+    project = schedule.pushbacks.plan.project
+    rock = [shown_name(project.table.rock_type)] if project.table.rock_type else []
+    grades = ["cutoff_grade", "marginal_grade", "break_even_grade"]
+    equivalents = [f"equivalent_{metal.name}" for metal in project.metals] if len(project.metals) > 1 else []
+    return [*KEYS, *rock, "cutoff", "realised_cutoff", "metal", *grades, *equivalents]
+
+
+def rocks_of(schedule: YearlySchedule, process: int) -> list[str]:
+    """Returns the codes of the rock types of the pushbacks that yield anything in a process; one empty code without rock types."""
+    plan = schedule.pushbacks.plan
+    inside = (schedule.pushbacks.pushback > 0) & (plan.values.tonnes > 0)
+    taken = inside & (plan.values.by_process[process].revenue > 0)
+    if plan.project.table.rock_type is None:
+        return [""] if taken.any() else []
+    return sorted(plan.table[plan.project.table.rock_type].astype(str)[taken[plan.grid.rows]].unique())
+
+
+def cutoff_rows(schedule: YearlySchedule, year: int, rocks: list[tuple[int, RockCosts]]) -> Iterator[dict[str, Any]]:
+    """Yields the rows of a year, numbered from 0, without what differs by method."""
+    project, money, found = schedule.pushbacks.plan.project, schedule.problem.money, cutoffs(schedule)
+    factor = money.factors(PROCESSING_COST, year + 1)[year]
+    for process, costs in rocks:
+        premiums = premiums_in(schedule, year, process)
+        name, first = schedule.names[process], costs.metals[0]
+        cutoff = float(found[name][year])
+        row = {"year": year + 1, "process": name or MILL, "cutoff": cutoff, "metal": first.name}
+        if project.table.rock_type:
+            row[shown_name(project.table.rock_type)] = costs.rock
+        row["cutoff_grade"] = costs.head_grade(first, costs.processing_at(factor) + cutoff, premiums[first.name])
+        row["marginal_grade"] = costs.head_grade(first, costs.processing)
+        row["break_even_grade"] = costs.head_grade(first, costs.processing + costs.mining)
+        yield row | {f"equivalent_{it.name}": costs.equivalent(it, premiums) for it in costs.metals}
+
+
+def premiums_in(schedule: YearlySchedule, year: int, process: int) -> dict[str, float]:
+    """Returns by metal what a unit that a process recovers earns in a year, numbered from 0, beyond the base price and cost."""
+    money, found = schedule.problem.money, {}
+    saved = float(1 - money.factors(SELLING_COST, year + 1)[year])
+    for metal in schedule.pushbacks.plan.project.by_process[process].metals:
+        names = (f"recovered_{metal.name}", f"{SMELTED}{metal.name}")
+        price, added = money.premium(names, year + 1)[year].tolist()
+        found[metal.name] = price + (added if metal.smelter else 0.0) + saved * money.charges[names[0]][process]
+    return found

@@ -17,8 +17,7 @@ from pitplan.core.progress import Progress
 from pitplan.core.revenue_factors import BASE_PRICE
 from pitplan.errors import PlanError
 from pitplan.pushbacks.bench_table import CASH
-from pitplan.scheduling.blocks.from_plan import diggable, pit_of
-from pitplan.scheduling.blocks.keys import demand_of_blocks, of_pushbacks
+from pitplan.scheduling.blocks.from_plan import demand_of_blocks, diggable, of_pushbacks, pit_of
 from pitplan.solver.choice import PROGRAM
 from pitplan.studies.scenarios import prepare, store
 from pitplan.studies.scenarios.prepare import Laid

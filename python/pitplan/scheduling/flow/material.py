@@ -1,30 +1,285 @@
-"""The ore of pushbacks, block by block and in parcels: the blocks of a bench whose best process and value bin are the same."""
+"""The material of pushbacks: ore block by block and in parcels, and waste by the set of dumps that accept it."""
 
 from __future__ import annotations
 
 from dataclasses import dataclass, replace
+from functools import cached_property
 from typing import Optional
 
 import numpy as np
 from numpy.typing import NDArray
+from scipy.optimize import linprog
+from scipy.sparse import csr_matrix, eye, hstack, kron, vstack
 
+from pitplan.config.dumps import Dump
 from pitplan.config.project import Project
 from pitplan.config.schedule import FEED as OF_FEED, TOTAL, ScheduleRules
+from pitplan.config.stockpiles import Stockpile
 from pitplan.economics import period_costs
 from pitplan.economics.cutoff_grades import BINS, edges_of
+from pitplan.economics.period_costs import SELLING_COST, SMELTED, YearlyMoney
 from pitplan.economics.weighing import accepted_by
+from pitplan.pits import ore_kinds
 from pitplan.plan import MILLION, Plan
 from pitplan.pushbacks import bench_table
 from pitplan.pushbacks.bench_table import CASH, ROCK, PushbackBenches
 from pitplan.pushbacks.nested import Pushbacks
 from pitplan.scheduling.bench_sequencing import Limits
-from pitplan.scheduling.grade_limits import AT, GRADE, GradeLimit, grade_limits
-from pitplan.scheduling.limits import SUM
+from pitplan.scheduling.highs_process import demand_solved
+from pitplan.scheduling.limits import AT, DUMP, DUMPED, GRADE, MAX, MIN, SUM, GradeLimit, Prices, grade_limits
 
-from . import dump_sets
-from .dump_sets import DumpSets
-from .dumping import SET
-from .ore import FEED, Ore
+FEED = "feed_tonnes"
+
+
+@dataclass(frozen=True)
+class Ore:
+    """Units of ore.
+
+    Attributes
+    ----------
+    bench : int array, shape (units,)
+        The number of the bench that each unit is mined with.
+    bin : int array, shape (units,)
+        The value bin of each, from 1.
+    gain : array of float, shape (processes, units)
+        Revenue less the cost of processing and selling of a whole unit at the base price, in the currency.
+    amounts : dict of str to array, shape (processes, units)
+        What a whole unit adds to an amount where it is processed: feed_tonnes, feed_tonnes_PROCESS, recovered_METAL, limited sums and grades, and
+        the costs that factors of years multiply.
+    accepted : bool array, shape (stockpiles, units), optional
+        Whether each stockpile accepts a unit; None: all do.
+    """
+
+    bench: NDArray[np.int64]
+    bin: NDArray[np.int64]
+    gain: NDArray[np.float64]
+    amounts: dict[str, NDArray[np.float64]]
+    accepted: Optional[NDArray[np.bool_]] = None
+
+    def __len__(self) -> int:
+        return len(self.bench)
+
+    @property
+    def processes(self) -> int:
+        """The number of processes."""
+        return len(self.gain)
+
+    @property
+    def feed(self) -> NDArray[np.float64]:
+        """Mill feed of each unit, in tonnes; it is the same in each process."""
+        return np.asarray(self.of(FEED).max(axis=0, initial=0.0))
+
+    def of(self, name: str) -> NDArray[np.float64]:
+        """Returns what whole units add to an amount, shape (processes, units); 0 if processing does not change it."""
+        return self.amounts.get(name, np.zeros_like(self.gain))
+
+    def gains(self, money: YearlyMoney, years: int) -> NDArray[np.float64]:
+        """Returns the gain of whole units by process and year, at the year's prices, shape (processes, units, years)."""
+        names, found = tuple(money.of_ore), np.repeat(self.gain[:, :, None], years, axis=2)
+        for name, premium in zip(names, money.premium(names, years).T):
+            found += self.of(name)[:, :, None] * premium
+        return found
+
+    def accepted_by(self, stockpile: int) -> NDArray[np.bool_]:
+        """Returns whether a stockpile, by number, accepts each unit."""
+        return np.ones(len(self), dtype=bool) if self.accepted is None else self.accepted[stockpile]
+
+    def reclaimed(self, stockpile: Stockpile, money: YearlyMoney) -> Ore:
+        """Returns the ore as a stockpile gives it back: reclaiming costs, and less metal may be recovered and sold."""
+        gain, amounts = self.gain - stockpile.reclaim_cost * self.feed, dict(self.amounts)
+        for metal, share in stockpile.recovery.items():
+            name = f"recovered_{metal}"
+            gain = gain - (1 - share) * np.array(money.net_prices[name])[:, None] * self.of(name)
+            if SELLING_COST in amounts:
+                unsold = (1 - share) * np.array(money.charges[name])[:, None] * self.of(name)
+                amounts[SELLING_COST] = amounts[SELLING_COST] - unsold
+            for amount in {name, f"{SMELTED}{metal}"} & set(amounts):
+                amounts[amount] = share * self.of(amount)
+        return replace(self, gain=gain, amounts=amounts)
+
+    def merged(self, parcel: NDArray[np.int64], bench: NDArray[np.int64], bins: NDArray[np.int64]) -> Ore:
+        """Returns the sums over units by their parcel, all of which the same stockpiles accept; `bench` and `bins` are those of the parcels."""
+
+        def sums(values: NDArray[np.float64]) -> NDArray[np.float64]:
+            return np.stack([np.bincount(parcel, row, minlength=len(bench)) for row in values])
+
+        accepted, amounts = None, {name: sums(values) for name, values in self.amounts.items()}
+        if self.accepted is not None:
+            accepted = np.zeros((len(self.accepted), len(bench)), dtype=bool)
+            accepted[:, parcel] = self.accepted
+        return Ore(bench, bins, sums(self.gain), amounts, accepted)
+
+    def unit(self, number: int) -> Ore:
+        """Returns one unit alone, whatever accepts it."""
+        some = slice(number, number + 1)
+        amounts = {name: values[:, some] for name, values in self.amounts.items()}
+        return Ore(self.bench[some], self.bin[some], self.gain[:, some], amounts)
+
+
+def joined(parts: list[Ore]) -> Ore:
+    """Returns the units of all parts, whatever accepts them. The parts have the same amounts."""
+    amounts = {name: np.concatenate([part.amounts[name] for part in parts], axis=1) for name in parts[0].amounts}
+    bench, bins = (np.concatenate([getattr(part, name) for part in parts]) for name in ("bench", "bin"))
+    return Ore(bench, bins, np.concatenate([part.gain for part in parts], axis=1), amounts)
+
+
+Floats = NDArray[np.float64]
+# How the names of amounts of the rock of a set begin.
+SET = "rock_set_"
+# What a tonne costs that finds no room, in multiples of the dearest dump and of a unit of money; and a share of waste that may be rounding.
+FAR, SLIGHT = 1e3, 1e-7
+
+
+@dataclass(frozen=True)
+class Waste:
+    """Rock and dumps.
+
+    Attributes
+    ----------
+    dumps : tuple of Dump
+    accepted : bool array, shape (sets, dumps)
+        The dumps of each set.
+    rock : array, shape (benches, sets)
+        Tonnes of whole benches, ore included.
+    ore : array, shape (sets, parcels)
+        Of these the tonnes of whole parcels.
+    bench : int array, shape (parcels,)
+        The bench of each parcel.
+    least, most : array, shape (dumps, years)
+        Tonnes that a dump takes in each year, infinite without a limit.
+    discounts : array, shape (years,)
+    """
+
+    dumps: tuple[Dump, ...]
+    accepted: NDArray[np.bool_]
+    rock: Floats
+    ore: Floats
+    bench: NDArray[np.int64]
+    least: Floats
+    most: Floats
+    discounts: Floats
+
+    @property
+    def years(self) -> int:
+        return len(self.discounts)
+
+    @property
+    def sets(self) -> int:
+        return len(self.accepted)
+
+    @cached_property
+    def pairs(self) -> tuple[NDArray[np.int64], NDArray[np.int64]]:
+        """The set and the dump of each pair that go together."""
+        found, dump = np.nonzero(self.accepted)
+        return found, dump
+
+    @property
+    def whole(self) -> Floats:
+        """The rock of each set in tonnes, at least 1, shape (sets,)."""
+        return np.maximum(self.rock.sum(axis=0), 1.0)
+
+    @property
+    def costs(self) -> Floats:
+        """The cost of each dump per tonne, not discounted, shape (dumps,)."""
+        return np.array([it.cost for it in self.dumps])
+
+    @property
+    def capacities(self) -> Floats:
+        """What each dump holds in all, infinite without a limit, shape (dumps,)."""
+        return np.array([np.inf if it.capacity is None else it.capacity for it in self.dumps])
+
+    @property
+    def is_limited(self) -> bool:
+        """Whether a dump may lack room, or must take something."""
+        return bool(np.isfinite(self.capacities).any() or np.isfinite(self.most).any() or self.least.any())
+
+    @property
+    def saved(self) -> float:
+        """The most that a tonne saves that goes to no dump: any amount if one may lack room."""
+        return np.inf if self.is_limited else float(self.costs.max(initial=0.0))
+
+    def by_bench(self, dug: Floats, sent: Floats) -> Floats:
+        """Returns the tonnes of waste by bench, set and year; `sent` are the shares of parcels that go elsewhere, shape (parcels, years)."""
+        found = self.rock[:, :, None] * dug[:, None, :]
+        np.subtract.at(found, self.bench, self.ore.T[:, :, None] * sent[:, None, :])
+        return np.maximum(found, 0.0)
+
+    def at_prices(self, prices: Prices) -> Floats:
+        """Returns what a tonne of each set costs at least in each year, discounted, with the prices of the limits of dumps, shape (sets, years)."""
+        found, nothing = np.full((self.sets, self.years), np.inf), np.zeros(self.years)
+        for number, it in enumerate(self.dumps):
+            # A tonne lies there from its year on.
+            room = prices.get((f"{DUMPED}{it.name}", MAX), nothing)[::-1].cumsum()[::-1]
+            of_year = prices.get((f"{DUMP}{it.name}", MAX), nothing) - prices.get((f"{DUMP}{it.name}", MIN), nothing)
+            cost = it.cost * self.discounts + room + of_year
+            found = np.where(self.accepted[:, number, None], np.minimum(found, cost), found)
+        return found
+
+    def shares(self, tonnes: Floats) -> Floats:
+        """Returns the shares of the waste of each set, from tonnes by set, dump and year; without any all of it goes to the cheapest dump."""
+        whole = tonnes.sum(axis=1, keepdims=True)
+        cheapest = np.zeros_like(tonnes)
+        first = np.where(self.accepted, self.costs, np.inf).argmin(axis=1) if self.sets else np.zeros(0, dtype=np.int64)
+        cheapest[np.arange(self.sets), first] = 1.0
+        return np.where(whole > SLIGHT, tonnes / np.where(whole > SLIGHT, whole, 1.0), cheapest)
+
+    def placed(self, waste: Floats) -> tuple[Floats, Floats]:
+        """Returns the cheapest shares of the waste of each set and year that dumps take, shape (sets, dumps, years), and the tonnes of each year that find
+        no room. Minimums are not kept."""
+        found, dump = self.pairs
+        size, sets = len(found) * self.years, np.arange(self.sets)
+        each = csr_matrix(eye(self.years))
+        lacking = (FAR * (1 + self.costs.max(initial=0.0)) * self.discounts)[None].repeat(self.sets, axis=0)
+        price = np.concatenate([(self.costs[dump][:, None] * self.discounts).ravel(), lacking.ravel()])
+        of_set = kron(csr_matrix((found[None] == sets[:, None]).astype(float)), each)
+        goes = hstack([of_set, eye(self.sets * self.years)], format="csr")
+        of_dump = csr_matrix((dump[None] == np.arange(len(self.dumps))[:, None]).astype(float))
+        until = csr_matrix(np.tril(np.ones((self.years, self.years))))
+        limits = [(kron(of_dump, each), self.most.ravel()), (kron(of_dump, until), self.capacities.repeat(self.years))]
+        rows, most = vstack([matrix for matrix, _ in limits], format="csr"), np.concatenate([it for _, it in limits])
+        held = np.isfinite(most)
+        rows = hstack([rows[held], csr_matrix((int(held.sum()), self.sets * self.years))], format="csr")
+        unit = float(waste.max(initial=0.0)) or 1.0
+        solved = linprog(
+            price, A_ub=rows, b_ub=most[held] / unit, A_eq=goes, b_eq=waste.ravel() / unit, method="highs-ds"
+        )
+        demand_solved(solved, "dump for the waste")
+        tonnes = np.zeros((self.sets, len(self.dumps), self.years))
+        tonnes[found, dump] = solved.x[:size].reshape(-1, self.years) * unit
+        return self.shares(tonnes), solved.x[size:].reshape(self.sets, self.years).sum(axis=0) * unit
+
+
+@dataclass(frozen=True)
+class DumpSets:
+    """The sets of dumps.
+
+    Attributes
+    ----------
+    accepted : bool array, shape (sets, dumps)
+    of_cell : int array, shape (cells,)
+        The number of the set that accepts each cell; -1 outside the pushbacks.
+    """
+
+    accepted: NDArray[np.bool_]
+    of_cell: NDArray[np.int64]
+
+    def tonnes(self, cells: NDArray[np.int64], tonnes: NDArray[np.float64]) -> dict[str, NDArray[np.float64]]:
+        """Returns the tonnes of cells by set, by the names of amounts."""
+        return {
+            f"{SET}{number}": np.where(self.of_cell[cells] == number, tonnes, 0.0)
+            for number in range(len(self.accepted))
+        }
+
+
+def of_cells(plan: Plan, cells: NDArray[np.int64]) -> Optional[DumpSets]:
+    """Returns the sets of cells with tonnes; None without `[[dumps]]`. Raises PlanError if no dump accepts some of them."""
+    if not plan.project.dumps:
+        return None
+    accepted, number = np.unique(ore_kinds.accepted(plan, cells), axis=0, return_inverse=True)
+    of_cell = np.full(plan.grid.count, -1)
+    of_cell[cells] = number.ravel()
+    return DumpSets(accepted, of_cell)
+
 
 # A limit on a grade divides ore by that grade into this number of parts of even feed, so that parcels can be blended.
 GRADE_PARTS = 3
@@ -62,7 +317,7 @@ class Material:
 def of_pushbacks(pushbacks: Pushbacks, rules: ScheduleRules) -> Material:
     """Returns the material of pushbacks, with value bins of nearly even tonnage. Raises PlanError if no dump accepts some of it."""
     plan, assigned = pushbacks.plan, bench_table.of_pushbacks(pushbacks, rules.bench_lag)
-    sets = dump_sets.of_cells(plan, np.flatnonzero((pushbacks.pushback > 0) & (plan.values.tonnes > 0)))
+    sets = of_cells(plan, np.flatnonzero((pushbacks.pushback > 0) & (plan.values.tonnes > 0)))
     cells = ore_cells(pushbacks, rules)
     blocks = ore_of(plan, rules, cells, bench_table.benches_of_cells(pushbacks, assigned, cells), sets)
     benches = mined_alone(pushbacks, assigned, rules, sets)

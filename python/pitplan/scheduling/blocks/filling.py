@@ -1,0 +1,531 @@
+"""Feasible schedules by block: years filled in the order of ranks, exchanges of single blocks, and blends that keep head grades."""
+
+from __future__ import annotations
+
+from collections.abc import Iterable, Iterator
+from dataclasses import dataclass, field, replace
+from functools import cached_property
+from itertools import chain, product
+from typing import Optional
+
+import numpy as np
+from numpy.typing import NDArray
+from scipy.optimize import linprog
+from scipy.sparse import csr_matrix, eye, kron
+
+import pitshell
+
+from .problem import HAIR, BlockProblem, BlockSchedule, Limit, Needs, nothing, upward
+
+# The bits of a word, and the number of blocks handled at once when the cones that hold them are marked.
+BITS, AT_ONCE = 64, 4096
+# The number of cones summed at once: their marks take 100 megabytes as floats.
+SUMMED = 3_000
+
+
+@dataclass(frozen=True)
+class Ranks:
+    """Blocks in an order in which each stands behind all that it needs.
+
+    order   the blocks
+    bounds  the blocks of rank k, of which the longest way of needs has k pairs, are `order[bounds[k]:bounds[k + 1]]`
+    """
+
+    order: NDArray[np.int64]
+    bounds: NDArray[np.int64]
+
+    def __iter__(self) -> Iterator[NDArray[np.int64]]:
+        for first, last in zip(self.bounds, self.bounds[1:]):
+            yield self.order[first:last]
+
+
+def ranks_of(needs: Needs) -> Ranks:
+    """The ranks of all blocks, whose needs lead in no circle: else ValueError."""
+    blocks = len(needs.starts) - 1
+    ones = np.ones(len(needs.needed), dtype=np.int8)
+    rows = csr_matrix((ones, needs.needed.astype(np.int64), needs.starts.astype(np.int64)), shape=(blocks, blocks))
+    users = rows.tocsc()
+    waiting = np.diff(needs.starts.astype(np.int64))
+    ready, found = np.flatnonzero(waiting == 0), []
+    while len(ready):
+        found.append(ready)
+        followers, times = np.unique(rows_of(users.indptr, users.indices, ready), return_counts=True)
+        waiting[followers] -= times
+        ready = followers[waiting[followers] == 0]
+    sizes = [len(rank) for rank in found]
+    if sum(sizes) < blocks:
+        raise ValueError("the precedences have a cycle")
+    return Ranks(
+        np.concatenate([*found, np.zeros(0, dtype=np.int64)]), np.concatenate([[0], np.cumsum(sizes)]).astype(np.int64)
+    )
+
+
+def places_of(starts: NDArray[np.integer], rows: NDArray[np.int64]) -> NDArray[np.int64]:
+    """Where the entries of the given rows stand, row by row, in arrays whose row u stands from `starts[u]` to `starts[u + 1]`."""
+    first = starts[rows].astype(np.int64)
+    counts = starts[rows + 1].astype(np.int64) - first
+    ends = np.cumsum(counts)
+    total = int(ends[-1]) if len(ends) else 0
+    before: NDArray[np.int64] = np.repeat(first - (ends - counts), counts)
+    return before + np.arange(total, dtype=np.int64)
+
+
+def rows_of(starts: NDArray[np.integer], entries: NDArray[np.integer], rows: NDArray[np.int64]) -> NDArray[np.integer]:
+    """The entries of the given rows, row by row."""
+    return entries[places_of(starts, rows)]
+
+
+def greatest_needed(needs: Needs, ranks: Ranks, keys: NDArray[np.float64]) -> NDArray[np.float64]:
+    """For each block the greatest key of itself and of all that it needs, directly or through others."""
+    found = keys.copy()
+    for rank in list(ranks)[1:]:
+        above = found[rows_of(needs.starts, needs.needed, rank)]
+        found[rank] = np.maximum(found[rank], np.maximum.reduceat(above, row_starts(needs, rank)))
+    return found
+
+
+def row_starts(needs: Needs, rows: NDArray[np.int64]) -> NDArray[np.int64]:
+    """Where each of the given rows, none of which is empty, begins in `rows_of` them."""
+    counts = needs.starts[rows + 1].astype(np.int64) - needs.starts[rows]
+    return np.cumsum(counts) - counts
+
+
+def cone_sums(needs: Needs, ranks: Ranks, amounts: NDArray[np.float64]) -> NDArray[np.float64]:
+    """What the cone of each block, itself and all that it needs directly or through others, adds up to of amounts of shape (blocks,
+    kinds)."""
+    sums = np.zeros_like(amounts)
+    for first in range(0, len(amounts), AT_ONCE):
+        marked = ranks.order[first : first + AT_ONCE]
+        sums += summed(cones_with(needs, ranks, marked), amounts[marked])
+    return sums
+
+
+def summed(cones: NDArray[np.uint64], amounts: NDArray[np.float64]) -> NDArray[np.float64]:
+    """What the marked blocks of each cone, a bit for each, add up to."""
+    parts = [np.zeros((0, amounts.shape[1]))]
+    for start in range(0, len(cones), SUMMED):
+        rows = np.unpackbits(
+            cones[start : start + SUMMED].view(np.uint8), axis=1, bitorder="little", count=len(amounts)
+        )
+        parts.append(rows.astype(np.float64) @ amounts)
+    return np.concatenate(parts)
+
+
+def cones_with(needs: Needs, ranks: Ranks, marked: NDArray[np.int64]) -> NDArray[np.uint64]:
+    """For each block which of the marked ones are in its cone: a bit for each, from the lowest of the first word of a row on."""
+    held = np.zeros((len(needs.starts) - 1, -(-len(marked) // BITS)), dtype=np.uint64)
+    number = np.arange(len(marked))
+    held[marked, number // BITS] = np.left_shift(np.uint64(1), (number % BITS).astype(np.uint64))
+    for rank in list(ranks)[1:]:
+        above = held[rows_of(needs.starts, needs.needed, rank)]
+        held[rank] |= np.bitwise_or.reduceat(above, row_starts(needs, rank), axis=0)
+    return held
+
+
+# A gain of a smaller share is none.
+GAIN_NOISE = 1e-9
+
+
+class Room:
+    """What is left of each limit in each year."""
+
+    def __init__(self, problem: BlockProblem) -> None:
+        # Python's own lists: a block at a time, numpy's arrays are slower.
+        self.left = [(limit.most * (1 + HAIR)).tolist() for limit in problem.limits]
+        self.amounts = [limit.amounts.tolist() for limit in problem.limits]
+        self.dues = [due.amounts.tolist() for due in problem.dues]
+        self.signed = [k for k, limit in enumerate(problem.limits) if limit.signed]
+        # Of sums that have a least, by their numbers, what each year holds above it: below 0 where it lacks.
+        self.above = {
+            k: (-limit.floor * (1 - HAIR)).tolist() for k, limit in enumerate(problem.limits) if (limit.floor > 0).any()
+        }
+
+    def fits(self, block: int, destination: int, year: int) -> bool:
+        # A loop takes half the time of `all` here, where most of the time of filling goes.
+        for amounts, left in zip(self.amounts, self.left):
+            if amounts[block][destination] > left[year]:
+                return False
+        return True
+
+    def take(self, block: int, destination: int, year: int, sign: int = 1) -> None:
+        for amounts, left in zip(self.amounts, self.left):
+            left[year] -= sign * amounts[block][destination]
+        for number, above in self.above.items():
+            above[year] += sign * self.amounts[number][block][destination]
+
+    def may_leave(self, block: int, now: tuple[int, int], then: tuple[int, int]) -> bool:
+        """Whether a block that is taken out of its year and destination leaves them no shorter of a least than it was, and within signed limits,
+        when it is taken in another year and destination."""
+        if now[0] != then[0] and any(self.left[number][now[0]] < 0 for number in self.signed):
+            return False
+        for number, above in self.above.items():
+            amount, other = self.amounts[number][block][now[1]], self.amounts[number][block][then[1]]
+            stays = other if now[0] == then[0] else 0.0
+            if stays < amount and above[now[0]] + stays < 0:
+                return False
+        return all(due[block][then[1]] >= due[block][now[1]] for due in self.dues)
+
+
+@dataclass(frozen=True)
+class Filling:
+    """How years are filled.
+
+    problem     what is scheduled
+    preference  by block and year its destinations, the one to be tried first before the others: shape (blocks, years, destinations)
+    waits       whether a block waits for a year in which its first destination has room, before it goes to another in an earlier one
+    """
+
+    problem: BlockProblem
+    preference: NDArray[np.int64]
+    waits: bool = False
+
+    @cached_property
+    def needed(self) -> list[list[int]]:
+        """What each block needs."""
+        needs = self.problem.needs
+        bounds, needed = needs.starts.tolist(), needs.needed.tolist()
+        return [needed[first:last] for first, last in zip(bounds, bounds[1:])]
+
+    @cached_property
+    def preferred(self) -> list[list[list[int]]]:
+        return self.preference.tolist()
+
+    def fill(self, sequence: Sequence) -> BlockSchedule:
+        """Each block of the order in the first year with room from the one on in which all that it needs is dug, if there is one."""
+        problem, room = self.problem, Room(self.problem)
+        year, destination = [problem.years] * problem.blocks, [0] * problem.blocks
+        for block, first in zip(sequence.order.tolist(), sequence.earliest[sequence.order].tolist()):
+            ready = max((year[other] for other in self.needed[block]), default=0)
+            place = self.place(block, range(max(first, ready), problem.years), room)
+            if place is not None:
+                year[block], destination[block] = place
+                room.take(block, destination[block], year[block])
+        return schedule_of(problem, np.array(year), np.array(destination))
+
+    def place(self, block: int, years: range, room: Room) -> tuple[int, int] | None:
+        """The first year with room for the block, and the destination."""
+        preferred = self.preferred[block]
+        first = ((year, preferred[year][0]) for year in years if self.waits)
+        tried = chain(first, ((year, destination) for year in years for destination in preferred[year]))
+        for year, destination in tried:
+            if room.fits(block, destination, year):
+                return year, destination
+        return None
+
+    def without_loss(self, sequence: Sequence) -> BlockSchedule:
+        """The filled years without what does not pay at its time, filled anew without it as long as that gains."""
+        best = nothing(self.problem)
+        schedule = self.fill(sequence)
+        while True:
+            pruned = paying(self.problem, schedule).shortened(self.problem)
+            value = pruned.value(self.problem)
+            if value <= best.value(self.problem) * (1 + GAIN_NOISE):
+                return best
+            best = pruned
+            order = sequence.order[pruned.year[sequence.order] < self.problem.years]
+            schedule = self.fill(Sequence(order, sequence.earliest))
+
+
+def schedule_of(problem: BlockProblem, year: NDArray[np.int64], destination: NDArray[np.int64]) -> BlockSchedule:
+    """The schedule that sends each block to one destination whole."""
+    share = (np.arange(problem.destinations) == destination[:, None]) & (year < problem.years)[:, None]
+    return BlockSchedule(year, share.astype(float))
+
+
+def paying(problem: BlockProblem, schedule: BlockSchedule) -> BlockSchedule:
+    """The schedule without what earns less, at its time, than it costs: the best of its parts that hold with each block all that it
+    needs. Blocks that take from signed limits stay in the years that do not keep these without them."""
+    stays = np.zeros(problem.blocks, dtype=bool)
+    signed = [(limit.amounts * schedule.share).sum(axis=1) < 0 for limit in problem.limits if limit.signed]
+    while True:
+        pruned = without_losses(problem, schedule, stays)
+        if not signed or pruned.is_allowed(problem):
+            return pruned
+        exceeded = np.append(pruned.exceeded(problem), False)
+        more = np.any(signed, axis=0) & exceeded[schedule.year] & ~stays
+        if not more.any():
+            return schedule
+        stays |= more
+
+
+def without_losses(problem: BlockProblem, schedule: BlockSchedule, stays: NDArray[np.bool_]) -> BlockSchedule:
+    """The best of the parts of a schedule that hold with each block all that it needs, and the blocks that stay."""
+    is_dug = schedule.year < problem.years
+    fixed = np.where(stays, pitshell.FORCED, np.where(is_dug, pitshell.FREE, pitshell.BARRED)).astype(np.uint8)
+    whole = upward(schedule.worths(problem)).amounts
+    kept = pitshell.solve(whole, (problem.needs.starts, problem.needs.needed), fixed, millionths=True).in_pit
+    return BlockSchedule(np.where(kept, schedule.year, problem.years), np.where(kept[:, None], schedule.share, 0.0))
+
+
+def preferences(problem: BlockProblem, prices: NDArray[np.float64]) -> NDArray[np.int64]:
+    """By block and year its destinations, first those that earn most less the prices of what they take.
+
+    prices  of a unit of each limit in each year: shape (limits, years)
+    """
+    worth = problem.values.copy()
+    for limit, by_year in zip(problem.limits, prices):
+        worth -= limit.amounts[:, :, None] * by_year
+    return np.argsort(-worth, axis=1, kind="stable").transpose(0, 2, 1)
+
+
+# By these shares of a block the year in which it is dug is told, besides the expected year.
+PARTS = (0.1, 0.5, 0.9)
+# Years before that in which the relaxation begins a block from which on it may be dug; None: any.
+EARLIER = (0, 1, None)
+# A share that may be the solver's tolerance alone, and one below which the relaxation leaves a block.
+RANK_NOISE, LEFT = 1e-6, 0.5
+# A schedule mines a block if the relaxation mines at least one of these shares of it.
+LEAST, ALL = (LEFT, RANK_NOISE), 0.0
+
+
+@dataclass(frozen=True)
+class Sequence:
+    """How years are filled.
+
+    order     the blocks that are dug, each behind all that it needs
+    earliest  of each block of the problem the first year in which it may be dug, from 0: shape (blocks,)
+    """
+
+    order: NDArray[np.int64]
+    earliest: NDArray[np.int64]
+
+
+def sequences(
+    problem: BlockProblem, ranks: Ranks, cumulative: NDArray[np.float64], shares: tuple[float, ...] = LEAST
+) -> Iterator[Sequence]:
+    """Orders by the expected year, and by that in which a part of a block is dug, with years from which on blocks may be dug.
+
+    cumulative  the share of each block that the relaxation has dug by the end of each year: shape (blocks, years)
+    shares      the least share that the relaxation digs of the blocks of an order
+    """
+    years = problem.years
+    begun = np.where(cumulative[:, -1] > RANK_NOISE, (cumulative > RANK_NOISE).argmax(axis=1), years)
+    expected = years - cumulative.sum(axis=1)
+    keys = (expected, *((cumulative < part - RANK_NOISE).sum(axis=1) for part in PARTS))
+    orders = [in_order(problem, ranks, key, expected) for key in keys]
+    for order, least, earlier in product(orders, shares, EARLIER):
+        earliest = np.zeros_like(begun) if earlier is None else np.maximum(begun - earlier, 0)
+        yield Sequence(order[cumulative[order, -1] >= least], earliest)
+
+
+def in_order(problem: BlockProblem, ranks: Ranks, key: NDArray, second: NDArray) -> NDArray[np.int64]:
+    """The blocks by rising keys, each behind those that it needs, whose keys may be greater by what the solver leaves open."""
+    rank = np.empty(problem.blocks, dtype=np.int64)
+    rank[ranks.order] = np.repeat(np.arange(len(ranks.bounds) - 1), np.diff(ranks.bounds))
+    first, then = (greatest_needed(problem.needs, ranks, np.round(keys.astype(float), 9)) for keys in (key, second))
+    return np.lexsort((rank, then, first))
+
+
+# The number of passes over all blocks, at most.
+MOST_PASSES = 6
+
+
+@dataclass
+class Moving:
+    """A schedule while its blocks are moved; each goes to one destination whole."""
+
+    filling: Filling
+    year: list[int]
+    destination: list[int]
+    room: Room
+    users: list[list[int]]
+    last: int
+    worth: list[list[list[float]]] = field(repr=False)
+
+    @staticmethod
+    def of(filling: Filling, schedule: BlockSchedule) -> Moving:
+        problem = filling.problem
+        users: list[list[int]] = [[] for _ in range(problem.blocks)]
+        destination = schedule.share.argmax(axis=1).tolist()
+        # A later year than the last would cost as such.
+        last = (problem.years if problem.costs is None else schedule.life(problem)) - 1
+        values = problem.values.tolist()
+        moving = Moving(filling, schedule.year.tolist(), destination, Room(problem), users, last, values)
+        for block in np.flatnonzero(schedule.year < problem.years).tolist():
+            moving.room.take(block, moving.destination[block], moving.year[block])
+            for needed in filling.needed[block]:
+                users[needed].append(block)
+        return moving
+
+    def move(self, block: int) -> bool:
+        """Moves a block to the year and destination where it earns most, of those that have room; gives whether it has moved."""
+        now = self.year[block], self.destination[block]
+        first = max((self.year[other] for other in self.filling.needed[block]), default=0)
+        last = min((self.year[other] for other in self.users[block]), default=self.last)
+        worth = self.worth[block]
+        self.room.take(block, now[1], now[0], -1)
+        best = now
+        for year, destination in product(range(first, last + 1), range(len(worth))):
+            if worth[destination][year] > worth[best[1]][best[0]] and self.room.fits(block, destination, year):
+                if self.room.may_leave(block, now, (year, destination)):
+                    best = year, destination
+        self.room.take(block, best[1], best[0])
+        self.year[block], self.destination[block] = best
+        return best != now
+
+
+def moved(filling: Filling, ranks: Ranks, schedule: BlockSchedule) -> BlockSchedule:
+    """The schedule, whose blocks go to one destination each, with blocks moved as long as that earns more: by turns from those that nothing
+    needs on, for what costs to be dug later, and from those on that need nothing, for what earns to be dug sooner."""
+    moving = Moving.of(filling, schedule)
+    dug = [block for block in ranks.order.tolist() if moving.year[block] < filling.problem.years]
+    for order in (dug[::-1], dug) * (MOST_PASSES // 2):
+        if not sum(moving.move(block) for block in order):
+            break
+    return schedule_of(filling.problem, np.array(moving.year), np.array(moving.destination))
+
+
+def with_best_shares(problem: BlockProblem, schedule: BlockSchedule) -> BlockSchedule:
+    """The schedule that digs the same blocks in the same years and earns most by where they go; the same schedule if none is found that is
+    better, or keeps signed limits that it misses."""
+    share = schedule.share.copy()
+    for year in range(problem.years if problem.destinations > 1 else 0):
+        blocks = np.flatnonzero(schedule.year == year)
+        if len(blocks):
+            share[blocks] = best_shares(problem, blocks, year, share[blocks])
+    best = BlockSchedule(schedule.year, share)
+    if not best.is_allowed(problem):
+        return schedule
+    return best if best.is_better(schedule, problem) or not schedule.is_allowed(problem) else schedule
+
+
+def best_shares(
+    problem: BlockProblem, blocks: NDArray[np.int64], year: int, share: NDArray[np.float64]
+) -> NDArray[np.float64]:
+    """The shares of the blocks of a year; where HiGHS finds none the given ones, which keep the limits."""
+    limits = [(limit.amounts[blocks], limit.most[year], 1) for limit in problem.limits if np.isfinite(limit.most[year])]
+    # No less of what must be held at least than now.
+    owed = [(limit.amounts[blocks], limit.floor[year]) for limit in problem.limits if limit.floor[year] > 0]
+    owed += [(due.amounts[blocks], np.inf) for due in problem.dues]
+    limits += [(amounts, min(least, float((amounts * share).sum())), -1) for amounts, least in owed]
+    scale = np.array([amount or float(np.abs(amounts).max()) or 1.0 for amounts, amount, _ in limits])
+    rows = (
+        np.array([sign * amounts.ravel() for amounts, _, sign in limits]).reshape(len(limits), share.size)
+        / scale[:, None]
+    )
+    gain = problem.values[blocks, :, year].ravel()
+    unit = float(np.abs(gain).max()) or 1.0
+    found = linprog(
+        -gain / unit,
+        A_ub=csr_matrix(rows) if limits else None,
+        b_ub=np.array([sign * amount for _, amount, sign in limits]) / scale if limits else None,
+        A_eq=kron(eye(len(blocks)), np.ones((1, problem.destinations)), format="csr"),
+        b_eq=np.ones(len(blocks)),
+        bounds=(0, 1),
+        method="highs-ds",
+    )
+    if found.status != 0:
+        return share
+    shares = np.clip(found.x.reshape(share.shape), 0.0, 1.0)
+    return shares / shares.sum(axis=1, keepdims=True)
+
+
+# The linear programmes are solved for this number of the filled schedules: those worth most at the dual prices.
+MOST_BLENDED = 6
+
+
+def blended(
+    problem: BlockProblem, ranks: Ranks, sequences: Iterable[Sequence], prices: NDArray[np.float64]
+) -> Iterator[BlockSchedule]:
+    """Yields schedules that keep all limits.
+
+    sequences  the orders in which years are filled; a block waits for a year in which its best destination has room
+    prices     of a unit of each limit in each year: shape (limits, years)
+    """
+    free = at_prices(problem, prices)
+    filling = Filling(free, preferences(problem, prices), waits=problem.destinations > 1)
+    filled = [filling.without_loss(sequence) for sequence in sequences]
+    for schedule in sorted(filled, key=lambda it: -it.value(free))[:MOST_BLENDED]:
+        found = with_best_shares(problem, moved(filling, ranks, schedule))
+        if found.is_allowed(problem):
+            yield paying(problem, found)
+
+
+def at_prices(problem: BlockProblem, prices: NDArray[np.float64]) -> BlockProblem:
+    """Returns the problem whose blocks pay the prices of signed limits in place of keeping them."""
+    values = problem.values.copy()
+    for limit, by_year in zip(problem.limits, prices):
+        if limit.signed:
+            values -= limit.amounts[:, :, None] * by_year
+    return replace(problem, values=values, limits=tuple(limit for limit in problem.limits if not limit.signed))
+
+
+@dataclass(frozen=True)
+class Divided:
+    """A problem in which parts of blocks may go to destinations.
+
+    problem  with the destinations of parts after its own
+    shares   of each block that a destination of `problem` sends to each of the given ones, shape (blocks, more destinations, destinations); None if
+             all blocks fit whole
+    """
+
+    problem: BlockProblem
+    shares: Optional[NDArray[np.float64]] = None
+
+    @property
+    def unfit(self) -> NDArray[np.bool_]:
+        """Whether each destination of `problem` takes more of a block than any year allows, shape (blocks, destinations of `problem`)."""
+        found = np.zeros(self.problem.values.shape[:2], dtype=bool)
+        for limit in (it for it in self.problem.limits if not it.signed):
+            found |= limit.amounts > limit.most.max() * (1 + HAIR)
+        return found
+
+    def preferences(self, prices: NDArray[np.float64]) -> NDArray[np.int64]:
+        """Returns the destinations of each block in each year by what they earn less prices, as `greedy.preferences` does, those that never fit last."""
+        found = preferences(self.problem, prices)
+        if self.shares is None:
+            return found
+        unfit = np.take_along_axis(self.unfit[:, None, :], found, axis=2)
+        return np.take_along_axis(found, np.argsort(unfit, axis=2, kind="stable"), axis=2)
+
+    def merged(self, schedule: BlockSchedule) -> BlockSchedule:
+        """Returns a schedule of `problem` by the given destinations."""
+        if self.shares is None:
+            return schedule
+        return BlockSchedule(schedule.year, np.einsum("bk,bkd->bd", schedule.share, self.shares))
+
+
+def divided(problem: BlockProblem) -> Divided:
+    """Returns the problem with destinations for the parts that fit, of blocks that are larger than a limit of some year."""
+    limits = [it for it in problem.limits if not it.signed and np.isfinite(it.most).any()]
+    whole, rest = np.eye(problem.destinations), least_used(problem, limits)
+    levels = []
+    for destination in range(problem.destinations):
+        fits = np.stack([fitting(limits, destination, rest, year) for year in range(problem.years)], axis=1)
+        for part in np.unique(fits[:, (fits < 1).any(axis=0)], axis=1).T:
+            levels.append(part[:, None] * whole[destination] + (1 - part)[:, None] * whole[rest])
+    if not levels:
+        return Divided(problem)
+    own = np.broadcast_to(whole, (problem.blocks, *whole.shape))
+    shares = np.concatenate([own, np.stack(levels, axis=1)], axis=1)
+    of_parts = tuple(replace(it, amounts=mixed(shares, it.amounts)) for it in problem.limits)
+    dues = tuple(replace(it, amounts=mixed(shares, it.amounts)) for it in problem.dues)
+    values = np.einsum("bkd,bdt->bkt", shares, problem.values)
+    return Divided(replace(problem, values=values, limits=of_parts, dues=dues), shares)
+
+
+def mixed(shares: NDArray[np.float64], amounts: NDArray[np.float64]) -> NDArray[np.float64]:
+    """Returns amounts by block and destination of parts."""
+    return np.asarray(np.einsum("bkd,bd->bk", shares, amounts))
+
+
+def least_used(problem: BlockProblem, limits: list[Limit]) -> NDArray[np.int64]:
+    """Returns for each block the destination in which it takes the least part of its most used limit."""
+    used = np.zeros((problem.blocks, problem.destinations))
+    for limit in limits:
+        most = float(limit.most[np.isfinite(limit.most)].max())
+        used = np.maximum(used, limit.amounts / most if most > 0 else 0.0)
+    return np.asarray(used.argmin(axis=1))
+
+
+def fitting(limits: list[Limit], destination: int, rest: NDArray[np.int64], year: int) -> NDArray[np.float64]:
+    """Returns the greatest part of each block that goes to a destination within the limits of a year that are above 0, the rest where it takes
+    least; 1 if the part is nothing."""
+    found = np.ones(len(rest))
+    for limit in limits:
+        most = float(limit.most[year])
+        amount, other = limit.amounts[:, destination], limit.amounts[np.arange(len(rest)), rest]
+        some = (amount > most * (1 + HAIR)) & (other < amount) & (0 < most)
+        part = np.divide(most - other, amount - other, out=np.ones(len(rest)), where=some)
+        found = np.minimum(found, part)
+    return np.where(found > 0, found, 1.0)
