@@ -61,7 +61,6 @@ if TYPE_CHECKING:
     from pitplan.results.pit_states import Shape
     from pitplan.solver.program import Solution
     from pitplan.studies.dask_pool import Where
-    from pitplan.studies.scenarios.request import Request
     from pitplan.studies.scenarios.result import ScenarioResult
 
     from .api.block_model import BlockModel
@@ -83,6 +82,7 @@ if TYPE_CHECKING:
     from .commands.view import view
     from .commands.writing import Writing
     from .errors import BudgetUsedUp, InputWarning, MissingPackage, PlanError, PlanWarning, ProgramError, ResultWarning
+    from .studies.scenarios.run import Request
 else:
 
     def __getattr__(name: str) -> Any:

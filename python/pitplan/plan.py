@@ -18,8 +18,8 @@ from pitplan.config.periods import PERIOD, YEAR
 from pitplan.config.project import Project
 from pitplan.config.shells import IN_WORDS
 from pitplan.core.keyed_arrays import hash_of_all
+from pitplan.core.libraries import libraries
 from pitplan.core.progress import Progress, silent
-from pitplan.core.release import libraries
 from pitplan.core.revenue_factors import BASE_PRICE, factor_text
 from pitplan.economics.block_values import Values
 from pitplan.economics.cost_lines import multiplied_amounts

@@ -25,7 +25,7 @@ from pitplan import MissingPackage, PlanError, Request, gather, write_scenarios
 from pitplan.cli import main
 from pitplan.figures import scenarios
 from pitplan.studies.scenarios import store, worker
-from pitplan.studies.scenarios.blocks.common_schedule import best_shares
+from pitplan.studies.scenarios.blocks.tables import best_shares
 
 BY_BLOCK = Request(by="block")
 # The same with the process by its name.

@@ -27,8 +27,8 @@ from pitplan.core.atomic_files import hash_of
 from pitplan.precedences import Rows
 from pitplan.solver import choice, library, mine_files, program
 from pitplan.solver.problem import counted_rows
+from pitplan.studies import sensitivity
 from pitplan.studies.scenarios import prepare, store, worker
-from pitplan.studies.sensitivity import cases
 
 pitshell = pytest.importorskip("pitshell", reason="make library builds it")
 
@@ -452,11 +452,11 @@ def test_a_worker_with_another_library_solves_nothing(plan_folder, monkeypatch):
 
 def test_cases_of_a_sensitivity_are_not_begun_with_another_library(plan_folder, monkeypatch):
     project = load(plan_folder(rows(3, 1, 2, cu=lambda i, j, k: 3), PROJECT))
-    asked = cases.Asked(project, reader.read(project).frame, choice.chosen("library"))
-    assert cases.find(cases.Case(), asked).row["blocks"] == 6
+    asked = sensitivity.Asked(project, reader.read(project).frame, choice.chosen("library"))
+    assert sensitivity.find(sensitivity.Case(), asked).row["blocks"] == 6
     other_library(monkeypatch)
     with pytest.raises(ProgramError, match="the library here .* differs from the one that began this"):
-        cases.find(cases.Case(), asked)
+        sensitivity.find(sensitivity.Case(), asked)
 
 
 @pytest.mark.parametrize("kind", ["slurm", "parallel"])

@@ -16,8 +16,7 @@ from pitplan.cli import main
 from pitplan.commands import shells
 from pitplan.core.atomic_files import hash_of
 from pitplan.figures import comparison as figures
-from pitplan.studies.comparison.inputs import Change, changes
-from pitplan.studies.comparison.runs import names_of
+from pitplan.studies.comparison import Change, changes, names_of
 
 PLAIN = pitplan.Writing(verifies=False, figures=False)
 CHEAP = ("mining_cost = 2\n", "mining_cost = 1\n")

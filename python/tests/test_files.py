@@ -22,7 +22,7 @@ from pitplan.cli import main
 from pitplan.commands import drawing
 from pitplan.commands.prepare import write_plan
 from pitplan.commands.writing import CURVE_PICTURES, GEOLOGY_PICTURES, PICTURES
-from pitplan.core import cell_outlines, optional_packages
+from pitplan.core import cell_outlines, libraries
 from pitplan.core.atomic_files import hash_of, write_json
 from pitplan.core.progress import Progress, silent
 from pitplan.core.revenue_factors import factor_text
@@ -379,9 +379,9 @@ def test_missing_libraries_are_named_with_their_packages(monkeypatch, tmp_path):
     for module, package in (("vtk", "python3-vtk9"), ("ezdxf", "python3-ezdxf")):
         monkeypatch.setitem(sys.modules, module, None)
         with pytest.raises(PlanError, match=f"export needs the Debian package {package}: apt-get install {package}"):
-            optional_packages.load(module, package, "export")
+            libraries.load(module, package, "export")
     with pytest.raises(PlanError, match="the 3D page needs the Debian package libjs-three"):
-        optional_packages.three_scripts(tmp_path)
+        libraries.three_scripts(tmp_path)
 
 
 def test_a_missing_program_is_named(monkeypatch):

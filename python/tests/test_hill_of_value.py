@@ -12,9 +12,9 @@ from matplotlib.figure import Figure
 
 import pitplan
 from pitplan import PlanError, load
-from pitplan.figures import sensitivity
+from pitplan.figures import sensitivity as charts
 from pitplan.report import statements
-from pitplan.studies.sensitivity import perturb
+from pitplan.studies import sensitivity
 
 # Four rich and four poor blocks side by side, without waste. A rich block earns 4,000 less 1,000 for the mill and 200 for mining, a poor one 1,600
 # less these. A larger mill takes more blocks a year, and costs more a year. With a cut-off of 0.2 % both kinds are milled, with 0.5 % the rich only,
@@ -151,7 +151,7 @@ def test_a_changed_number_is_found(written, tmp_path, name, by):
 
 
 def test_a_key_that_is_set_otherwise_is_found(plan_folder, monkeypatch):
-    monkeypatch.setattr(perturb, "assigned", lambda data, path, value, where: data)
+    monkeypatch.setattr(sensitivity, "assigned", lambda data, path, value, where: data)
     with pytest.raises(PlanError, match="verification failed"):
         pitplan.write_sensitivity(plan_folder(table(), TEXT + HILL))
 
@@ -191,14 +191,14 @@ def test_the_report_shows_the_npvs_as_a_grid_of_cells(written):
 
 
 def test_the_contours_have_a_star_at_the_top(written, tmp_path):
-    ax = sensitivity.plot(hill_of(written), "USD", Figure().subplots())
+    ax = charts.plot(hill_of(written), "USD", Figure().subplots())
     (star,) = [line for line in ax.lines if line.get_marker() == "*"]
     assert (star.get_xdata(), star.get_ydata()) == (400, 0.5)
     assert (
         star.get_label() == "highest NPV: 8,636.36 USD at capacity of mill 400 t a year, least cu that mill accepts 0.5"
     )
     assert (ax.get_xlabel(), ax.get_ylabel()) == ("capacity of mill, t a year", "least cu that mill accepts")
-    sensitivity.write(hill_of(written).assign(npv=0.0), "USD", tmp_path / "flat.png")
+    charts.write(hill_of(written).assign(npv=0.0), "USD", tmp_path / "flat.png")
     assert (tmp_path / "flat.png").stat().st_size > 5_000
 
 

@@ -9,7 +9,7 @@ from types import SimpleNamespace
 import pytest
 
 from pitplan import PlanError
-from pitplan.studies.scenarios import batch_scripts
+from pitplan.studies.scenarios import run as scenario_run
 
 # A name that a shell, GNU parallel or Slurm could take apart; those with touch show it by a file.
 NAMES = [
@@ -45,14 +45,14 @@ def written(tmp_path, monkeypatch):
     python = tmp_path / "python"
     python.write_text('#!/bin/sh\nprintf "%s\\n" "$@" "" >> "$NOTED"\n')
     python.chmod(0o755)
-    monkeypatch.setattr(batch_scripts.sys, "executable", str(python))
-    monkeypatch.setattr(batch_scripts.choice, "place_of", lambda solver: ("PITSHELL", Path("/bin/true")))
+    monkeypatch.setattr(scenario_run.sys, "executable", str(python))
+    monkeypatch.setattr(scenario_run.choice, "place_of", lambda solver: ("PITSHELL", Path("/bin/true")))
     (tmp_path / "here").mkdir()
 
     def write(kind, name):
         folder = tmp_path / name
         folder.mkdir(parents=True, exist_ok=True)
-        return batch_scripts.write(kind, folder, SCENARIOS, None)
+        return scenario_run.write(kind, folder, SCENARIOS, None)
 
     return write
 
@@ -152,8 +152,8 @@ def test_names_that_no_script_can_hold_are_refused(written):
 
 
 def test_a_module_where_a_script_is_started_is_not_run(tmp_path, monkeypatch):
-    monkeypatch.setattr(batch_scripts.choice, "place_of", lambda solver: ("PITSHELL", Path("/bin/true")))
-    batch_scripts.write("parallel", tmp_path, SCENARIOS, None)
+    monkeypatch.setattr(scenario_run.choice, "place_of", lambda solver: ("PITSHELL", Path("/bin/true")))
+    scenario_run.write("parallel", tmp_path, SCENARIOS, None)
     for name in ("pandas.py", "pitplan/__init__.py", "encodings/__init__.py"):
         (tmp_path / name).parent.mkdir(exist_ok=True)
         (tmp_path / name).write_text("import sys\nsys.exit('the module of the folder was run')\n")

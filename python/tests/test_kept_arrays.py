@@ -10,8 +10,8 @@ from helpers.scenarios import COLUMNS, UPRIGHT, pillar, prepared, solved_in_turn
 
 from pitplan import PlanError, load
 from pitplan.core import keyed_arrays
+from pitplan.studies import sensitivity
 from pitplan.studies.scenarios import pit_probability, worker
-from pitplan.studies.sensitivity import cases
 
 
 def test_arrays_that_are_kept_are_read_whole_or_refused(tmp_path):
@@ -90,11 +90,11 @@ def test_a_case_of_another_change_is_refused(plan_folder):
     text = PROJECT + '[sensitivity]\nparameters = ["price"]\nchanges = [0.1]\n'
     table = pillar().drop(columns=["sim_1", "sim_2", "sim_3"]).assign(cu=[1.5, 0, 0])
     path = plan_folder(table, text, UPRIGHT)
-    cases.solve(load(path), path.parent, None)
+    sensitivity.solve(load(path), path.parent, None)
     one, other = (path.parent / "cases").iterdir()
     os.replace(one, other)
     with pytest.raises(
         PlanError,
         match="npz: is not a result of this case: it is the result of another input: .*: remove it, and run pitplan sens",
     ):
-        cases.solve(load(path), path.parent, None)
+        sensitivity.solve(load(path), path.parent, None)

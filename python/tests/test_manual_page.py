@@ -9,7 +9,7 @@ import sys
 import pytest
 from conftest import ROOT
 
-from pitplan.cli import parser as arguments, shared_options
+from pitplan.cli import parser as arguments
 from pitplan.core.revenue_factors import BASE_PRICE
 from pitplan.export import registry
 from pitplan.results import pit_states
@@ -93,7 +93,7 @@ def test_help_lists_each_subcommand_once():
 def test_the_words_of_options_are_those_of_the_modules():
     assert arguments.FORMATS == tuple(registry.WRITERS)
     assert (arguments.STAGES, arguments.SURFACES) == (pit_states.KINDS, (pit_states.PIT, pit_states.GROUND))
-    assert (shared_options.SOLVERS, shared_options.BASE_PRICE) == (choice.BY, BASE_PRICE)
+    assert (arguments.SOLVERS, arguments.BASE_PRICE) == (choice.BY, BASE_PRICE)
 
 
 def test_help_says_what_each_option_is_for_and_which_folder_is_taken(tmp_path):

@@ -7,7 +7,7 @@ import pytest
 
 import pitplan.scheduling.blocks
 from pitplan import MissingPackage
-from pitplan.core import optional_packages
+from pitplan.core import libraries
 from pitplan.solver import library
 
 
@@ -23,20 +23,20 @@ def test_a_missing_package_is_named_by_its_debian_name():
     with pytest.raises(
         MissingPackage, match="^a map needs the Debian package python3-lent: apt-get install python3-lent$"
     ):
-        optional_packages.load("lent_nowhere.maps", "python3-lent", "a map")
+        libraries.load("lent_nowhere.maps", "python3-lent", "a map")
 
 
 def test_a_package_that_lacks_another_is_not_called_missing(tmp_path, monkeypatch):
     module_of(tmp_path, monkeypatch, "import nowhere_at_all\n")
     said = "a map needs the Debian package python3-lent, which is there and cannot be imported: No module named 'nowhere_at_all'"
     with pytest.raises(MissingPackage, match=said):
-        optional_packages.load("lent", "python3-lent", "a map")
+        libraries.load("lent", "python3-lent", "a map")
 
 
 def test_a_missing_library_of_pits_is_named(monkeypatch):
     monkeypatch.setitem(sys.modules, "pitshell", None)
     with pytest.raises(MissingPackage, match="^a schedule by block needs the library of pits: .*pitshell"):
-        optional_packages.load_library("a schedule by block")
+        libraries.load_library("a schedule by block")
 
 
 def test_only_the_missing_library_of_pits_is_called_missing(monkeypatch):
@@ -63,7 +63,7 @@ def test_the_program_stands_in_for_a_missing_library_alone(tmp_path, monkeypatch
 
 
 def test_a_library_that_is_not_built_is_named(monkeypatch, tmp_path):
-    path = optional_packages.__file__.rpartition("/pitplan/")[0]
+    path = libraries.__file__.rpartition("/pitplan/")[0]
     source = "try:\n    import pitshell\nexcept ImportError as error:\n    print(error.name, error)\n"
     environment = {"PYTHONPATH": path, "PITSHELL_LIBRARY": str(tmp_path / "none.so")}
     ran = subprocess.run([sys.executable, "-c", source], capture_output=True, text=True, check=True, env=environment)

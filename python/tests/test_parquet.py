@@ -10,7 +10,7 @@ from conftest import PROJECT, rows
 import pitplan
 from pitplan import MissingPackage, PlanError
 from pitplan.blockmodel import wizard
-from pitplan.core import parquet
+from pitplan.core import text_tables
 
 HAS_PYARROW = importlib.util.find_spec("pyarrow") is not None
 IN_PARQUET = ('file = "blocks.csv"', 'file = "blocks.parquet"')
@@ -58,7 +58,7 @@ def test_what_is_made_of_columns():
     cu = np.array([0.3, 1.07, np.nan], dtype=np.float32)
     frame = pd.DataFrame({"cu": cu, "rock": ["A", None, "B"], "id": [1, 2, 3], "z": [5.5, 15.5, 25.5]})
     frame["rock"] = frame["rock"].astype("category")
-    found = parquet.plain(frame, ["rock", "id"])
+    found = text_tables.plain(frame, ["rock", "id"])
     assert (
         found["cu"].tolist()[:2] == [0.3, 1.07]
         and np.isnan(found["cu"][2])

@@ -18,7 +18,7 @@ import pitplan
 from pitplan import PlanError
 from pitplan.config.periods import Calendar, Period
 from pitplan.scheduling.bench_sequencing import Limits
-from pitplan.studies.sensitivity.perturb import varied
+from pitplan.studies.sensitivity import varied
 
 
 def test_capacities_of_years_by_hand(plan_folder):

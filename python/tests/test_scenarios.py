@@ -25,7 +25,7 @@ from pitplan.commands import scenario_files
 from pitplan.core.progress import Progress
 from pitplan.figures import scenarios
 from pitplan.studies import dask_pool
-from pitplan.studies.scenarios import batch_scripts, pit_probability, store, worker
+from pitplan.studies.scenarios import pit_probability, run, store, worker
 
 
 def test_probabilities_by_hand(plan_folder):
@@ -365,10 +365,10 @@ def test_lists_of_jobs_are_shell_and_name_what_is_missing(plan_folder, kind):
 
 
 def test_a_task_of_slurm_solves_its_lines(plan_folder, monkeypatch):
-    monkeypatch.setattr(batch_scripts, "MOST_TASKS", 2)
+    monkeypatch.setattr(run, "MOST_TASKS", 2)
     folder = prepared(plan_folder(pillar(), COLUMNS)).folder
     shared = store.read_shared(folder)
-    batch_scripts.write("slurm", folder, shared.scenarios, shared.solver)
+    run.write("slurm", folder, shared.scenarios, shared.solver)
     assert "#SBATCH --array=1-2\n" in (folder / "array.sbatch").read_text()
     script = folder / "array.sbatch"
     subprocess.run(["sh", str(script)], check=True, env={**os.environ, "SLURM_ARRAY_TASK_ID": "2"})
@@ -387,7 +387,7 @@ def test_a_slurm_task_gives_itself_back_only_where_it_was_killed(plan_folder, tm
     path = plan_folder(pillar(), COLUMNS)
     folder = prepared(path).folder
     shared = store.read_shared(folder)
-    batch_scripts.write("slurm", folder, shared.missing(), shared.solver)
+    run.write("slurm", folder, shared.missing(), shared.solver)
     (folder / "scenario.sh").write_text(f"exit {status}\n")
     for name, text in {"scontrol": f'echo "$@" >> {tmp_path}/asked', "sleep": ""}.items():
         (tmp_path / name).write_text(f"#!/bin/sh\n{text}\n")
@@ -552,7 +552,7 @@ def test_a_broken_folder_of_scenarios_is_named(plan_folder, tmp_path):
 def test_a_folder_of_jobs_whose_name_no_script_can_hold_is_refused(plan_folder, tmp_path):
     shared = prepared(plan_folder(pillar(), COLUMNS))
     with pytest.raises(PlanError, match="may not have a line's end, a % or a backslash in its name"):
-        batch_scripts.write("slurm", tmp_path / "50 %", shared.scenarios, shared.solver)
+        run.write("slurm", tmp_path / "50 %", shared.scenarios, shared.solver)
 
 
 def test_workers_that_cannot_import_pitplan_end_it_all(plan_folder):

@@ -14,9 +14,9 @@ import pitplan
 from pitplan import PlanError, Where, load, verify as verify_folder
 from pitplan.cli import main
 from pitplan.commands.writing import Writing
-from pitplan.figures import sensitivity
+from pitplan.figures import sensitivity as charts
 from pitplan.pits import skin
-from pitplan.studies.sensitivity import cases, perturb
+from pitplan.studies import sensitivity
 
 # Two blocks of ore at the surface, each with 1,000 for processing and 200 for mining: one of 24,000, and one of 1,200, which just does not pay.
 ORE = {"cu": lambda i, j, k: {(1, 1): 6, (3, 1): 0.3}.get((i, j), 0)}
@@ -105,7 +105,7 @@ def test_pairs_by_hand(small):
     assert worth[("price", 0.1, "mining_cost", 0.1)] == pytest.approx(26_400 - 1000 - 220 + 1320 - 1220)
     assert worth[("price", -0.1, "mining_cost", 0.1)] == pytest.approx(21_600 - 1000 - 220)
     assert worth[("mining_cost", 0.1, "", 0.0)] == pytest.approx(22_780)
-    grid = sensitivity.grid_of(table.reset_index(), "price", "mining_cost")
+    grid = charts.grid_of(table.reset_index(), "price", "mining_cost")
     assert grid.index.tolist() == grid.columns.tolist() == [-0.1, 0.0, 0.1]
     npv = table["npv"].to_dict()
     assert grid.loc[0.1, -0.1] == npv[("price", 0.1, "mining_cost", -0.1)]
@@ -348,8 +348,8 @@ def test_a_lower_price_of_all_is_a_lesser_factor(plan_folder):
 
 def test_what_has_an_answer_is_not_solved_again(small, monkeypatch):
     path, solved = small("changes = [0.1]"), []
-    find = cases.find
-    monkeypatch.setattr(cases, "find", lambda *words: solved.append(words) or find(*words))
+    find = sensitivity.find
+    monkeypatch.setattr(sensitivity, "find", lambda *words: solved.append(words) or find(*words))
     first = pitplan.write_sensitivity(path)
     assert len(solved) == 6
     monkeypatch.chdir(path.parent)
@@ -501,7 +501,7 @@ def wrong(folder):
 def test_what_is_right_passes(whole, copied):
     assert wrong(whole / "plan" / "sensitivity") == {} == wrong(copied)
     parameters = pd.read_csv(whole / "plan" / "sensitivity" / "tables/sensitivity.csv")["parameter"]
-    assert {*perturb.VARIED} - {"haulage"} <= {str(name).split()[0] for name in parameters}
+    assert {*sensitivity.VARIED} - {"haulage"} <= {str(name).split()[0] for name in parameters}
 
 
 def test_grades_ratios_and_years_have_six_decimals_and_amounts_three(copied):
@@ -613,8 +613,8 @@ def test_a_block_that_is_left_standing_is_found(copied):
 
 def test_walls_of_patterns_that_move_not_are_as_given(plan_folder):
     path = plan_folder(rows(5, 3, 1, **ORE), PROJECT + "\n[sensitivity]\nchanges = [0.2]\nparameters = 'slopes'\n")
-    assert cases.rules_of(load(path)).parameters == ("slopes",)
-    assert "slopes" not in perturb.given(load(path)) and "selling_cost" not in perturb.given(load(path))
+    assert sensitivity.rules_of(load(path)).parameters == ("slopes",)
+    assert "slopes" not in sensitivity.given(load(path)) and "selling_cost" not in sensitivity.given(load(path))
 
 
 @pytest.mark.parametrize(
@@ -622,43 +622,43 @@ def test_walls_of_patterns_that_move_not_are_as_given(plan_folder):
     [
         (
             "price",
-            lambda project, by, metal: perturb.with_metals(
-                project, "gold", lambda it: perturb.replace(it, price=it.price * by)
+            lambda project, by, metal: sensitivity.with_metals(
+                project, "gold", lambda it: sensitivity.replace(it, price=it.price * by)
             ),
         ),
         (
             "recovery",
-            lambda project, by, metal: perturb.with_metals(
-                project, metal, lambda it: perturb.replace(it, recovery=perturb.times(it.recovery, by))
+            lambda project, by, metal: sensitivity.with_metals(
+                project, metal, lambda it: sensitivity.replace(it, recovery=sensitivity.times(it.recovery, by))
             ),
         ),
         (
             "mining_cost",
-            lambda project, by, metal: perturb.replace(
+            lambda project, by, metal: sensitivity.replace(
                 project,
-                economics=perturb.replace(
-                    project.economics, mining_cost=perturb.times(project.economics.mining_cost, by)
+                economics=sensitivity.replace(
+                    project.economics, mining_cost=sensitivity.times(project.economics.mining_cost, by)
                 ),
             ),
         ),
         ("slopes", lambda project, by, metal: project),
         (
             "capacity",
-            lambda project, by, metal: perturb.replace(
+            lambda project, by, metal: sensitivity.replace(
                 project,
-                shells=perturb.replace(
+                shells=sensitivity.replace(
                     project.shells, processing_capacity=project.shells.processing_capacity * float(by)
                 ),
             ),
         ),
         ("selling_cost", lambda project, by, metal: project),
-        ("processing_cost", lambda project, by, metal: perturb.mining_cost(project, by, metal)),
+        ("processing_cost", lambda project, by, metal: sensitivity.mining_cost(project, by, metal)),
     ],
 )
 def test_a_number_that_is_varied_otherwise_is_found(tmp_path, monkeypatch, number, careless):
     """Of the metals one alone; a recovery above 1; without what depth adds; walls as they are; the mill alone; none; another cost."""
     path = write_rich(tmp_path, f'\n[sensitivity]\nchanges = [-0.2, 0.2]\nparameters = ["{number}"]\n')
-    monkeypatch.setitem(perturb.VARIED, number, careless)
+    monkeypatch.setitem(sensitivity.VARIED, number, careless)
     with pytest.raises(PlanError, match="verification failed"):
         pitplan.write_sensitivity(path)
     assert not (tmp_path / "plan" / "sensitivity" / "tables/sensitivity.csv").exists()
@@ -693,7 +693,7 @@ def table():
 
 
 def test_a_tornado_has_the_outermost_shares_and_the_greatest_on_top(table):
-    axes = sensitivity.plot_tornado(table, "USD", Figure().subplots())
+    axes = charts.plot_tornado(table, "USD", Figure().subplots())
     bars = sorted((bar.get_y() + bar.get_height() / 2, bar.get_x(), bar.get_width()) for bar in axes.patches)
     assert np.allclose(bars, [(0, 100, -1), (0, 100, 4), (1, 100, -20), (1, 100, 30)])
     assert [label.get_text() for label in axes.get_yticklabels()] == ["mining cost", "price"]
@@ -701,13 +701,13 @@ def test_a_tornado_has_the_outermost_shares_and_the_greatest_on_top(table):
 
 
 def test_a_spider_has_a_curve_a_number_through_the_project_as_given(table):
-    axes = sensitivity.plot_spider(table, "USD", Figure().subplots())
+    axes = charts.plot_spider(table, "USD", Figure().subplots())
     curves = {line.get_label(): line.get_xydata().tolist() for line in axes.lines[:2]}
     assert curves == {"price": [[-0.1, 80], [0, 100], [0.2, 130]], "mining cost": [[-0.1, 104], [0, 100], [0.2, 99]]}
 
 
 def test_a_grid_has_an_amount_a_pair_of_shares(table):
-    axes = sensitivity.plot_grid(table, ("price", "mining_cost"), "USD", Figure().subplots())
+    axes = charts.plot_grid(table, ("price", "mining_cost"), "USD", Figure().subplots())
     assert [text.get_text() for text in axes.texts] == [
         "70.0",
         "80.0",

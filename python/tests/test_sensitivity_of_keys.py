@@ -11,7 +11,7 @@ from helpers.verified import UNVERIFIED
 import pitplan
 from pitplan import PlanError
 from pitplan.config.overrides import scaled
-from pitplan.studies.sensitivity import perturb
+from pitplan.studies import sensitivity
 
 ASKED = '[sensitivity]\nchanges = [-0.2, 0.1]\nparameters = ["metals.copper.price", "price copper", "processes.leach.cost", "slopes.domains.1.angle"]\n'
 ASKED += 'pairs = [["metals.copper.price", "economics.mining_cost"]]\nlargest_increment = 1\n'
@@ -55,7 +55,7 @@ def test_what_slopes_change_has_no_kept_amounts(path):
 
 
 def test_a_key_that_is_changed_otherwise_is_found(path, monkeypatch):
-    monkeypatch.setattr(perturb, "with_key", lambda project, by, key: project)
+    monkeypatch.setattr(sensitivity, "with_key", lambda project, by, key: project)
     with pytest.raises(PlanError, match="verification failed"):
         pitplan.write_sensitivity(path)
 

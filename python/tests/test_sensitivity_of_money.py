@@ -11,7 +11,7 @@ from helpers.processes import WITH
 import pitplan
 from pitplan import PlanError, load
 from pitplan.config.economics import Curve
-from pitplan.studies.sensitivity import perturb
+from pitplan.studies import sensitivity
 
 BY = "processing_capacity = 100", "processing_capacity = 100\nselected = 1.0"
 RULES = "\n[sensitivity]\nchanges = [-0.1, 0.2]\n"
@@ -57,13 +57,13 @@ def test_recoveries_by_grade_and_prices_of_years(plan_folder):
 
 def test_prices_of_years_go_with_the_price(plan_folder):
     project = load(plan_folder(two_blocks(), PROJECT, ("price = 8000", "price = 8000\nprices = [8000, 9000]")))
-    (metal,) = perturb.price(project, Decimal("1.5"), "").metals
+    (metal,) = sensitivity.price(project, Decimal("1.5"), "").metals
     assert metal.price == 12_000 and metal.prices == (12_000, 13_500)
 
 
 def test_recoveries_by_grade_end_at_all():
     curve = Curve(((Decimal(1), Decimal("0.5")), (Decimal(2), Decimal("0.9"))))
-    assert perturb.recovered({"R": curve}, Decimal("1.2")) == {
+    assert sensitivity.recovered({"R": curve}, Decimal("1.2")) == {
         "R": Curve(((Decimal(1), Decimal("0.60")), (Decimal(2), Decimal(1))))
     }
 

@@ -6,7 +6,7 @@ import pytest
 from hypothesis import given, strategies as st
 
 from pitplan.core.expressions import ExpressionError, parsed
-from pitplan.core.table_layout import layout_of
+from pitplan.core.text_tables import layout_of
 from planaudit.errors import AuditError
 from planaudit.inputs import text_layout
 from planaudit.inputs.formulas import value_of

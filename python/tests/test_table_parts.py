@@ -10,9 +10,8 @@ from helpers.random_tests import examples
 from hypothesis import given, strategies as st
 
 from pitplan import PlanError
-from pitplan.core import table_parts, text_tables
-from pitplan.core.text_format import USUAL, TableFormat
-from pitplan.core.text_tables import Fields
+from pitplan.core import text_tables
+from pitplan.core.text_tables import USUAL, Fields, TableFormat
 
 WHOLE = st.integers(-(10**6), 10**6).map(str)
 DECIMAL = st.decimals(allow_nan=False, allow_infinity=False, places=4, min_value=-(10**9), max_value=10**9).map(str)
@@ -37,9 +36,9 @@ def in_parts(monkeypatch):
 
 
 def set_parts(monkeypatch):
-    monkeypatch.setattr(table_parts, "LEAST", 1)
-    monkeypatch.setattr(table_parts, "PART", 64)
-    monkeypatch.setattr(table_parts, "cores", lambda: 2)
+    monkeypatch.setattr(text_tables, "LEAST", 1)
+    monkeypatch.setattr(text_tables, "PART", 64)
+    monkeypatch.setattr(text_tables, "cores", lambda: 2)
 
 
 def text_of(rows, end="\n", names=NAMES):
@@ -53,7 +52,7 @@ def written(path, text):
 
 def parts(path, fields=FIELDS, **how):
     found = form(**how)
-    return table_parts.read(path, found, text_tables.options_of(found, fields))
+    return text_tables.read_parts(path, found, text_tables.options_of(found, fields))
 
 
 @examples(60)
@@ -109,7 +108,7 @@ def test_one_thread_reads_what_is_not_plain(in_parts, tmp_path, monkeypatch, fie
     path = written(tmp_path / "t.csv", text_of(rows))
     assert parts(path) is None
     found = text_tables.read_columns(path, form(), FIELDS)
-    monkeypatch.setattr(table_parts, "read", lambda *_: None)
+    monkeypatch.setattr(text_tables, "read", lambda *_: None)
     pd.testing.assert_frame_equal(found, text_tables.read_columns(path, form(), FIELDS), check_categorical=False)
 
 
@@ -141,5 +140,5 @@ def test_a_small_table_or_one_processor_takes_one_thread(in_parts, tmp_path, mon
     path = written(tmp_path / "t.csv", text_of([("1.5", "1", "ox", "B")] * 30))
     assert parts(path) is not None
     for name, value in changed.items():
-        monkeypatch.setattr(table_parts, name, value)
+        monkeypatch.setattr(text_tables, name, value)
     assert parts(path) is None

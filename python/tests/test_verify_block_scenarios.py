@@ -17,7 +17,7 @@ from helpers.verified_scenarios import SETS, answer_of, bend, simulated
 from pitplan import PlanError, gather, verify as verify_folder
 from pitplan.cli import main
 from pitplan.studies.scenarios import worker as work
-from pitplan.studies.scenarios.blocks import common_schedule, problem, worker
+from pitplan.studies.scenarios.blocks import problem, tables, worker
 from planaudit.schedules.best_ore import most_earned
 
 LIMITS = ("processing_capacity = 150\nmining_capacity = 1000", "processing_capacity = 300\nmining_capacity = 9000")
@@ -259,15 +259,15 @@ block_work_mean = worker.mean_of
 
 
 def test_milling_more_than_the_mill_takes_is_found(plan_folder, monkeypatch):
-    monkeypatch.setattr(common_schedule, "best_shares", lambda gain, takes, most: (gain > 0).astype(float))
+    monkeypatch.setattr(tables, "best_shares", lambda gain, takes, most: (gain > 0).astype(float))
     folder = solved(plan_folder, pillars(RICH, POOR))
     with pytest.raises(PlanError, match="one schedule: sim_1|one schedule: scenario 1, sim_1"):
         gather(folder)
 
 
 def test_milling_less_than_the_best_is_found(plan_folder, monkeypatch):
-    best = common_schedule.best_shares
-    monkeypatch.setattr(common_schedule, "best_shares", lambda gain, takes, most: best(gain, takes, most) * 0.99)
+    best = tables.best_shares
+    monkeypatch.setattr(tables, "best_shares", lambda gain, takes, most: best(gain, takes, most) * 0.99)
     folder = solved(plan_folder, pillars(RICH, POOR))
     with pytest.raises(PlanError, match="one schedule: scenario 1, sim_1, year 1: feed_tonnes 99 for 100"):
         gather(folder)
@@ -307,7 +307,7 @@ def test_the_dual_of_milling_is_worth_what_the_best_choice_is(seed):
     rng = np.random.default_rng(seed)
     gain, takes = rng.uniform(0, 10, 8), rng.uniform(0, 3, (rng.integers(1, 3), 8))
     most = rng.uniform(1, 12, len(takes))
-    shares = common_schedule.best_shares(gain, takes, most)
+    shares = tables.best_shares(gain, takes, most)
     assert gain @ shares == pytest.approx(most_earned(gain, takes, most), rel=1e-6)
 
 

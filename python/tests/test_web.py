@@ -19,7 +19,7 @@ from helpers.pushbacks import UPRIGHT, pillars
 import pitplan
 from pitplan import PlanError
 from pitplan.core import paths
-from pitplan.web import jobs as jobs_of, run_form, uploads
+from pitplan.web import import_pages, jobs as jobs_of, run_form
 from pitplan.web.jobs import CANCELLED, DONE, FAILED, LOST, RUNNING, WAITING, Jobs, Step, steps_of
 from pitplan.web.run_form import WrongForm
 from pitplan.web.security import Access
@@ -466,7 +466,7 @@ def test_a_client_that_first_sends_all_of_a_refused_file_reads_why(root, served)
     host, size = address.removeprefix("http://"), 40_000_000
     heads = [f"Host: {host}", f"Origin: {address}", f"Cookie: {cookie_of(address, token)}"]
     heads += [f"Content-Length: {size}", "Connection: close", "", ""]
-    unfinished = root / uploads.UNFINISHED
+    unfinished = root / import_pages.UNFINISHED
     unfinished.parent.mkdir(exist_ok=True)
     unfinished.write_text("")
     with socket.create_connection(tuple(host.split(":")), timeout=20) as client:
@@ -487,7 +487,7 @@ def test_a_block_model_that_is_cut_off_leaves_nothing(root, served):
     host = address.removeprefix("http://")
     heads = [f"Host: {host}", f"Origin: {address}", f"Cookie: {cookie_of(address, token)}"]
     request = ["PUT /import/file?folder=new&file=b.csv HTTP/1.1", *heads, "Content-Length: 9000000", "", ""]
-    waiting = root / uploads.UNFINISHED
+    waiting = root / import_pages.UNFINISHED
     with socket.create_connection(tuple(host.split(":")), timeout=20) as browser:
         browser.sendall("\r\n".join(request).encode() + b"x" * 3_000_000)
         until_true(lambda: any(it.stat().st_size for it in waiting.glob("*/part")))

@@ -17,8 +17,7 @@ from pitplan.web import block_data, project_text
 from pitplan.web.choice import with_pushbacks, with_shell
 from pitplan.web.jobs import DONE, Jobs
 from pitplan.web.output_pages import export_words
-from pitplan.web.output_words import WORDS
-from pitplan.web.results_page import grouped, read_table
+from pitplan.web.results_page import WORDS, grouped, read_table
 from pitplan.web.run_form import WrongForm
 from pitplan.web.security import Access
 

@@ -12,7 +12,7 @@ from starlette.requests import ClientDisconnect
 
 import pitplan
 from pitplan.cli import main
-from pitplan.web import uploads
+from pitplan.web import import_pages
 from pitplan.web.jobs import DONE, FAILED, Jobs
 from pitplan.web.run_form import WrongForm
 from pitplan.web.security import Access
@@ -200,14 +200,14 @@ def test_nobody_without_the_cookie_sends(root):
 
 
 def test_a_file_that_is_too_large_is_refused_by_its_size_and_by_its_bytes(root, client, monkeypatch):
-    monkeypatch.setattr(uploads, "MOST_BYTES", 1000)
+    monkeypatch.setattr(import_pages, "MOST_BYTES", 1000)
     given = {"folder": "hill", "file": "blocks.csv"}
     assert client.get("/import/check", params={**given, "size": "1000"}).status_code == 204
     assert client.get("/import/check", params={**given, "size": "1001"}).status_code == 422
     assert sent(client, b"x" * 1001).status_code == 422
     # Without a length in the headers.
     assert sent(client, iter([b"x" * 600, b"x" * 600])).status_code == 422
-    assert not (root / "hill").exists() and list((root / uploads.UNFINISHED).iterdir()) == []
+    assert not (root / "hill").exists() and list((root / import_pages.UNFINISHED).iterdir()) == []
 
 
 @pytest.mark.parametrize("size", ["", "x", "-1", "1e3", "²"])
@@ -230,7 +230,7 @@ async def parts_of(*given):
 
 def received(root, *given, folder="hill"):
     space = Workspace(root)
-    asyncio.run(uploads.receive(parts_of(*given), space, uploads.upload_of(space, folder, "blocks.csv")))
+    asyncio.run(import_pages.receive(parts_of(*given), space, import_pages.upload_of(space, folder, "blocks.csv")))
 
 
 def test_a_file_that_is_cut_leaves_nothing(root):
@@ -238,7 +238,7 @@ def test_a_file_that_is_cut_leaves_nothing(root):
     with pytest.raises(ClientDisconnect):
         received(root, b"x" * (3 << 20), ClientDisconnect())
     assert left(root) == before and not (root / "hill").exists()
-    assert list((root / uploads.UNFINISHED).iterdir()) == []
+    assert list((root / import_pages.UNFINISHED).iterdir()) == []
 
 
 def test_parts_are_put_together_in_their_order(root):
@@ -257,14 +257,14 @@ def test_a_file_that_comes_meanwhile_is_kept(root, taken):
         (root / "hill" / taken).write_text("theirs")
 
     space = Workspace(root)
-    upload = uploads.upload_of(space, "hill", "blocks.csv")
+    upload = import_pages.upload_of(space, "hill", "blocks.csv")
     with pytest.raises(WrongForm, match=f"hill: has a file {taken} already"):
-        asyncio.run(uploads.receive(slow(), space, upload))
+        asyncio.run(import_pages.receive(slow(), space, upload))
     assert [(it.name, it.read_text()) for it in (root / "hill").iterdir()] == [(taken, "theirs")]
 
 
 def test_what_a_killed_server_left_is_removed(root):
-    old = root / uploads.UNFINISHED / ".pitplan-old"
+    old = root / import_pages.UNFINISHED / ".pitplan-old"
     old.mkdir(parents=True)
     (old / "part").write_bytes(b"x" * 100)
     received(root, b"x")
@@ -275,18 +275,18 @@ def test_a_file_system_without_hard_links(root, monkeypatch):
     def refused(*given):
         raise PermissionError(1, "Operation not permitted")
 
-    monkeypatch.setattr(uploads.os, "link", refused)
+    monkeypatch.setattr(import_pages.os, "link", refused)
     received(root, b"x")
     assert (root / "hill" / "blocks.csv").read_bytes() == b"x"
-    assert list((root / uploads.UNFINISHED).iterdir()) == []
+    assert list((root / import_pages.UNFINISHED).iterdir()) == []
 
 
 def test_a_folder_that_cannot_be_written_says_so(root, monkeypatch):
     def full(*given):
         raise OSError(28, "No space left on device")
 
-    monkeypatch.setattr(uploads.os, "link", full)
-    monkeypatch.setattr(uploads.os, "rename", full)
+    monkeypatch.setattr(import_pages.os, "link", full)
+    monkeypatch.setattr(import_pages.os, "rename", full)
     with pytest.raises(pitplan.PlanError, match="hill/blocks.csv: cannot be written: No space left on device: free"):
         received(root, b"x")
     assert not (root / "hill").exists()

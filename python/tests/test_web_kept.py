@@ -11,7 +11,7 @@ from helpers.browser_application import PORT, entered
 from helpers.documentation import ROOT
 
 from pitplan import PlanError
-from pitplan.web import project_forms, results_page, workspace
+from pitplan.web import project_text, results_page, workspace
 from pitplan.web.kept import Kept
 from pitplan.web.security import Access
 from pitplan.web.workspace import Workspace
@@ -137,7 +137,7 @@ def test_charts_are_made_once_and_again_if_a_table_changes(client, root, monkeyp
 
 
 def test_the_page_of_a_project_shows_the_file_as_it_is(client, root, monkeypatch):
-    calls = counted(monkeypatch, project_forms, "read")
+    calls = counted(monkeypatch, project_text, "read")
     pages = [client.get("/project", params={"name": NAME}).text for _ in range(3)]
     assert len(calls) == 1 and len(set(pages)) == 1
     (root / NAME).write_text(PROJECT.replace("[economics]", "[economics]\nroyalty = 0.04"))

@@ -11,7 +11,7 @@ from helpers.browser_application import OWN, PORT, ended, entered
 
 import pitplan
 from pitplan.cli import main
-from pitplan.web import uploads
+from pitplan.web import import_pages
 from pitplan.web.jobs import DONE, FAILED, LOST, Jobs, now
 from pitplan.web.security import Access
 
@@ -216,7 +216,7 @@ def test_the_rest_of_a_file_that_is_refused_is_read(root, client, monkeypatch):
     def full(*given, **more):
         raise OSError(28, "No space left on device")
 
-    monkeypatch.setattr(uploads, "write_parts", full)
+    monkeypatch.setattr(import_pages, "write_parts", full)
     answer = client.put("/import/file", params={"folder": "hill", "file": "b.csv"}, content=parts(), headers=OWN)
     assert answer.status_code == 400 and "hill/b.csv: cannot be written: No space left" in answer.text
     assert sent == list(range(6)) and not (root / "hill").exists()

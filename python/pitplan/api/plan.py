@@ -10,9 +10,8 @@ import pandas as pd
 
 from pitplan import plan as preparing
 from pitplan.config.project import Project, load, validated
-from pitplan.core.optional_packages import load_library
-from pitplan.core.progress import Progress, silent
-from pitplan.core.warned import warn
+from pitplan.core.libraries import load_library
+from pitplan.core.progress import Progress, silent, warn
 from pitplan.errors import InputWarning, PlanError
 from pitplan.solver import problem
 

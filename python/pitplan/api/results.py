@@ -11,8 +11,8 @@ import pandas as pd
 
 from pitplan.commands.answers import Answered
 from pitplan.commands.writing import Writing
+from pitplan.core.progress import warn
 from pitplan.core.revenue_factors import factor_text
-from pitplan.core.warned import warn
 from pitplan.errors import ResultWarning
 from pitplan.pits import shell_tables
 from pitplan.pushbacks import nested

@@ -12,8 +12,8 @@ import pandas as pd
 from pitplan.config.figures import FigureRules
 from pitplan.config.project import Project
 from pitplan.config.table import GridRules, TableColumns
+from pitplan.core.libraries import load
 from pitplan.core.numeric_fields import at_row, row_of
-from pitplan.core.optional_packages import load
 from pitplan.errors import PlanError
 
 # Digits behind the point, a micrometre, that are kept of coordinates that were turned back.

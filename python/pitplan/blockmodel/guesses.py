@@ -15,9 +15,16 @@ import pandas as pd
 from pitplan.config.economics import GRADE_SIGNS
 from pitplan.config.table import GridRules
 from pitplan.core.numeric_fields import Source, holds_texts, is_numeric
-from pitplan.core.parquet import is_parquet
-from pitplan.core.table_layout import NUMBER, Layout
-from pitplan.core.text_format import UNREADABLE, TableFormat, demand_text, opened, unreadable
+from pitplan.core.text_tables import (
+    NUMBER,
+    UNREADABLE,
+    Layout,
+    TableFormat,
+    demand_text,
+    is_parquet,
+    opened,
+    unreadable,
+)
 from pitplan.errors import PlanError
 
 from .grid import Places, azimuth_of, of_centres

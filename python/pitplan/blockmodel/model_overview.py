@@ -11,7 +11,7 @@ import numpy as np
 from pitplan.config.economics import GRADE_SIGNS
 from pitplan.core.atomic_files import hash_of
 from pitplan.core.numeric_fields import is_numeric
-from pitplan.core.table_layout import NAMES
+from pitplan.core.text_tables import NAMES
 from pitplan.errors import WARNING
 
 from .guesses import (

@@ -15,21 +15,26 @@ import pandas as pd
 
 from pitplan.config.project import Project
 from pitplan.config.table import TableColumns
-from pitplan.core import parquet, spreadsheet_formulas
+from pitplan.core import numeric_fields, text_tables
 from pitplan.core.numeric_fields import Source, at_row, holds_texts, numbers_of, row_of
-from pitplan.core.table_layout import NAMES, Layout, layout_of
-from pitplan.core.text_format import (
+from pitplan.core.text_tables import (
     MIXED,
+    NAMES,
     UNREADABLE,
     USUAL,
+    Fields,
+    Layout,
     Mixed,
     TableFormat,
+    demand_columns,
+    demand_each_once,
     encoding_of,
     first_lines,
+    layout_of,
     names_in_header,
+    read_columns,
     unreadable,
 )
-from pitplan.core.text_tables import Fields, demand_columns, demand_each_once, read_columns
 from pitplan.errors import PlanError
 
 from . import cell_volumes, datamine, omf, resource_classes
@@ -142,8 +147,8 @@ def read(project: Project) -> Table:
     """
     columns = project.table
     codes, wanted = text_columns(project), file_columns(project)
-    if parquet.is_parquet(columns.file):
-        frame, names = parquet.read(columns.file, codes, wanted)
+    if text_tables.is_parquet(columns.file):
+        frame, names = text_tables.read_parquet(columns.file, codes, wanted)
         demand_columns(pd.DataFrame(columns=names), wanted, str(columns.file))
         return replace(
             checked(frame, project, str(columns.file)), unused=tuple(name for name in names if name not in wanted)
@@ -277,7 +282,7 @@ def checked(frame: pd.DataFrame, project: Project, source: str = "table") -> Tab
         rows.filled,
         tuple(rows.notes),
         unused=tuple(str(name) for name in frame.columns if name not in file_columns(project)),
-        warned=tuple(spreadsheet_formulas.warnings_of(frame, codes, source, project.table.rules.nulls.of)),
+        warned=tuple(numeric_fields.warnings_of(frame, codes, source, project.table.rules.nulls.of)),
         cells=laid,
         zeros={name: null[rows.kept] for name, null in rows.zeros.items()},
     )

@@ -12,7 +12,7 @@ import pandas as pd
 
 from pitplan.config.project import Project
 from pitplan.config.survey import SurveyFile
-from pitplan.core.optional_packages import load
+from pitplan.core.libraries import load
 from pitplan.errors import PlanError
 from pitplan.survey import readers
 from pitplan.survey.readers import Box, Topography

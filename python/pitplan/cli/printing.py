@@ -12,7 +12,7 @@ import numpy as np
 import pandas as pd
 
 from minelib.ending import tell
-from pitplan.core.noted_path import NotedPath
+from pitplan.core.atomic_files import NotedPath
 from pitplan.errors import WARNING
 from pitplan.report.columns import Columns, cells_of
 from pitplan.results.folder import read_record

@@ -173,7 +173,7 @@ def sensitivity(options: Namespace) -> int:
     from pitplan.core.atomic_files import read_json
     from pitplan.report import columns as report
     from pitplan.studies.dask_pool import Where
-    from pitplan.studies.sensitivity import store
+    from pitplan.studies.sensitivity import RECORD, TABLE
 
     from ..commands.sensitivity import write_sensitivity
     from .printing import print_json, print_notes, print_table
@@ -182,14 +182,14 @@ def sensitivity(options: Namespace) -> int:
     folder = options.out or project.folder / "sensitivity"
     where = Where(options.on, options.workers) if options.on else None
     cases = write_sensitivity(project, folder, where, writing_of(options))
-    print_notes(read_json(folder / store.RECORD)["notes"])
+    print_notes(read_json(folder / RECORD)["notes"])
     if options.json:
-        print_json(cases, folder / store.TABLE)
+        print_json(cases, folder / TABLE)
         return 0
     table = report.of_cases(cases)
     columns = report.OF_CASES.of(table, project)
     print_table([heading for _, heading, _, _ in columns], report.cells_of(table, columns))
-    print(folder / store.TABLE)
+    print(folder / TABLE)
     return 0
 
 
@@ -210,7 +210,7 @@ def compare(options: Namespace) -> int:
 
 
 def scenarios(options: Namespace) -> int:
-    from pitplan.studies.scenarios.request import Request
+    from pitplan.studies.scenarios.run import Request
 
     from ..commands.scenarios import write_scenarios
 
@@ -219,7 +219,7 @@ def scenarios(options: Namespace) -> int:
 
 
 def gather(options: Namespace) -> int:
-    from pitplan.studies.scenarios.request import Request
+    from pitplan.studies.scenarios.run import Request
 
     from ..commands.scenarios import gather as gather_answers
 
@@ -292,8 +292,9 @@ def verify(options: Namespace) -> int:
 
 
 def serve(options: Namespace) -> int:
+    from pitplan.core.libraries import demand_modules
+
     from .. import __version__
-    from ..core.optional_packages import demand_modules
 
     demand_modules({"starlette": "python3-starlette", "uvicorn": "python3-uvicorn"}, "pitplan serve")
     from ..errors import PlanError

@@ -5,8 +5,7 @@ from __future__ import annotations
 from typing import Optional
 
 from pitplan.core import staging
-from pitplan.core.atomic_files import staged
-from pitplan.core.noted_path import NotedPath, noted
+from pitplan.core.atomic_files import NotedPath, noted, staged
 from pitplan.core.progress import Progress, silent
 from pitplan.core.revenue_factors import factor_text
 from pitplan.export import audit as auditing

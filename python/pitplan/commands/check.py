@@ -4,8 +4,7 @@ from __future__ import annotations
 
 from pitplan.blockmodel.grid import demand_within
 from pitplan.config.project import Project
-from pitplan.core.progress import Progress, silent
-from pitplan.core.warned import warn
+from pitplan.core.progress import Progress, silent, warn
 from pitplan.errors import InputWarning
 from pitplan.solver.problem import counted_rows
 

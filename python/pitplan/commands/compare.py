@@ -17,9 +17,8 @@ from pitplan.core.atomic_files import hash_of, hashes, staged, write_json
 from pitplan.errors import PlanError, PlanWarning
 from pitplan.results import names
 from pitplan.results.rounding import shown
-from pitplan.studies.comparison import tables
-from pitplan.studies.comparison.bridge import Step, bridge
-from pitplan.studies.comparison.runs import SCHEDULE, SHELLS, Run, read_runs
+from pitplan.studies import comparison
+from pitplan.studies.comparison import SCHEDULE, SHELLS, Run, Step, bridge, read_runs
 
 from .audited import Rule, demand
 from .verify import verify
@@ -100,8 +99,8 @@ def compare(
     if bridges:
         found = {run.name: bridge(runs[0], run, made_by.npv, writing.progress) for run in runs[1:]}
         demand(made_by.rules)
-    steps = tables.bridges(runs[0], found) if bridges else None
-    made = Comparison(runs, tables.results(runs), tables.inputs(runs), tables.periods(runs), steps, target)
+    steps = comparison.bridges(runs[0], found) if bridges else None
+    made = Comparison(runs, comparison.results(runs), comparison.inputs(runs), comparison.periods(runs), steps, target)
     write(made, writing)
     return made
 

@@ -19,8 +19,7 @@ from typing import Any, Callable
 
 from pitplan.core import paths, processes
 from pitplan.core.atomic_files import hash_of
-from pitplan.core.libraries import LIBRARIES, Library
-from pitplan.core.optional_packages import THREE
+from pitplan.core.libraries import LIBRARIES, THREE, Library
 from pitplan.errors import PlanError, on_one_line
 
 LEAST_PYTHON = (3, 11)

@@ -4,7 +4,7 @@ from __future__ import annotations
 
 from typing import Optional, Union
 
-from pitplan.core.noted_path import NotedPath, noted
+from pitplan.core.atomic_files import NotedPath, noted
 from pitplan.core.progress import Progress, silent
 from pitplan.core.revenue_factors import factor_text, factor_texts
 from pitplan.export import registry

@@ -13,16 +13,15 @@ from pitplan.config.figures import FigureRules
 from pitplan.core import csv_writer
 from pitplan.core.atomic_files import staged, write_json
 from pitplan.core.layout import FIGURES, FOLDERS
-from pitplan.core.optional_packages import load_library
+from pitplan.core.libraries import load_library
 from pitplan.core.revenue_factors import factor_text
 from pitplan.export.mesh import write_image as write_vti
 from pitplan.results import columns
 from pitplan.results.rounding import with_discounting
 from pitplan.studies.scenarios import pit_probability, run
-from pitplan.studies.scenarios.inclusion import Likely
-from pitplan.studies.scenarios.pit_probability import Gathered
-from pitplan.studies.scenarios.request import Request
+from pitplan.studies.scenarios.pit_probability import Gathered, Likely
 from pitplan.studies.scenarios.result import IMAGE, ONE, ONE_RECORD, ONE_YEARS, PROBABILITY, QUANTILES, SCHEDULES, TABLE
+from pitplan.studies.scenarios.run import Request
 from pitplan.studies.scenarios.store import Shared
 
 from ..errors import MissingPackage
@@ -83,15 +82,15 @@ def write_schedules(shared: Shared, request: Request, writing: Writing) -> list[
     run.demand_no_factor(request)
     load_library("a schedule by block")
     # It imports the library itself.
-    from pitplan.studies.scenarios.blocks import tables as block_answers
+    from pitplan.studies.scenarios.blocks import tables as schedule_tables
 
     progress = writing.progress
     removed = in_all_formats([PICTURE_OF_VALUES])
     with staged(shared.folder, whole=removed, subfolders=FOLDERS) as stage:
         with progress.step(f"applying the common schedule to {len(shared.scenarios):,} scenarios"):
-            schedules = block_answers.gather(shared, request.partial)
-            write_schedule_tables(schedules, block_answers.quantiles(schedules), shared, stage)
-        notes = block_answers.notes(schedules, shared) + note_verified(shared, schedules.missing, writing, stage)
+            schedules = schedule_tables.gather(shared, request.partial)
+            write_schedule_tables(schedules, schedule_tables.quantiles(schedules), shared, stage)
+        notes = schedule_tables.notes(schedules, shared) + note_verified(shared, schedules.missing, writing, stage)
         if writing.draws:
             with progress.step("drawing"):
                 draw_values(shared, schedules, stage)

@@ -6,11 +6,11 @@ from pathlib import Path
 from typing import Optional
 
 from pitplan.core import staging
-from pitplan.core.warned import warn
+from pitplan.core.progress import warn
 from pitplan.errors import PlanWarning
 from pitplan.studies.scenarios import run
-from pitplan.studies.scenarios.request import Request
 from pitplan.studies.scenarios.result import ScenarioResult
+from pitplan.studies.scenarios.run import Request
 from pitplan.studies.scenarios.store import BLOCK, FOLDERS, read_shared
 
 from .scenario_files import write_pits, write_schedules

@@ -12,7 +12,7 @@ import pandas as pd
 
 from pitplan.config.places import WASTE
 from pitplan.core import paths
-from pitplan.core.optional_packages import load_library
+from pitplan.core.libraries import load_library
 from pitplan.errors import WARNING, PlanError
 from pitplan.export import xlsx
 from pitplan.pushbacks import nested

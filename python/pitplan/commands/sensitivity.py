@@ -12,15 +12,14 @@ import planaudit
 from pitplan.config import project_writer
 from pitplan.core import csv_writer, layout, staging
 from pitplan.core.atomic_files import staged, write_json
-from pitplan.core.warned import warn
+from pitplan.core.progress import warn
 from pitplan.errors import InputWarning
 from pitplan.export import xlsx
 from pitplan.results import names
 from pitplan.results.rounding import heads_of, named, shown, with_discounting, write_csv
+from pitplan.studies import sensitivity
 from pitplan.studies.dask_pool import Where
-from pitplan.studies.sensitivity import cases as varied_cases, hill, store
-from pitplan.studies.sensitivity.cases import Case, Sensitivity, rules_of
-from pitplan.studies.sensitivity.store import RECORD, TABLE
+from pitplan.studies.sensitivity import RECORD, TABLE, Case, Sensitivity, rules_of
 
 from .audited import verified
 from .writing import Place, Source, Writing, demand_apart, in_all_formats, read
@@ -61,8 +60,8 @@ def write_sensitivity(
     demand_apart(project, target)
     if rules_of(project).hill:
         xlsx.demand_library()
-    with staging.alone(target, varied_cases.CASES):
-        found = varied_cases.solve(project, target, where, writing.progress)
+    with staging.alone(target, sensitivity.CASES):
+        found = sensitivity.solve(project, target, where, writing.progress)
         table = write_cases(found, target, writing)
     warn(found.plan.notes, InputWarning)
     return table
@@ -81,12 +80,12 @@ def write_cases(found: Sensitivity, folder: Path, writing: Writing) -> pd.DataFr
     PlanError
         If a result differs from its independent recalculation.
     """
-    cases, project, progress = varied_cases.table(found), found.project, writing.progress
+    cases, project, progress = sensitivity.table(found), found.project, writing.progress
     pairs = rules_of(project).pairs
     figures = [names.TORNADO, names.SPIDER, *map(names.grid_of, pairs), names.HILL_FIGURE]
     removed = (*in_all_formats(figures), names.HILL, names.HILL_WORKBOOK)
     with staged(folder, RECORD, removed, layout.FOLDERS) as stage:
-        record = store.record(found, os.path.relpath(project.path, folder)) | {"figures": writing.draws}
+        record = sensitivity.record(found, os.path.relpath(project.path, folder)) | {"figures": writing.draws}
         write_tables(found, cases, stage)
         project_writer.write(found.asked, stage / project_writer.AS_RUN, folder)
         write_json(stage / RECORD, record)
@@ -111,10 +110,10 @@ def write_tables(found: Sensitivity, cases: pd.DataFrame, stage: Path) -> None:
 
 def write_hill(found: Sensitivity, stage: Path) -> None:
     """Writes hill_of_value.csv, and a workbook with the NPVs as a grid and the table."""
-    table = hill.table(found)
+    table = sensitivity.hill_table(found)
     write_csv(shown(table), stage / names.HILL, found.project)
     one, other = rules_of(found.project).hill
-    grid = hill.grid(shown(table))
+    grid = sensitivity.grid(shown(table))
     corner = f"{other.parameter}, by column {one.parameter}"
     sheet = grid.reset_index(names=corner).rename(columns=str)
     rows = named(with_discounting(shown(table), found.project), found.project)
@@ -130,4 +129,4 @@ def draw(found: Sensitivity, cases: pd.DataFrame, stage: Path) -> None:
     with also_as(project.figures.formats if project.figures else ()):
         sensitivity.write_all(cases, rules_of(project).pairs, project.economics.currency, stage)
         if rules_of(project).hill:
-            sensitivity.write(hill.table(found), project.economics.currency, stage / names.HILL_FIGURE)
+            sensitivity.write(sensitivity.hill_table(found), project.economics.currency, stage / names.HILL_FIGURE)

@@ -18,8 +18,7 @@ from pitplan.config.figures import FORMATS
 from pitplan.config.project import Project, inputs_beside, load, validated
 from pitplan.core import csv_writer, layout, staging
 from pitplan.core.atomic_files import demand_no_folders, hashes, hashes_of, staged, write_json
-from pitplan.core.progress import Progress, silent
-from pitplan.core.warned import warn
+from pitplan.core.progress import Progress, silent, warn
 from pitplan.export import registry
 from pitplan.results import names
 from pitplan.solver import mine_files, problem

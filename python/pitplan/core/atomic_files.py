@@ -8,7 +8,7 @@ import json
 import os
 from contextlib import contextmanager, suppress
 from pathlib import Path
-from typing import Any, Iterable, Iterator, Mapping
+from typing import TYPE_CHECKING, Any, Iterable, Iterator, Mapping
 
 from pitplan.errors import PlanError
 
@@ -127,3 +127,23 @@ def write_json(path: Path, record: dict[str, Any]) -> None:
 def read_json(path: Path) -> dict[str, Any]:
     record: dict[str, Any] = json.loads(path.read_text(encoding="utf-8"))
     return record
+
+
+# Before Python 3.12 only the class of the system's own paths can be inherited.
+if TYPE_CHECKING:
+    SystemPath = Path
+else:
+    SystemPath = type(Path())
+
+
+class NotedPath(SystemPath):
+    """A path like any other, and sentences that a planner should read before using what is there."""
+
+    notes: tuple[str, ...] = ()
+
+
+def noted(path: Path, notes: Iterable[str]) -> NotedPath:
+    """The path with these notes."""
+    found = NotedPath(path)
+    found.notes = tuple(notes)
+    return found

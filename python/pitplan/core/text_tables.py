@@ -1,35 +1,440 @@
-"""Delimited text as data frames: fields as they are written, and checks of the header."""
+"""Tables as text or Parquet: how a text is written, which is recognised, and its fields as they are written."""
 
 from __future__ import annotations
 
+import codecs
+import csv
 import ctypes
+import gzip
+import io
+import lzma
 import re
 import warnings
-from collections.abc import Mapping, Sequence
-from contextlib import suppress
+import zipfile
+import zlib
+from collections import Counter
+from collections.abc import Iterator, Mapping, Sequence
+from concurrent.futures import ThreadPoolExecutor
+from contextlib import contextmanager, suppress
 from dataclasses import dataclass, field
+from itertools import islice
 from pathlib import Path
-from typing import Any
+from statistics import median
+from typing import IO, Any, Optional, cast
 
+import numpy as np
 import pandas as pd
 from pandas.api.types import union_categoricals
 
-from pitplan.errors import PlanError
+from pitplan.errors import MissingPackage, PlanError
 
-from . import table_parts
+from .libraries import is_of
 from .numeric_fields import header_row_of, without_truths
-from .text_format import (
-    UNREADABLE,
-    LongLine,
-    NulByte,
-    TableFormat,
-    WholeText,
-    long_line,
-    nul_byte,
-    opened,
-    unreadable,
-    wrong_encoding,
-)
+from .processes import cores
+
+SEPARATORS = (",", ";", "\t", "|")
+# Columns that runs of blanks separate are sought last, since names and codes contain blanks.
+BLANKS = " "
+NAMES = {",": "commas", ";": "semicolons", "\t": "tabs", "|": "bars", BLANKS: "blanks"}
+COMMENT = "#"
+# Lines of the sample, and letters of each.
+MOST_LINES, MOST_LETTERS = 400, 1 << 20
+# Further header lines below the names that are passed over.
+MOST_BELOW = 10
+NUMBER = re.compile(r"[-+]?(\d+[.,]?\d*|[.,]\d+)([eE][-+]?\d+)?")
+WITH_COMMA, WITH_POINT = re.compile(r"[-+]?\d*,\d+([eE][-+]?\d+)?"), re.compile(r"[-+]?\d*\.\d+([eE][-+]?\d+)?")
+OF_VULCAN = re.compile(r"\s*variable (descriptions?|types?|defaults?)\b", re.IGNORECASE)
+OF_LEAPFROG = re.compile(r"leapfrog|block model:|base point:", re.IGNORECASE)
+OF_DATAMINE = ({"XC", "YC", "ZC"}, {"IJK", "XINC", "XMORIG"})
+
+
+@dataclass(frozen=True)
+class Layout:
+    """The layout of a table.
+
+    Attributes
+    ----------
+    separator : str
+        What separates the fields; a blank stands for a run of blanks.
+    decimal : str
+        The decimal mark of the first rows.
+    header_row, first_row : int
+        The lines of the names and of the first row.
+    above : tuple of str
+        The lines above the first row.
+    package : str
+        The package that wrote the table, "" if it is not recognised.
+    kind : str
+        What a file that is no text was recognised as.
+    """
+
+    separator: str
+    decimal: str = "."
+    header_row: int = 1
+    first_row: int = 2
+    above: tuple[str, ...] = ()
+    package: str = ""
+    kind: str = ""
+
+    @property
+    def said(self) -> str:
+        """How the file was recognised, such as "Vulcan CSV, 4 header lines"; "" for a plain table."""
+        if self.kind:
+            return self.kind
+        count = self.first_row - 1
+        return ", ".join(
+            [*([f"{self.package} CSV"] if self.package else []), *([f"{count} header lines"] if count > 1 else [])]
+        )
+
+    def below(self) -> list[list[str]]:
+        """The fields of the header lines below the names."""
+        return [fields_of(line, self.separator) for line in self.above[self.header_row :]]
+
+
+def layout_of(lines: Sequence[str], separator: Optional[str] = None) -> Layout:
+    """Returns the layout of the text that begins with these lines. `separator` is that of the project, if it names one."""
+    found = [it for sign in ([separator] if separator else SEPARATORS) if (it := layout_by(lines, sign))]
+    if not found and separator is None:
+        found = [it for it in [layout_by(lines, BLANKS)] if it]
+    if found:
+        return max(found, key=lambda it: len(fields_of(lines[it.header_row - 1], it.separator)))
+    return Layout(separator or most_frequent(lines[0] if lines else ""))
+
+
+def most_frequent(line: str) -> str:
+    """Returns the most frequent separator of a line outside quotes; a comma if it has none."""
+    plain = re.sub(r'"[^"]*"', "", line)
+    return max(SEPARATORS, key=plain.count)
+
+
+def layout_by(lines: Sequence[str], separator: str) -> Optional[Layout]:
+    """Returns the layout with a separator; None if no line has as many names as the rows have fields."""
+    if separator != BLANKS and not any(separator in line for line in lines):
+        return None
+    fields = [fields_of(line, separator) for line in lines]
+    rows = [row for row in fields[len(fields) // 2 :] if len(row) > 1]
+    if not rows:
+        return None
+    width = Counter(map(len, rows)).most_common(1)[0][0]
+    rows = [row for row in rows if len(row) == width]
+    names = next((k for k, row in enumerate(fields) if len(row) == width and are_names(row)), None)
+    if names is None:
+        return None
+    usual = median(map(numbers_in, rows))
+    below = islice(range(names + 1, len(fields)), MOST_BELOW)
+    first = next((k for k in below if not is_header(fields[k], usual)), names + 1)
+    above = tuple(lines[:first])
+    return Layout(
+        separator,
+        decimal_of(rows, separator),
+        names + 1,
+        first + 1,
+        above,
+        package_of(above[:names], fields[names:first]),
+    )
+
+
+def fields_of(line: str, separator: str) -> list[str]:
+    """Returns the fields of a line, without blanks around them; none of a comment or an empty line."""
+    if line.startswith(COMMENT) or not line.strip():
+        return []
+    if separator == BLANKS:
+        return line.split()
+    try:
+        return [field.strip() for field in next(csv.reader([line], delimiter=separator), [])]
+    except csv.Error:
+        return []
+
+
+def are_names(row: list[str]) -> bool:
+    return sum(bool(name) for name in row) > 1 and numbers_in(row) == 0
+
+
+def numbers_in(row: list[str]) -> int:
+    return sum(NUMBER.fullmatch(field) is not None for field in row)
+
+
+def is_header(row: list[str], usual: float) -> bool:
+    """Returns whether a line below the names is a header line too: one of Vulcan, or one without numbers where rows have several."""
+    if row and OF_VULCAN.match(row[0]):
+        return True
+    return usual >= 2 and not numbers_in(row) and (any(row) or not row)
+
+
+def decimal_of(rows: list[list[str]], separator: str) -> str:
+    """Returns the decimal mark of rows. Commas that separate fields, or thousands, are none."""
+    fields = [field for row in rows for field in row]
+    has_points = any(WITH_POINT.fullmatch(field) for field in fields)
+    has_commas = separator != "," and any(WITH_COMMA.fullmatch(field) for field in fields)
+    return "," if has_commas and not has_points else "."
+
+
+def package_of(preamble: Sequence[str], header: list[list[str]]) -> str:
+    """Returns the package that writes such a preamble and such header lines."""
+    text, names = "\n".join(preamble), set(header[0])
+    if any(row and OF_VULCAN.match(row[0]) for row in header):
+        return "Vulcan"
+    if "surpac" in text.lower():
+        return "Surpac"
+    if COMMENT in text and OF_LEAPFROG.search(text):
+        return "Leapfrog"
+    centres, others = OF_DATAMINE
+    return "Datamine" if centres <= names and names & others else ""
+
+
+# What a packed or plain file raises that cannot be read.
+UNREADABLE = (OSError, EOFError, zipfile.BadZipFile, zlib.error, lzma.LZMAError)
+# Of the flags of a packed file that which says that it is locked.
+LOCKED = 1
+# How files begin that Excel writes, new and old.
+PACKED = (b"PK\x03\x04", b"\xd0\xcf\x11\xe0")
+# The encoding without a byte-order mark or a key, and that of bytes which are not of this encoding.
+USUAL, OTHERWISE = "utf-8-sig", "cp1252"
+# The most letters of a line: a packed file may hold one that no memory holds.
+MOST_IN_A_LINE = 10_000_000
+# The error handler of `codecs` that reads these bytes.
+MIXED = "pitplan.cp1252"
+# Files of block models that are no texts, by their endings.
+MODELS = {".omf": "an OMF file", ".dm": "a Datamine file"}
+MARKS = {codecs.BOM_UTF16_LE: "utf-16", codecs.BOM_UTF16_BE: "utf-16"}
+
+
+class Mixed:
+    """Counts the bytes that were read as Windows-1252."""
+
+    count = 0
+
+
+def as_windows_1252(error: UnicodeError) -> tuple[str, int]:
+    """Reads bytes that are not UTF-8 as Windows-1252; the five bytes that this does not have as U+FFFD."""
+    if not isinstance(error, UnicodeDecodeError):
+        raise error
+    Mixed.count += error.end - error.start
+    return error.object[error.start : error.end].decode(OTHERWISE, errors="replace"), error.end
+
+
+codecs.register_error(MIXED, as_windows_1252)
+
+
+@dataclass(frozen=True)
+class TableFormat:
+    """The format of a table's text.
+
+    Attributes
+    ----------
+    separator, decimal, encoding : str
+        A blank as separator stands for a run of blanks.
+    header_row, first_row : int
+        The lines of the names and of the first row, from 1.
+    errors : str
+        What `codecs` does with bytes that are not of the encoding.
+    layout : Layout, optional
+        The layout that was recognised.
+    otherwise : int
+        Bytes that were read as Windows-1252, since they are not UTF-8.
+    """
+
+    separator: str
+    decimal: str
+    encoding: str
+    header_row: int = 1
+    first_row: int = 2
+    errors: str = "strict"
+    layout: Optional[Layout] = None
+    otherwise: int = 0
+
+    @property
+    def skipped(self) -> list[int]:
+        """The lines, from 0, that are no names and no rows."""
+        return [*range(self.header_row - 1), *range(self.header_row, self.first_row - 1)]
+
+    @property
+    def has_blanks(self) -> bool:
+        return self.separator == BLANKS
+
+
+def guessed_separator(file: Path, encoding: str) -> str:
+    """Returns the most frequent separator of the first line outside quotes; a comma if it has none."""
+    lines = first_lines(file, encoding, "strict", 1)
+    return most_frequent(lines[0] if lines else "")
+
+
+def names_in_header(file: Path, form: TableFormat) -> list[str]:
+    """Returns the names of the columns, as they are written."""
+    lines = first_lines(file, form.encoding, form.errors, form.header_row)
+    line = lines[form.header_row - 1] if len(lines) >= form.header_row else ""
+    try:
+        return line.split() if form.has_blanks else next(csv.reader([line], delimiter=form.separator), [])
+    except csv.Error as error:
+        raise PlanError(f"{file} row {form.header_row}: is not a table header: {error}") from error
+
+
+def first_lines(file: Path, encoding: str, errors: str = "strict", count: int = MOST_LINES) -> list[str]:
+    """Returns the first lines of a text, without their ends. Raises PlanError if they cannot be read."""
+    try:
+        with opened(file) as data, io.TextIOWrapper(data, encoding=encoding, errors=errors) as text:
+            lines = iter(lambda: text.readline(MOST_LETTERS), "")
+            return [line.rstrip("\n") for line in islice(lines, count)]
+    except UnicodeError as error:
+        raise wrong_encoding(file, encoding) from error
+    except UNREADABLE as error:
+        raise unreadable(file, error) from error
+
+
+def encoding_of(file: Path) -> str:
+    """Returns the encoding of a byte-order mark, otherwise UTF-8. Raises PlanError if the file cannot be read."""
+    try:
+        with opened(file) as data:
+            start = data.read(2)
+    except UNREADABLE as error:
+        raise unreadable(file, error) from error
+    return MARKS.get(start, USUAL)
+
+
+class WholeText(io.TextIOWrapper):
+    """A table's text. Raises NulByte where it holds one, at which pandas would end the field without a word, and LongLine where a line has no end."""
+
+    ended = letters = 0
+
+    def read(self, size: Optional[int] = -1, /) -> str:
+        piece = super().read(size)
+        if "\0" in piece:
+            raise NulByte
+        self.count(piece)
+        return piece
+
+    def count(self, piece: str) -> None:
+        """Counts the lines that have ended, and the letters of the one that has not."""
+        end = max(piece.rfind("\n"), piece.rfind("\r"))
+        self.letters = self.letters + len(piece) if end < 0 else len(piece) - end - 1
+        self.ended += piece.count("\n")
+        if self.letters > MOST_IN_A_LINE:
+            raise LongLine(self.ended + 1)
+
+
+class NulByte(Exception):
+    """A text holds a NUL byte."""
+
+
+class LongLine(Exception):
+    """A row, from 1, has more than MOST_IN_A_LINE letters."""
+
+
+def long_line(file: Path, error: LongLine) -> PlanError:
+    """Names the row of a line without an end."""
+    remedy = "expected a line for each block: export the table again as CSV"
+    return PlanError(f"{file} row {error}: has more than {MOST_IN_A_LINE:,} letters, {remedy}")
+
+
+def nul_byte(file: Path, form: TableFormat) -> PlanError:
+    """Names the row and the column of the first NUL byte of a table."""
+    remedy = 'export it again as text, or name its encoding by [table] encoding, such as "utf-16"'
+    with opened(file) as data, io.TextIOWrapper(data, encoding=form.encoding, errors=form.errors) as text:
+        row, line = next(((number, line) for number, line in enumerate(text, 1) if "\0" in line), (1, ""))
+    # As many fields as begin before it; a quote that is open may hold the separator.
+    before = line.partition("\0")[0]
+    fields = before.split() if form.has_blanks else next(csv.reader([before], delimiter=form.separator), [])
+    number = max(1, len(fields))
+    names = names_in_header(file, form) if row > form.header_row else []
+    column = f" column {names[number - 1]}" if number <= len(names) else ""
+    return PlanError(f"{file} row {row}{column}: contains a NUL byte: {remedy}")
+
+
+@contextmanager
+def opened(file: Path) -> Iterator[IO[bytes]]:
+    """The bytes of a table's text, of a .gz or a .zip file those that it packs. Raises one of UNREADABLE, and PlanError where a .zip file
+    packs several files or none, and where another file is packed too."""
+    if file.suffix == ".gz":
+        with gzip.open(file) as unzipped:
+            yield cast(IO[bytes], unzipped)
+    elif file.suffix == ".zip":
+        with zipfile.ZipFile(file) as packed, unpacked(file, packed) as data:
+            yield data
+    else:
+        with open(file, "rb") as data:
+            if data.peek()[: len(PACKED[0])] in PACKED:
+                raise PlanError(
+                    f"{file}: is a workbook or another packed file: save the sheet, or what it packs, as CSV"
+                )
+            yield data
+
+
+def unpacked(file: Path, packed: zipfile.ZipFile) -> IO[bytes]:
+    """The one file that is packed. Raises PlanError where there are several or none, or where it cannot be unpacked here."""
+    there = [member for member in packed.infolist() if not member.is_dir()]
+    if len(there) != 1:
+        raise PlanError(f"{file}: packs {len(there)} files, and must pack one table")
+    if there[0].flag_bits & LOCKED:
+        raise PlanError(f"{file}: is locked by a password: unpack it, and name the table that it packs")
+    try:
+        return packed.open(there[0])
+    except NotImplementedError as error:
+        raise PlanError(
+            f"{file}: is packed in a way that is not read here ({error}): pack it by deflate, or unpack it"
+        ) from error
+
+
+def demand_text(file: Path, purpose: str) -> None:
+    """Raises PlanError where a table is no text, which the purpose needs."""
+    kind = "Parquet" if is_parquet(file) else MODELS.get(file.suffix.lower())
+    if kind:
+        raise PlanError(f"{file}: is {kind}, and {purpose} needs a table that is text, such as CSV")
+
+
+def unreadable(file: Path, error: Exception) -> PlanError:
+    return PlanError(f"{file}: cannot be read: {getattr(error, 'strerror', None) or error}")
+
+
+def wrong_encoding(file: Path, encoding: str) -> PlanError:
+    named = "UTF-8" if encoding == "utf-8-sig" else encoding
+    return PlanError(
+        f'{file}: is not written in {named}: name its encoding by [table] encoding, such as "cp1252" or "utf-16"'
+    )
+
+
+ENDING = ".parquet"
+
+
+def is_parquet(file: Path) -> bool:
+    return file.suffix.lower() == ENDING
+
+
+def read_parquet(file: Path, codes: list[str], wanted: list[str]) -> tuple[pd.DataFrame, list[str]]:
+    """The wanted columns that the file has, numbers as float64 and codes as texts, and the names of all its columns.
+
+    Raises MissingPackage without pyarrow, and PlanError where the file is none that it reads.
+    """
+    pyarrow = reader_of(file)
+    try:
+        names = list(pyarrow.read_schema(file).names)
+        frame = pyarrow.read_table(file, columns=[name for name in dict.fromkeys(wanted) if name in names]).to_pandas()
+    except (OSError, ValueError) as error:
+        raise PlanError(f"{file}: cannot be read as Parquet: {' '.join(str(error).split())}") from error
+    return plain(frame, codes), names
+
+
+def reader_of(file: Path) -> Any:
+    """Its module for files. Raises MissingPackage if it is not installed."""
+    try:
+        from pyarrow import parquet
+    except ImportError as error:
+        if not is_of(error, "pyarrow.parquet"):
+            raise MissingPackage(f"{file}: is Parquet, and pyarrow is there and cannot be imported: {error}") from error
+        why = "needs pyarrow (python3-pyarrow), which is not installed and which Debian 12 does not have: export the table as CSV"
+        raise MissingPackage(f"{file}: is Parquet, which {why}") from error
+    return parquet
+
+
+def plain(frame: pd.DataFrame, codes: list[str]) -> pd.DataFrame:
+    """Codes as texts, empty where there is none; and single floats as the shortest decimals that are theirs: 0.3 and not 0.300000012."""
+    result = frame.copy()
+    for name in frame.columns:
+        if name in codes:
+            result[name] = frame[name].astype(object).where(frame[name].notna(), "").astype(str)
+        elif frame[name].dtype == np.float32:
+            result[name] = frame[name].to_numpy().astype(str).astype(np.float64)
+    return result
+
 
 # Rows that are read at a time: the reader holds several times what it has read.
 PIECE = 500_000
@@ -68,7 +473,7 @@ def read_columns(file: Path, form: TableFormat, fields: Fields = Fields()) -> pd
             # A column may have numbers in one piece and texts in another.
             warnings.simplefilter("ignore", pd.errors.DtypeWarning)
             options = options_of(form, fields)
-            pieces = table_parts.read(file, form, options)
+            pieces = read_parts(file, form, options)
             if pieces is not None:
                 return joined(pieces)
             with opened(file) as data, WholeText(data, encoding=form.encoding, errors=form.errors, newline="") as text:
@@ -177,3 +582,96 @@ def of_header(source: str) -> str:
     """Returns the row of the names, as errors say it; "" for a file that has them in no row."""
     row = header_row_of(source)
     return f" row {row}" if row else ""
+
+
+# Bytes of a table that several threads read in less time than one, and of the part that a thread reads at a time.
+LEAST, PART = 1 << 24, 1 << 23
+# More threads wait for each other, since texts are made by one at a time.
+MOST_THREADS = 4
+# The characters . / and 0 to 9, and the length of a run of them that is too long.
+FIRST, KINDS, TOO_LONG = ord("."), 12, 16
+# Numbers of at most 15 digits between these have powers of ten up to 10^22.
+SMALLEST, GREATEST = 1e-7, 1e22
+UNLIKE_PLAIN = (b'"', b"\0", b" ", b"\v", b"\f")
+
+
+class NotPlain(Exception):
+    """A table is not plain."""
+
+
+def read_parts(file: Path, form: TableFormat, options: Mapping[str, Any]) -> Optional[list[pd.DataFrame]]:
+    """Returns the parts of a table in order; None if it is small or not plain.
+
+    Parameters
+    ----------
+    file : Path
+    form : TableFormat
+    options : mapping
+        Those of `pandas.read_csv`; `dtype` has the columns of texts.
+    """
+    if form.encoding != USUAL or form.decimal != "." or form.has_blanks or file.suffix in (".gz", ".zip"):
+        return None
+    try:
+        if cores() < 2 or file.stat().st_size < LEAST:
+            return None
+        head, bounds = cut(file, form)
+        with ThreadPoolExecutor(min(cores(), MOST_THREADS)) as threads:
+            return list(threads.map(lambda bound: part_of(file, bound, head, form, options), bounds))
+    except (NotPlain, ValueError, Warning, *UNREADABLE):
+        # One thread finds what is wrong, with its row.
+        return None
+
+
+def cut(file: Path, form: TableFormat) -> tuple[bytes, list[tuple[int, int]]]:
+    """Returns the lines before the first row, and where parts of whole lines begin and end."""
+    with open(file, "rb") as data:
+        head = b"".join(islice(data, form.first_row - 1))
+        places, size = [len(head)], file.stat().st_size
+        while places[-1] < size:
+            data.seek(min(places[-1] + PART, size))
+            data.readline()
+            places.append(data.tell())
+    demand_plain(head.replace(b"\r\n", b"\n").replace(b" ", b"_"), form)
+    if b"\r" in head.replace(b"\r\n", b"\n"):
+        raise NotPlain
+    return head, list(zip(places, places[1:]))
+
+
+def part_of(
+    file: Path, bound: tuple[int, int], head: bytes, form: TableFormat, options: Mapping[str, Any]
+) -> pd.DataFrame:
+    """Returns the rows between two places of a file. Raises NotPlain."""
+    with open(file, "rb") as data:
+        data.seek(bound[0])
+        rows = data.read(bound[1] - bound[0])
+    demand_plain(rows, form)
+    if has_long_number(rows):
+        raise NotPlain
+    found = pd.read_csv(io.BytesIO(head + rows), **options, float_precision="high")
+    for name, column in found.items():
+        if name not in options["dtype"] and not is_exact(column):
+            raise NotPlain
+    return found
+
+
+def demand_plain(text: bytes, form: TableFormat) -> None:
+    """Raises NotPlain if a text has quotes, blanks or other characters than those of ASCII."""
+    tab = () if form.separator == "\t" else (b"\t",)
+    if not text.isascii() or any(it in text for it in (*UNLIKE_PLAIN, *tab)):
+        raise NotPlain
+
+
+def has_long_number(text: bytes) -> bool:
+    """Returns whether 16 characters that follow each other are digits, points or slashes."""
+    run, length = np.frombuffer(text, dtype=np.uint8) - np.uint8(FIRST) < KINDS, 1
+    while length < TOO_LONG:
+        run, length = run[:-length] & run[length:], 2 * length
+    return bool(run.any())
+
+
+def is_exact(column: pd.Series) -> bool:
+    """Returns whether a column has whole numbers, or decimal ones whose powers of ten a float holds."""
+    if column.dtype != np.float64:
+        return bool(column.dtype == np.int64)
+    sizes = np.abs(column.to_numpy())
+    return bool((((sizes >= SMALLEST) & (sizes <= GREATEST)) | (sizes == 0) | np.isnan(sizes)).all())

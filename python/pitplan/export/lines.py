@@ -14,7 +14,7 @@ import pandas as pd
 
 from pitplan.blockmodel.grid import Grid, metres
 from pitplan.core.cell_outlines import rings
-from pitplan.core.optional_packages import load
+from pitplan.core.libraries import load
 from pitplan.errors import PlanError
 from pitplan.results.folder import Folder
 from pitplan.results.pit_states import FACTOR, GROUND, Shape, Stage, places_of, rock, stages_of

@@ -9,7 +9,7 @@ from typing import Any
 import numpy as np
 
 from pitplan.blockmodel.grid import Grid, metres, turn_of
-from pitplan.core.optional_packages import load
+from pitplan.core.libraries import load
 from pitplan.errors import PlanError
 from pitplan.results.folder import Folder
 from pitplan.results.pit_states import FACTOR, GROUND, Shape, Stage, places_of, rock, stages_of

@@ -16,8 +16,7 @@ from pitplan.config.periods import PERIOD, YEAR
 from pitplan.config.project import Project
 from pitplan.core.atomic_files import hash_of
 from pitplan.core.numeric_fields import Source
-from pitplan.core.text_format import TableFormat, demand_text, names_in_header
-from pitplan.core.text_tables import Fields, read_columns, read_header
+from pitplan.core.text_tables import Fields, TableFormat, demand_text, names_in_header, read_columns, read_header
 from pitplan.errors import PlanError
 from pitplan.plan import shown_name
 from pitplan.results.folder import Folder

@@ -12,7 +12,7 @@ import pandas as pd
 from pitplan.config.project_writer import as_run
 from pitplan.core import csv_writer, staging
 from pitplan.core.atomic_files import staged as staged_files, staged_file
-from pitplan.core.optional_packages import load
+from pitplan.core.libraries import load
 from pitplan.core.revenue_factors import factor_text, with_exact_factors
 from pitplan.errors import PlanError
 from pitplan.results import names

@@ -14,7 +14,7 @@ from pitplan.config.classes import ORE_NAMES
 from pitplan.config.economics import GRADE_UNITS, GRAMS, Metal
 from pitplan.config.project import Project
 from pitplan.config.smelter import BOTH
-from pitplan.core.optional_packages import load
+from pitplan.core.libraries import load
 from pitplan.economics.smelter_terms import concentrate, payable_share
 from pitplan.plan import shown_name
 from pitplan.results.columns import CASH_FLOW

@@ -12,7 +12,7 @@ from typing import Any
 import numpy as np
 import pandas as pd
 
-from pitplan.core.optional_packages import load
+from pitplan.core.libraries import load
 from pitplan.results.column_types import THOUSANDS
 from pitplan.results.columns import unit_of
 

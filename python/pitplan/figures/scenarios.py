@@ -23,8 +23,7 @@ from pitplan.core.cell_outlines import edges
 from pitplan.core.magnitude import scaled
 from pitplan.core.revenue_factors import factor_text
 from pitplan.figures.plans_sections import section_column, section_levels, section_row
-from pitplan.studies.scenarios.inclusion import Likely
-from pitplan.studies.scenarios.pit_probability import QUANTILES
+from pitplan.studies.scenarios.pit_probability import QUANTILES, Likely
 
 from .map_marks import axes_of_map, mark_map, mark_section_cells, section_titles
 from .style import GROUND, MAP, STYLE, finish, list_of, name_axes, write_maps

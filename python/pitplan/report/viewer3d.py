@@ -14,7 +14,7 @@ from numpy.typing import NDArray
 
 from pitplan.blockmodel.grid import turn_of
 from pitplan.config.periods import PERIOD, YEAR
-from pitplan.core.optional_packages import three_scripts
+from pitplan.core.libraries import three_scripts
 from pitplan.errors import PlanError
 from pitplan.figures import style
 from pitplan.results.folder import Folder

@@ -13,7 +13,7 @@ import numpy as np
 import pandas as pd
 
 from pitplan.core.atomic_files import hash_of
-from pitplan.core.optional_packages import LIBRARY, is_of
+from pitplan.core.libraries import LIBRARY, is_of
 from pitplan.core.revenue_factors import per_mille
 from pitplan.errors import ProgramError
 from pitplan.precedences import Rows

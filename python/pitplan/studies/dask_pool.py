@@ -12,9 +12,8 @@ from importlib import import_module
 from pathlib import Path
 from typing import Any, Iterator, Optional
 
-from pitplan.core.optional_packages import load
+from pitplan.core.libraries import load, release
 from pitplan.core.progress import Progress
-from pitplan.core.release import release
 from pitplan.errors import PlanError
 from pitplan.studies.scenarios import worker
 from pitplan.studies.scenarios.store import Scenario

@@ -8,7 +8,7 @@ from typing import Any, Optional
 import numpy as np
 
 from pitplan.config.survey import SurveyFile
-from pitplan.core.optional_packages import load
+from pitplan.core.libraries import load
 from pitplan.errors import PlanError
 
 from .layers import Layer

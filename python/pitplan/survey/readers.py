@@ -16,8 +16,7 @@ import numpy as np
 from pitplan.config.kinds import FARTHEST
 from pitplan.config.survey import SurveyFile
 from pitplan.core.numeric_fields import at_row, numbers_of
-from pitplan.core.text_format import TableFormat, guessed_separator
-from pitplan.core.text_tables import Fields, demand_columns, read_columns
+from pitplan.core.text_tables import Fields, TableFormat, demand_columns, guessed_separator, read_columns
 from pitplan.errors import PlanError
 
 from . import dxf, gdal, surpac

@@ -1,8 +1,13 @@
-"""The pages that import a block model: the form, the file that it sends, and what the file was recognised as."""
+"""Block models that a browser sends: their names are checked, and their bytes go to disk in parts."""
 
 from __future__ import annotations
 
 import json
+import os
+from collections.abc import AsyncIterator
+from contextlib import suppress
+from dataclasses import dataclass
+from pathlib import Path
 from typing import Any
 
 from starlette.concurrency import run_in_threadpool
@@ -10,14 +15,186 @@ from starlette.requests import ClientDisconnect, Request
 from starlette.responses import JSONResponse, Response
 from starlette.routing import Route
 
+from pitplan.core import staging
 from pitplan.errors import PlanError
 
-from . import import_roles, uploads
+from . import import_roles
 from .import_roles import Recognised, RolePages, in_words
 from .jobs import DONE, IMPORT, Job
 from .pages import Pages, number_of, threaded
 from .run_form import WrongForm, plain
-from .workspace import NotThere
+from .workspace import NotThere, Workspace
+
+# The formats that are taken, by their endings.
+ENDINGS = (".csv", ".csv.gz", ".zip", ".omf", ".dm")
+# The most bytes of a file, and of a part that is written.
+MOST_BYTES, PART = 4 << 30, 1 << 20
+MOST_LETTERS = 100
+PROJECT = "project.toml"
+# Below the folder that is served: files that are not whole yet.
+UNFINISHED = ".pitplan-serve/uploads"
+
+
+@dataclass(frozen=True)
+class Upload:
+    """A file that is to be sent.
+
+    Attributes
+    ----------
+    root : Path
+        The folder that is served.
+    folder : str
+        The folder of the new mine, directly below it.
+    file : str
+        The name of the file there.
+    """
+
+    root: Path
+    folder: str
+    file: str
+
+    @property
+    def path(self) -> Path:
+        return self.root / self.folder / self.file
+
+    @property
+    def project(self) -> Path:
+        return self.root / self.folder / PROJECT
+
+
+def upload_of(workspace: Workspace, folder: str, file: str) -> Upload:
+    """Returns the upload of a file into a folder.
+
+    Raises
+    ------
+    WrongForm
+        If a name is wrong or taken, or the format is not in ENDINGS, with the field and the remedy.
+    """
+    folder, file = folder.strip(), with_small_ending(file.strip())
+    demand_name("Name of the mine", folder, "north-hill")
+    demand_name("Block model", file, "blocks.csv")
+    if not file.endswith(ENDINGS) or file in ENDINGS:
+        raise WrongForm(
+            f"Block model: {file}: expected a file that ends in {', '.join(ENDINGS[:-1])} or {ENDINGS[-1]}: "
+            "export the block model as CSV"
+        )
+    upload = Upload(workspace.root, folder, file)
+    demand_room(workspace, upload)
+    return upload
+
+
+def with_small_ending(file: str) -> str:
+    """Returns the name of a file with the ending of its format in small letters, by which it is read."""
+    ending = next((it for it in ENDINGS if file.lower().endswith(it)), "")
+    return file[: len(file) - len(ending)] + ending
+
+
+def demand_name(field: str, name: str, example: str) -> None:
+    """Raises WrongForm if a text cannot be the name of a file or folder."""
+    remedy = f"give a name such as {example}"
+    if not name:
+        raise WrongForm(f"{field}: found nothing, expected a name: {remedy}")
+    if "/" in name or "\\" in name:
+        raise WrongForm(f"{field}: {name}: expected a name without / and \\: {remedy}")
+    if name.startswith("."):
+        raise WrongForm(f"{field}: {name}: expected a name that does not begin with a dot: {remedy}")
+    if not name.isprintable() or "\ufffd" in name:
+        raise WrongForm(f"{field}: {name!r}: expected letters that can be printed: {remedy}")
+    if len(name) > MOST_LETTERS:
+        raise WrongForm(f"{field}: found {len(name)} letters, expected at most {MOST_LETTERS}: {remedy}")
+
+
+def demand_room(workspace: Workspace, upload: Upload) -> None:
+    """Raises WrongForm if something is in the place of the folder, of the file or of the project."""
+    place = workspace.root / upload.folder
+    if not os.path.lexists(place):
+        return
+    other = "give another name"
+    try:
+        is_folder = workspace.place(upload.folder).is_dir()
+    except NotThere as error:
+        raise WrongForm(
+            f"Name of the mine: {upload.folder}: is a link that leads out of the folder that is served: {other}"
+        ) from error
+    if not is_folder:
+        raise WrongForm(f"Name of the mine: {upload.folder}: is a file: {other}")
+    for path in (upload.project, upload.path):
+        if os.path.lexists(path):
+            raise WrongForm(f"Name of the mine: {upload.folder}: has a file {path.name} already: {other}")
+
+
+def demand_size(length: int) -> None:
+    """Raises WrongForm if a file is too large."""
+    if length > MOST_BYTES:
+        raise WrongForm(
+            f"Block model: has more than {MOST_BYTES >> 30} GiB: pack it as .csv.gz, or copy it into the folder "
+            "that is served and run pitplan init"
+        )
+
+
+async def receive(parts: AsyncIterator[bytes], workspace: Workspace, upload: Upload) -> None:
+    """Writes a file as it comes. It has its name only when it is whole; of one that is cut nothing is left.
+
+    Raises
+    ------
+    WrongForm
+        If it is empty or too large, or if its place has been taken.
+    PlanError
+        If it cannot be written.
+    """
+    unfinished = workspace.root / UNFINISHED
+    try:
+        unfinished.mkdir(parents=True, exist_ok=True)
+        staging.clean(unfinished)
+        with staging.stage_in(unfinished) as stage:
+            partial = stage / "part"
+            if not await write_parts(parts, partial):
+                raise WrongForm("Block model: is empty: export it again")
+            settle(partial, workspace, upload)
+    except OSError as error:
+        raise PlanError(
+            f"{upload.folder}/{upload.file}: cannot be written: {error.strerror or error}: free space, or check the permissions"
+        ) from error
+
+
+async def drain(parts: AsyncIterator[bytes]) -> None:
+    """Reads what is still sent of a file that is refused, up to MOST_BYTES, since a browser shows the answer only after it has sent all."""
+    count = 0
+    with suppress(ClientDisconnect):
+        async for part in parts:
+            count += len(part)
+            if count > MOST_BYTES:
+                return
+
+
+async def write_parts(parts: AsyncIterator[bytes], path: Path) -> int:
+    """Writes the bytes to a file, in threads of their own, and returns how many. Raises WrongForm if they are too many."""
+    count, held = 0, bytearray()
+    with open(path, "xb") as file:
+        async for part in parts:
+            count += len(part)
+            demand_size(count)
+            held += part
+            if len(held) >= PART:
+                await run_in_threadpool(file.write, bytes(held))
+                held.clear()
+        await run_in_threadpool(file.write, bytes(held))
+    return count
+
+
+def settle(partial: Path, workspace: Workspace, upload: Upload) -> None:
+    """Gives a whole file its name, in place of nothing. Raises WrongForm if another has taken it."""
+    demand_room(workspace, upload)
+    with staging.made(upload.path.parent):
+        try:
+            os.link(partial, upload.path)
+        except FileExistsError:
+            demand_room(workspace, upload)
+        except OSError:
+            # A file system without hard links.
+            os.rename(partial, upload.path)
+        with suppress(FileNotFoundError):
+            partial.unlink()
 
 
 class ImportPages:
@@ -49,41 +226,41 @@ class ImportPages:
             "import.html",
             title="Import a block model",
             root=self.workspace.root,
-            endings=uploads.ENDINGS,
-            most=uploads.MOST_BYTES >> 30,
+            endings=ENDINGS,
+            most=MOST_BYTES >> 30,
         )
 
     def check(self, request: Request) -> Response:
         """Checks names and size before a file is sent."""
-        uploads.demand_size(size_of(request.query_params.get("size", "")))
+        demand_size(size_of(request.query_params.get("size", "")))
         self.upload_of(request)
         return Response(status_code=204)
 
     async def file(self, request: Request) -> Response:
         """Takes a file, and starts the job that recognises it."""
         upload = await run_in_threadpool(self.upload_of, request)
-        uploads.demand_size(size_of(request.headers.get("content-length", "0")))
+        demand_size(size_of(request.headers.get("content-length", "0")))
         parts = request.stream()
         try:
-            await uploads.receive(parts, self.workspace, upload)
+            await receive(parts, self.workspace, upload)
         except ClientDisconnect as error:
             raise WrongForm(f"Block model: {upload.file}: was cut off: import it again") from error
         except PlanError:
             # A browser that still sends the file shows no answer.
-            await uploads.drain(parts)
+            await drain(parts)
             raise
         job = await run_in_threadpool(self.asked, upload)
         return JSONResponse({"next": f"/job?number={job.number}"}, status_code=201)
 
-    def asked(self, upload: uploads.Upload) -> Job:
+    def asked(self, upload: Upload) -> Job:
         """Starts the job that recognises a file."""
         table, project = (self.workspace.name(path) for path in (upload.path, upload.project))
         words = (IMPORT, plain(table), f"--out={project}", "--figures", "--json")
         return self.jobs.ask(words, project, upload.folder, removes=table)
 
-    def upload_of(self, request: Request) -> uploads.Upload:
+    def upload_of(self, request: Request) -> Upload:
         given = request.query_params
-        return uploads.upload_of(self.workspace, given.get("folder", ""), given.get("file", ""))
+        return upload_of(self.workspace, given.get("folder", ""), given.get("file", ""))
 
     def imported(self, request: Request) -> Response:
         """The block model of an import that has succeeded."""

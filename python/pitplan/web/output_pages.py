@@ -14,9 +14,9 @@ from pitplan.results.names import RECORD
 
 from . import choice, project_text, results_page
 from .jobs import EXPORT
-from .output_words import WORDS
 from .pages import Pages, form_of
 from .project_text import Editor
+from .results_page import WORDS
 from .run_form import Asked, WrongForm, plain
 from .values_form import NUMBER
 from .workspace import NotThere

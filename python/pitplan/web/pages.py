@@ -24,12 +24,11 @@ from pitplan.core import layout, paths
 from pitplan.core.atomic_files import hash_of
 from pitplan.errors import PlanError
 
-from . import output_words, project_forms, results_page, run_form
+from . import project_text, results_page, run_form
 from .grids import Grid
 from .jobs import DONE, EXPORT, IMPORT, Job, Jobs, steps_of
 from .kept import Kept
-from .project_forms import Forms
-from .project_text import Editor
+from .project_text import Editor, Forms
 from .run_form import COMMANDS, OPTIONS, Asked, WrongForm
 from .security import SANDBOX
 from .values_form import Values
@@ -172,7 +171,7 @@ class Pages:
     def forms(self, path: Path, name: str) -> Forms:
         """Returns the forms of a project's file. Its name is that from the folder that is served."""
         return self.known_forms.of(
-            path, [path], lambda: project_forms.read(path, name), keeps=lambda found: found.is_of_one_file
+            path, [path], lambda: project_text.read(path, name), keeps=lambda found: found.is_of_one_file
         )
 
     def project_path(self, name: str) -> Path:
@@ -242,7 +241,7 @@ class Pages:
             result=found,
             page=results_page.page_of(folder, self.workspace, self.charts),
             seen=hash_of(self.workspace.place(found.project)) if found.project else "",
-            formats=output_words.WORDS,
+            formats=results_page.WORDS,
         )
 
     def table(self, request: Request) -> Response:

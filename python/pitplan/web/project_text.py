@@ -6,7 +6,7 @@ import fcntl
 import os
 from collections.abc import Iterator
 from contextlib import contextmanager, suppress
-from dataclasses import dataclass, replace
+from dataclasses import dataclass, field, replace
 from pathlib import Path
 from typing import Optional
 
@@ -14,6 +14,9 @@ from pitplan.config import toml_text
 from pitplan.config.project import Project, of_data
 from pitplan.core.atomic_files import hash_of, staged_file
 from pitplan.errors import PlanError
+
+from .grids import Grid, grids_of
+from .values_form import Field, fields_of
 
 # The most letters of a project that is edited here.
 MOST_LETTERS = 300_000
@@ -142,3 +145,38 @@ def save(path: Path, name: str, editor: Editor) -> None:
             place.chmod(mode)
             # A program that takes no lock may have written meanwhile.
             demand_seen(path, name, editor.seen)
+
+
+@dataclass(frozen=True)
+class Forms:
+    """A project's file as the forms of its page show it.
+
+    Attributes
+    ----------
+    editor : Editor
+    project : Project, optional
+        None if the text has an error.
+    fields : list of Field
+        The numbers that a form changes; none if the text has an error.
+    grids : dict of str to Grid
+        By name; none if the text has an error.
+    """
+
+    editor: Editor
+    project: Optional[Project] = None
+    fields: list[Field] = field(default_factory=list)
+    grids: dict[str, Grid] = field(default_factory=dict)
+
+    @property
+    def is_of_one_file(self) -> bool:
+        """Whether nothing but the project's file decides what the forms show."""
+        return self.project is not None and self.project.shells.calendar.file is None
+
+
+def read(path: Path, name: str) -> Forms:
+    """Returns the forms of a project's file. Its name is that from the folder that is served."""
+    editor = opened(path, name)
+    if editor.wrong:
+        return Forms(editor)
+    project = demand_project(editor.text, path, name)
+    return Forms(editor, project, fields_of(editor.text, project), grids_of(editor.text, project))

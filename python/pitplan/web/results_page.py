@@ -1,4 +1,4 @@
-"""What the page of an output folder shows: its notes, tables, figures and files."""
+"""What the formats of exports are called on pages."""
 
 from __future__ import annotations
 
@@ -17,7 +17,7 @@ from markupsafe import Markup, escape
 from pitplan.config import project_writer
 from pitplan.config.project import load
 from pitplan.core import layout
-from pitplan.core.text_format import MOST_IN_A_LINE
+from pitplan.core.text_tables import MOST_IN_A_LINE
 from pitplan.errors import WARNING, PlanError
 from pitplan.results.names import TABLE
 from pitplan.results.rounding import heads_of
@@ -28,6 +28,25 @@ from .workspace import RECORDS, Workspace
 # Charts need pandas, which is loaded when a page needs it.
 if TYPE_CHECKING:
     from .charts import Chart
+
+
+# What each format is called on pages.
+WORDS = {
+    "table": "your table with revenue factor, pushback and year",
+    "csv": "blocks of all pits, CSV",
+    "xlsx": "all tables, Excel workbook",
+    "vti": "all cells, ParaView image",
+    "vtu": "blocks of rock, ParaView grid",
+    "omf": "block model, OMF 1",
+    "dm": "block model, Datamine",
+    "dxf": "toes and crests, or the ground, DXF",
+    "stl": "surface, STL",
+    "obj": "surface, OBJ",
+    "gpkg": "toes and crests, GeoPackage",
+    "str": "toes and crests, Surpac strings",
+    "lines": "toes and crests, CSV",
+}
+
 
 # The most rows of a table on a page.
 MOST_ROWS = 2_000

@@ -26,7 +26,7 @@ from starlette.routing import Route
 
 from minelib.ending import tell
 from pitplan.core import input_places
-from pitplan.core.optional_packages import load
+from pitplan.core.libraries import load
 from pitplan.errors import PlanError
 
 from .area_pages import AreaPages

@@ -1,4 +1,4 @@
-"""Inclusion probabilities, and tables by scenario and of quantiles, from the results of all scenarios."""
+"""The inclusion probability of each cell at a revenue factor, for plans and sections."""
 
 from __future__ import annotations
 
@@ -8,6 +8,8 @@ from pathlib import Path
 import numpy as np
 import pandas as pd
 
+from pitplan.blockmodel.grid import Grid
+from pitplan.config.figures import FigureRules
 from pitplan.core import keyed_arrays
 from pitplan.core.revenue_factors import factor_text
 from pitplan.errors import PlanError
@@ -16,6 +18,40 @@ from pitplan.results.names import TABLE
 
 from . import store
 from .store import Scenario, Shared
+
+
+@dataclass(frozen=True)
+class Likely:
+    """The inclusion probability of each cell at a revenue factor.
+
+    Attributes
+    ----------
+    grid : Grid
+        The cells.
+    share : ndarray of float, shape (levels, rows, columns)
+        The share of scenarios with the cell in the pit, from 0 to 1.
+    solid : ndarray of bool, shape (levels, rows, columns)
+        Whether the cell has tonnes.
+    factor : float
+        The revenue factor.
+    count : int
+        The number of scenarios.
+    rules : FigureRules
+        Which levels and sections are drawn.
+    """
+
+    grid: Grid
+    share: np.ndarray
+    solid: np.ndarray
+    factor: float
+    count: int
+    rules: FigureRules = FigureRules()
+
+    @property
+    def shown(self) -> np.ndarray:
+        """The shares where there are tonnes, 0 elsewhere; shape (levels, rows, columns)."""
+        return np.where(self.solid, self.share, 0.0)
+
 
 QUANTILES = (0.1, 0.5, 0.9)
 

@@ -17,9 +17,8 @@ from pitplan.config.economics import ByDomain
 from pitplan.config.project import Project
 from pitplan.core import csv_writer, layout
 from pitplan.core.atomic_files import hashes, staged, write_json
-from pitplan.core.optional_packages import load_library
+from pitplan.core.libraries import load_library, release
 from pitplan.core.progress import Progress
-from pitplan.core.release import release
 from pitplan.plan import Plan
 from pitplan.results.names import TABLE
 from pitplan.solver import mine_files
@@ -91,9 +90,9 @@ def block_preparation() -> ModuleType:
     """The module that prepares schedules by block. Raises MissingPackage without the library."""
     load_library("a schedule by block")
     # It imports the library itself, and this module.
-    from pitplan.studies.scenarios.blocks import prepare as block_prepare
+    from .blocks import problem
 
-    return block_prepare
+    return problem
 
 
 @dataclass(frozen=True)

@@ -24,8 +24,7 @@ from pitplan.config.scenarios import Scenarios
 from pitplan.config.table_rules import ZERO
 from pitplan.core.numeric_fields import Source, at_row, numbers_of, row_of
 from pitplan.core.progress import Progress, silent
-from pitplan.core.text_format import demand_text
-from pitplan.core.text_tables import demand_columns, read_header
+from pitplan.core.text_tables import demand_columns, demand_text, read_header
 from pitplan.economics import block_values
 from pitplan.errors import PlanError
 from pitplan.plan import Plan, plan_of, with_notes

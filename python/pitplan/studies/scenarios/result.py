@@ -19,7 +19,7 @@ from pitplan.errors import PlanError
 from pitplan.plan import codes_of, shown_name
 
 from . import store
-from .inclusion import Likely
+from .pit_probability import Likely
 
 PROBABILITY, TABLE, QUANTILES = f"{TABLES}/probability.csv", f"{TABLES}/scenarios.csv", f"{TABLES}/quantiles.csv"
 IMAGE = "probability.vti"

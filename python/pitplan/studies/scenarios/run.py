@@ -1,25 +1,183 @@
-"""Solves the scenarios that have no result yet: over Dask, or by lists of jobs that others start.
-
-All realisations are read before any scenario is solved, so that an error in the last one cannot stop a run half-way. Results are files: a
-scheduler passes only a number to a task and a status back. The lists for Slurm and GNU parallel are text, which you can edit before you
-submit it.
-"""
+"""How scenarios are solved."""
 
 from __future__ import annotations
 
+import shlex
+import sys
 from dataclasses import dataclass
 from pathlib import Path
 from typing import Optional
 
 from pitplan.config.project import Project
+from pitplan.core.atomic_files import staged_file
+from pitplan.core.paths import PACKAGES
 from pitplan.core.progress import Progress
 from pitplan.core.revenue_factors import BASE_PRICE, factor_text, factor_texts
 from pitplan.errors import PlanError
+from pitplan.solver import choice
+from pitplan.solver.choice import Solver
 from pitplan.studies import dask_pool
 
-from . import batch_scripts, prepare, store, worker
-from .request import Request
-from .store import Shared
+from . import prepare, store, worker
+from .store import PIT, Scenario, Shared
+
+
+@dataclass(frozen=True)
+class Request:
+    """How to solve scenarios, and which of the answers to gather.
+
+    Attributes
+    ----------
+    where : str
+        `local`, the address of a Dask scheduler, `slurm` or `parallel`.
+    workers : int, optional
+        The number of processes of `local`. Default: one for each processor.
+    revenue_factor : float, optional
+        The shell whose probabilities are drawn. Default: the project's selected one, otherwise 1.0.
+    partial : bool
+        Gather even if scenarios have no result.
+    by : str
+        `pit`, or `block`: schedule the blocks of each scenario, and make one schedule for all.
+    """
+
+    where: str = "local"
+    workers: Optional[int] = None
+    revenue_factor: Optional[float] = None
+    partial: bool = False
+    by: str = PIT
+
+
+SCRIPT, ARRAY, GATHER, START, JOBS, LOG = (
+    "scenario.sh",
+    "array.sbatch",
+    "gather.sbatch",
+    "start.sh",
+    "jobs.txt",
+    "joblog.txt",
+)
+TRIES = 3
+# Slurm's default limit (MaxArraySize 1001).
+MOST_TASKS = 1000
+
+ONE = """#!/bin/sh
+# Solves one scenario of this folder, by its number.
+# 0: its answer stands. 1 to 4: the solver's own status. 5: pitplan refused. Others: killed, to be tried again.
+{variable}={solver} PYTHONPATH={packages} exec {python} -P -m pitplan scenario {folder} "$1"
+"""
+
+SLURM = """#!/bin/sh
+#SBATCH --job-name=pitplan
+#SBATCH --array=1-{tasks}
+#SBATCH --ntasks=1
+#SBATCH --cpus-per-task=1
+#SBATCH --requeue
+#SBATCH --open-mode=append
+#SBATCH --output={slurm_log}
+# Of the {count} lines of {jobs} a task takes that of its own number and each {tasks}th after it. A node that dies gives its
+# tasks back to Slurm (--requeue); a task of which a program was killed gives itself back, {tries} times at most.
+status=0
+for line in $(seq "$SLURM_ARRAY_TASK_ID" {tasks} {count}); do
+    sh {script} "$(sed -n "${{line}}p" {jobs})"
+    ended=$?
+    [ "$ended" -le "$status" ] || status=$ended
+done
+if [ "$status" -gt 5 ] && [ "${{SLURM_RESTART_COUNT:-0}}" -lt {tries} ]; then
+    echo "ended with status $status: tried again"
+    scontrol requeue "${{SLURM_ARRAY_JOB_ID}}_${{SLURM_ARRAY_TASK_ID}}"
+    # Slurm ends this task now; were it to end by itself first, it would count as done.
+    sleep 60
+fi
+exit "$status"
+"""
+
+SLURM_GATHER = """#!/bin/sh
+#SBATCH --job-name=pitplan-gather
+#SBATCH --ntasks=1
+#SBATCH --output={gather_log}
+PYTHONPATH={packages} exec {python} -P -m pitplan gather {folder}
+"""
+
+SLURM_START = """#!/bin/sh
+# Puts the array into the queue, and the gathering behind it, which says what is missing where a scenario has no answer.
+set -eu
+array=$(sbatch --parsable "$@" {array})
+sbatch --dependency="afterany:$array" "$@" {gather}
+"""
+
+PARALLEL = """#!/bin/sh
+# Solves the scenarios of {jobs}, as many at once as there are processors; options of GNU parallel may follow, such as
+# --jobs 8 or --sshloginfile FILE. Run again, it does those alone that {log} does not name as done.
+set -u
+PITPLAN_SCENARIO={script}
+export PITPLAN_SCENARIO
+try() {{
+    parallel -q --env PITPLAN_SCENARIO --joblog {log} --resume-failed "$@" sh -c 'exec sh "$PITPLAN_SCENARIO" "$1"' - {{}} :::: {jobs}
+}}
+for round in $(seq {tries}); do
+    try "$@"
+    # Columns 7 and 8 are the exit status and the signal. Statuses 1 to 5 would come again.
+    awk 'NR > 1 {{ ends[$1] = $7 > 5 || $8 > 0 }} END {{ for (job in ends) killed += ends[job]; exit killed > 0 }}' {log} && break
+done
+PYTHONPATH={packages} exec {python} -P -m pitplan gather {folder}
+"""
+
+
+def write(kind: str, folder: Path, scenarios: list[Scenario], solver: Solver) -> Path:
+    """Writes the scripts of `slurm` or `parallel`; returns the one to start. Raises PlanError if a script cannot name the folder."""
+    folder = folder.resolve()
+    demand_writable(kind, str(folder))
+    words = words_of(folder, len(scenarios), solver)
+    texts = {JOBS: "".join(f"{scenario.number}\n" for scenario in scenarios), SCRIPT: ONE.format(**words)}
+    if kind == "slurm":
+        texts |= {
+            ARRAY: SLURM.format(**words),
+            GATHER: SLURM_GATHER.format(**words),
+            START: SLURM_START.format(**words),
+        }
+    else:
+        texts[START] = PARALLEL.format(**words)
+    for name, text in texts.items():
+        with staged_file(folder / name) as path:
+            path.write_text(text, encoding="utf-8")
+            path.chmod(0o644 if name == JOBS else 0o755)
+    return folder / START
+
+
+def demand_writable(kind: str, folder: str) -> None:
+    """Raises PlanError if a script cannot name the folder, or Slurm would take a character of it as a pattern."""
+    if "\n" in folder or (kind == "slurm" and any(sign in folder for sign in "%\\")):
+        others = ", a % or a backslash" if kind == "slurm" else ""
+        raise PlanError(
+            f"{folder!r}: a folder of jobs may not have a line's end{others} in its name: name another by --out"
+        )
+    try:
+        folder.encode()
+    except UnicodeEncodeError as error:
+        raise PlanError(f"{folder!r}: a folder of jobs must have a name in UTF-8: name another by --out") from error
+
+
+def slurm_word(text: str) -> str:
+    """Returns a word of an #SBATCH line in double quotes, within which a backslash escapes the next character."""
+    return '"' + text.replace("\\", "\\\\").replace('"', '\\"') + '"'
+
+
+def words_of(folder: Path, count: int, solver: Solver) -> dict[str, object]:
+    """Returns the fields of the scripts: paths, quoted for the shell, or for Slurm in its own lines."""
+    variable, file = choice.place_of(solver)
+    paths = {
+        "python": Path(sys.executable),
+        "packages": PACKAGES,
+        "solver": file.resolve(),
+        "folder": folder,
+        "jobs": folder / JOBS,
+        "log": folder / LOG,
+        "script": folder / SCRIPT,
+        "array": folder / ARRAY,
+        "gather": folder / GATHER,
+    }
+    quoted: dict[str, object] = {name: shlex.quote(str(path)) for name, path in paths.items()}
+    logs = {"slurm_log": slurm_word(f"{folder}/slurm-%a.log"), "gather_log": slurm_word(f"{folder}/gather.log")}
+    return {**quoted, **logs, "variable": variable, "count": count, "tasks": min(count, MOST_TASKS), "tries": TRIES}
 
 
 @dataclass(frozen=True)
@@ -60,7 +218,7 @@ def solve(project: Project, folder: Path, request: Request, progress: Progress) 
         f"{count - len(missing):,} of {count:,} {shared.called} have a result already",
     ]
     if request.where in ("slurm", "parallel"):
-        start = batch_scripts.write(request.where, folder, missing, shared.solver) if missing else None
+        start = write(request.where, folder, missing, shared.solver) if missing else None
         return Solved(tuple(notes), start)
     if missing:
         outcomes = dask_pool.run(dask_pool.Where(request.where, request.workers), folder, missing, progress)

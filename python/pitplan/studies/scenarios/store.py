@@ -35,7 +35,7 @@ from pitplan.config.schedule import ScheduleRules
 from pitplan.constraints import Settled
 from pitplan.core.atomic_files import hash_of, staged_file, write_json
 from pitplan.core.layout import SOLVER
-from pitplan.core.release import release
+from pitplan.core.libraries import release
 from pitplan.errors import PlanError
 from pitplan.precedences import Rows
 from pitplan.solver import mine_files

@@ -14,7 +14,7 @@ from pitplan import constraints
 from pitplan.blockmodel import missing_blocks
 from pitplan.core import keyed_arrays
 from pitplan.core.atomic_files import hash_of, staged_file
-from pitplan.core.optional_packages import load_library
+from pitplan.core.libraries import load_library
 from pitplan.economics import block_values
 from pitplan.errors import PlanError, ProgramError
 from pitplan.pits import shell_tables

@@ -1,47 +1,257 @@
-"""Sensitivity of the selected pit shell: single parameters changed by given shares, and pairs of them.
-
-Each case finds the pit of the same revenue factor again. It also values the base case's pit at the parameters of the case: that pit is mined if
-nothing is planned again. There is no such value if the slopes change, since that pit may not be stable.
-
-Best and worst case mine shell by shell. So that their NPVs do not jump where the first shells of a case fall between two revenue factors of the
-project, each case finds shells of its own between these, as fine as `largest_increment` says.
-"""
+"""Sensitivity of the selected pit shell: single parameters changed by given shares, pairs of them, and the hill of value."""
 
 from __future__ import annotations
 
 import json
 import time
-from dataclasses import dataclass, replace
+from dataclasses import asdict, dataclass, replace
 from decimal import Decimal
 from functools import partial
 from itertools import product
 from pathlib import Path
-from typing import Any
+from typing import Any, Callable, Union
 
 import numpy as np
 import pandas as pd
 
 from pitplan.blockmodel import reader
 from pitplan.blockmodel.reader import Table
+from pitplan.config import toml_text
+from pitplan.config.economics import ByRock, Curve, Metal, Process, Recovery
 from pitplan.config.hill import Setting
-from pitplan.config.project import Project
+from pitplan.config.overrides import assigned, scaled
+from pitplan.config.periods import Calendar, Period
+from pitplan.config.project import Project, of_data
 from pitplan.config.sensitivity import SensitivityRules
+from pitplan.config.smelter import CHARGES, Smelter
 from pitplan.core import keyed_arrays
 from pitplan.core.atomic_files import hashes_of, staged_file
-from pitplan.core.optional_packages import load
+from pitplan.core.libraries import load
 from pitplan.core.processes import each_done
 from pitplan.core.progress import Progress, silent
+from pitplan.core.revenue_factors import factor_text
 from pitplan.errors import PlanError
 from pitplan.pits import shell_tables
 from pitplan.pits.skin import Skin, of_pit, refined, with_factors
 from pitplan.plan import Plan, prepared
+from pitplan.results import names
 from pitplan.solver import choice as solver, problem
 from pitplan.solver.choice import Solver
 from pitplan.solver.program import Solution
 from pitplan.studies import dask_pool
 from pitplan.studies.scenarios.store import key_of
 
-from .perturb import Change, given, moves_walls, varied, with_settings
+# A parameter of `[sensitivity]`, and the share by which it changes: 0.1 is 10 % more.
+Change = tuple[str, Decimal]
+Recoveries = Union[Recovery, dict[str, Recovery]]
+STEEPEST, FLATTEST = 90.0, 1.0
+
+
+def varied(project: Project, changes: tuple[Change, ...]) -> Project:
+    """Returns the project with these changes; recoveries stop at 1. Raises PlanError if a slope angle leaves 1 to 90 degrees."""
+    for name, share in changes:
+        if "." in name:
+            project = with_key(project, 1 + share, name)
+            continue
+        kind, _, metal = name.partition(" ")
+        project = VARIED[kind](project, 1 + share, metal)
+    return project
+
+
+def with_key(project: Project, by: Decimal, path: str) -> Project:
+    """Returns the project with the numbers of a key times a factor. Raises PlanError if there is no such key, or the project is not valid."""
+    where = f"{project.path}: [sensitivity]"
+    data = scaled(toml_text.parsed(project.to_toml(), str(project.path)), path, by, where)
+    return planned_as(project, of_data(data, project.path, f"{where} {path} times {by}"))
+
+
+def planned_as(project: Project, found: Project) -> Project:
+    """Returns a project that was read again with the revenue factors, folder and solver of the first one."""
+    kept = project.shells
+    shells = replace(
+        found.shells,
+        revenue_factors=kept.revenue_factors,
+        selected=kept.selected,
+        base_price_added=kept.base_price_added,
+    )
+    return replace(found, shells=shells, folder=project.folder, solver=project.solver)
+
+
+def with_settings(project: Project, settings: tuple[Setting, ...]) -> Project:
+    """Returns the project with other numbers for some keys, by their paths. Raises PlanError if the project is not valid with all of them."""
+    if not settings:
+        return project
+    where = f"{project.path}: [sensitivity.hill]"
+    data = toml_text.parsed(project.to_toml(), str(project.path))
+    for path, value in settings:
+        data = assigned(data, path, value, where)
+    said = ", ".join(f"{path} = {value}" for path, value in settings)
+    return planned_as(project, of_data(data, project.path, f"{where} {said}"))
+
+
+def moves_walls(name: str) -> bool:
+    """Returns whether a parameter changes slopes."""
+    return name == "slopes" or name.startswith("slopes.")
+
+
+def times(price: ByRock, by: Decimal) -> ByRock:
+    return {rock: amount * by for rock, amount in price.items()} if isinstance(price, dict) else price * by
+
+
+def recovered(recovery: Recoveries, by: Decimal) -> Recoveries:
+    """Returns recoveries of all rock types and grades times a factor, at most 1."""
+    if isinstance(recovery, dict):
+        return {rock: of_rock(part, by) for rock, part in recovery.items()}
+    return of_rock(recovery, by)
+
+
+def of_rock(recovery: Recovery, by: Decimal) -> Recovery:
+    whole = Decimal(1)
+    if isinstance(recovery, Curve):
+        return Curve(tuple((grade, min(share * by, whole)) for grade, share in recovery.points))
+    return min(recovery * by, whole)
+
+
+def with_metals(project: Project, name: str, change: Callable[[Metal], Metal]) -> Project:
+    """Returns the project with one metal changed, or all if `name` is ""."""
+    return replace(
+        project, metals=tuple(change(metal) if name in ("", metal.name) else metal for metal in project.metals)
+    )
+
+
+def with_processes(project: Project, change: Callable[[Process], Process]) -> Project:
+    """Returns the project with each of its processes changed."""
+    return replace(project, processes=tuple(change(process) for process in project.processes))
+
+
+def with_periods(project: Project, change: Callable[[Period], Period]) -> Project:
+    """Returns the project with each of its periods changed."""
+    calendar = Calendar(tuple(change(period) for period in project.shells.calendar.periods))
+    return replace(project, shells=replace(project.shells, calendar=calendar))
+
+
+def price(project: Project, by: Decimal, metal: str) -> Project:
+    """Changes the price of a metal, those of years and periods included."""
+    project = with_metals(
+        project, metal, lambda it: replace(it, price=it.price * by, prices=tuple(price * by for price in it.prices))
+    )
+    return with_periods(
+        project,
+        lambda it: replace(
+            it, prices={name: amount * by if metal in ("", name) else amount for name, amount in it.prices.items()}
+        ),
+    )
+
+
+def selling_cost(project: Project, by: Decimal, metal: str) -> Project:
+    """Changes the selling cost of a metal, or the charges of its smelter with penalties."""
+
+    def change(it: Metal) -> Metal:
+        terms = it.smelter and charged(it.smelter, by)
+        return replace(it, selling_cost=it.selling_cost * by, smelter=terms)
+
+    return with_metals(project, metal, change)
+
+
+def charged(terms: Smelter, by: Decimal) -> Smelter:
+    """Returns smelter terms with all charges times a factor; what is paid and the price participation stay."""
+    penalties = tuple(
+        replace(it, steps=tuple((grade, charge * by) for grade, charge in it.steps)) for it in terms.penalties
+    )
+    return replace(terms, **{name: getattr(terms, name) * by for name in CHARGES}, penalties=penalties)
+
+
+def recovery(project: Project, by: Decimal, metal: str) -> Project:
+    """Changes the recovery of a metal in all processes."""
+
+    def change(process: Process) -> Process:
+        changed = {name: recovered(it, by) if metal in ("", name) else it for name, it in process.recovery.items()}
+        return replace(process, recovery=changed)
+
+    return with_processes(
+        with_metals(project, metal, lambda it: replace(it, recovery=recovered(it.recovery, by))), change
+    )
+
+
+def mining_cost(project: Project, by: Decimal, metal: str) -> Project:
+    """Changes mining costs, those by bench or by elevation included."""
+    money = project.economics
+    deeper = tuple((elevation, cost * by) for elevation, cost in money.mining_cost_by_elevation)
+    level = money.mining_cost_per_bench * by
+    changed = replace(
+        money, mining_cost=times(money.mining_cost, by), mining_cost_per_bench=level, mining_cost_by_elevation=deeper
+    )
+    return replace(project, economics=changed)
+
+
+def processing_cost(project: Project, by: Decimal, metal: str) -> Project:
+    """Changes the processing costs of all processes."""
+    project = replace(
+        project, economics=replace(project.economics, processing_cost=times(project.economics.processing_cost, by))
+    )
+    return with_processes(project, lambda it: replace(it, cost=times(it.cost, by)))
+
+
+def slopes(project: Project, by: Decimal, metal: str) -> Project:
+    """Changes all slope angles, those by bench geometry included, but no patterns and offsets."""
+    walls = []
+    for wall in project.slopes.domains:
+        angles = tuple((azimuth, angle * float(by)) for azimuth, angle in wall.angles)
+        if any(not FLATTEST <= angle <= STEEPEST for _, angle in angles):
+            raise PlanError(
+                f"{project.path}: [sensitivity] changes: slope angles times {by} are outside 1 to 90 degrees"
+            )
+        walls.append(replace(wall.with_angles(angles), bench=None))
+    return replace(project, slopes=replace(project.slopes, domains=tuple(walls)))
+
+
+def capacity(project: Project, by: Decimal, metal: str) -> Project:
+    """Changes mining capacity and the processing capacity of all processes, those of periods included."""
+    shells, more = project.shells, float(by)
+    rock = None if shells.mining_capacity is None else shells.mining_capacity * more
+    of_processes = tuple(tonnes * more for tonnes in shells.per_process)
+    shells = replace(
+        shells, processing_capacity=shells.processing_capacity * more, mining_capacity=rock, per_process=of_processes
+    )
+    project = with_processes(replace(project, shells=shells), lambda it: replace(it, capacity=it.capacity * more))
+    return with_periods(project, lambda it: of_period(it, more))
+
+
+def of_period(period: Period, more: float) -> Period:
+    """Returns a period with other capacities."""
+    single = {name: getattr(period, name) for name in ("mining_capacity", "processing_capacity")}
+    changed = {name: None if tonnes is None else tonnes * more for name, tonnes in single.items()}
+    return replace(period, **changed, capacity={name: tonnes * more for name, tonnes in period.capacity.items()})
+
+
+def haulage(project: Project, by: Decimal, metal: str) -> Project:
+    """Changes the haulage costs of ore and waste."""
+    rules = project.haulage
+    assert rules is not None
+    return replace(project, haulage=replace(rules, cost={kind: cost * by for kind, cost in rules.cost.items()}))
+
+
+VARIED: dict[str, Callable[[Project, Decimal, str], Project]] = {
+    "price": price,
+    "mining_cost": mining_cost,
+    "processing_cost": processing_cost,
+    "selling_cost": selling_cost,
+    "recovery": recovery,
+    "slopes": slopes,
+    "capacity": capacity,
+    "haulage": haulage,
+}
+
+
+def given(project: Project) -> tuple[str, ...]:
+    """Returns the parameters that a project has and that can be changed."""
+    is_there = {
+        "selling_cost": any(it.selling_cost or it.smelter and it.smelter.has_charges for it in project.metals),
+        "slopes": any(wall.angles for wall in project.slopes.domains),
+        "haulage": project.haulage is not None,
+    }
+    return tuple(name for name in VARIED if is_there.get(name, True))
+
 
 CASES = "cases"
 # Columns of the base case's pit at the parameters of a case, and the value of its skin.
@@ -200,7 +410,6 @@ def solve(project: Project, folder: Path, where: dask_pool.Where | None, progres
     MissingPackage
         Without Dask if `where` is given.
     """
-    from . import hill
 
     found_by, given_project = solver.chosen(project.solver), project
     project = replace(project, solver=found_by.by)
@@ -219,7 +428,7 @@ def solve(project: Project, folder: Path, where: dask_pool.Where | None, progres
         "skin": str(rules.skin),
         "largest_increment": str(rules.largest_increment),
     }
-    cases = [*cases_of(rules), *hill.cases_of(rules).values()]
+    cases = [*cases_of(rules), *hill_cases(rules).values()]
     keys = {case: key_of({**begun, **case.as_json}) for case in cases}
     paths = {case: folder / CASES / f"{keys[case]}.npz" for case in cases}
     if not paths[Case()].is_file():
@@ -370,3 +579,102 @@ def in_order(frame: pd.DataFrame) -> pd.DataFrame:
     order = [name for name in frame if name not in (*kept, "npv")]
     at = order.index("npv_best")
     return frame[[*order[:at], "npv", *order[at:], *kept]]
+
+
+def hill_cases(rules: SensitivityRules) -> dict[tuple[int, int], Case]:
+    """Returns the case of each two values by their numbers; none without a hill."""
+    if not rules.hill:
+        return {}
+    one, other = rules.hill
+    places = product(range(len(one.values)), range(len(other.values)))
+    return {
+        (first, second): Case(
+            (*one.changes(first), *other.changes(second)), (*one.settings(first), *other.settings(second))
+        )
+        for first, second in places
+    }
+
+
+def hill_table(found: Sensitivity) -> pd.DataFrame:
+    """Returns one row per two values: these, and the columns of sensitivity.csv."""
+    rules = rules_of(found.project)
+    one, other = rules.hill
+    rows = [
+        {
+            "parameter": one.parameter,
+            "value": float(one.values[first]),
+            "second_parameter": other.parameter,
+            "second_value": float(other.values[second]),
+            **found.answers[case].row,
+        }
+        for (first, second), case in hill_cases(rules).items()
+    ]
+    return in_order(pd.DataFrame(rows))
+
+
+def notes(found: Sensitivity) -> list[str]:
+    """Returns a note with the case of the highest NPV, and whether it lies at the edge; none without a hill."""
+    rules = rules_of(found.project)
+    if not rules.hill:
+        return []
+    npvs = {place: float(found.answers[case].row["npv"]) for place, case in hill_cases(rules).items()}
+    top = max(npvs, key=npvs.__getitem__)
+    ends = [number in (0, len(axis.values) - 1) for number, axis in zip(top, rules.hill)]
+    where = " and ".join(f"{axis.parameter} = {axis.values[number]:,f}" for number, axis in zip(top, rules.hill))
+    said = [f"hill of value: highest NPV {npvs[top]:,.0f} {found.project.economics.currency} at {where}"]
+    wide = [axis.parameter for axis, is_end in zip(rules.hill, ends) if is_end]
+    more = f"hill of value: the highest NPV lies at the edge; values of {' and '.join(wide)} beyond may be better"
+    return [*said, *([more] if wide else [])]
+
+
+def grid(hill: pd.DataFrame) -> pd.DataFrame:
+    """Returns the NPVs: a row per value of the second parameter, a column per value of the first, both rising."""
+    return hill.pivot(index="second_value", columns="value", values="npv").sort_index().sort_index(axis=1)
+
+
+TABLE, RECORD = names.SENSITIVITY, names.SENSITIVITY_RECORD
+
+
+def record(found: Sensitivity, project: str) -> dict[str, Any]:
+    """Returns the record of all cases and of their solver; `project` is the path of the project relative to the folder."""
+    rules = rules_of(found.project)
+    return {
+        "project": project,
+        "title": found.project.title,
+        "solver": asdict(found.solver),
+        "inputs": hashes_of(found.project.named_inputs),
+        "grid": found.plan.record_of_grid(),
+        "revenue_factor": found.factor,
+        "skin": (skin := skin_of(found)),
+        "notes": [*found.plan.notes, told_of_skin(skin, found.project.economics.currency), *notes(found)],
+        "cases": [recorded(found, case) for case in cases_of(rules)],
+        **({"hill": [recorded(found, case) for case in hill_cases(rules).values()]} if rules.hill else {}),
+        "verified": [],
+    }
+
+
+def recorded(found: Sensitivity, case: Case) -> dict[str, Any]:
+    """Returns the record of a case."""
+    return {**case.as_json, "key": found.keys[case], "walls": found.answers[case].walls}
+
+
+def skin_of(found: Sensitivity) -> dict[str, Any]:
+    """Returns the skin of the base case's pit: revenue factor of the inner shell, tonnes, their share of the pit's, and cash flow."""
+    skin, row = found.answers[Case()].skin, found.answers[Case()].row
+    assert skin is not None
+    tonnes = float(found.plan.values.tonnes[skin.cells].sum())
+    return {
+        "revenue_factor": skin.factor,
+        "tonnes": tonnes,
+        "share": tonnes / row["tonnes"] if tonnes else 0.0,
+        "undiscounted_cash_flow": row[SKIN_WORTH],
+    }
+
+
+def told_of_skin(skin: dict[str, Any], currency: str) -> str:
+    where = (
+        f"beyond the shell of revenue factor {factor_text(skin['revenue_factor'])}"
+        if skin["revenue_factor"]
+        else "as a whole"
+    )
+    return f"pit skin, {100 * skin['share']:.1f} % of its tonnes, {where}: undiscounted cash flow {skin['undiscounted_cash_flow']:,.0f} {currency}".rstrip()

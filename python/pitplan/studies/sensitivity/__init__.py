@@ -1,1 +1,0 @@
-"""Sensitivity of the selected pit to prices, costs, recovery, slopes and capacities."""
