@@ -122,11 +122,11 @@ def write_hill(found: Sensitivity, stage: Path) -> None:
 
 def draw(found: Sensitivity, cases: pd.DataFrame, stage: Path) -> None:
     """Draws the tornado, the spider plot and the grids. It imports matplotlib itself."""
-    from pitplan.figures import sensitivity
+    from pitplan.figures import sensitivity as charts
     from pitplan.figures.style import also_as
 
     project = found.project
     with also_as(project.figures.formats if project.figures else ()):
-        sensitivity.write_all(cases, rules_of(project).pairs, project.economics.currency, stage)
+        charts.write_all(cases, rules_of(project).pairs, project.economics.currency, stage)
         if rules_of(project).hill:
-            sensitivity.write(sensitivity.hill_table(found), project.economics.currency, stage / names.HILL_FIGURE)
+            charts.write(sensitivity.hill_table(found), project.economics.currency, stage / names.HILL_FIGURE)
