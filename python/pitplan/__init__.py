@@ -62,24 +62,18 @@ if TYPE_CHECKING:
     from pitplan.solver.program import Solution
     from pitplan.studies.dask_pool import Where
     from pitplan.studies.scenarios.result import ScenarioResult
+    from planaudit import Rule
 
     from .api.block_model import BlockModel
     from .api.plan import Plan
     from .api.results import BlockSchedule, Pushbacks, PushbackSchedule, Shells
-    from .commands.audit import audit
-    from .commands.audited import Rule
-    from .commands.check import check
     from .commands.compare import Comparison, compare
-    from .commands.export import write_export
-    from .commands.pit import write_pit
-    from .commands.pushbacks import write_pushbacks
-    from .commands.report import write_report
+    from .commands.outputs import audit, view, write_export, write_report
+    from .commands.plans import check, write_pit, write_pushbacks, write_shells
     from .commands.scenarios import gather, write_scenarios
     from .commands.schedule import write_block_schedule, write_schedule
     from .commands.sensitivity import write_sensitivity
-    from .commands.shells import write_shells
-    from .commands.verify import verify
-    from .commands.view import view
+    from .commands.verification import verify
     from .commands.writing import Writing
     from .errors import BudgetUsedUp, InputWarning, MissingPackage, PlanError, PlanWarning, ProgramError, ResultWarning
     from .studies.scenarios.run import Request
@@ -104,20 +98,13 @@ MODULES = {
     "api.block_model": ("BlockModel",),
     "api.plan": ("Plan",),
     "api.results": ("BlockSchedule", "Pushbacks", "PushbackSchedule", "Shells"),
-    "commands.audit": ("audit",),
-    "commands.audited": ("Rule",),
-    "commands.check": ("check",),
     "commands.compare": ("Comparison", "compare"),
-    "commands.export": ("write_export",),
-    "commands.pit": ("write_pit",),
-    "commands.pushbacks": ("write_pushbacks",),
-    "commands.report": ("write_report",),
+    "commands.outputs": ("audit", "view", "write_export", "write_report"),
+    "commands.plans": ("check", "write_pit", "write_pushbacks", "write_shells"),
     "commands.scenarios": ("gather", "write_scenarios"),
     "commands.schedule": ("write_block_schedule", "write_schedule"),
     "commands.sensitivity": ("write_sensitivity",),
-    "commands.shells": ("write_shells",),
-    "commands.verify": ("verify",),
-    "commands.view": ("view",),
+    "commands.verification": ("Rule", "verify"),
     "commands.writing": ("Writing",),
     "config.project": ("Project", "load"),
     "errors": (
@@ -127,7 +114,7 @@ MODULES = {
     "results.pit_states": ("Shape",),
     "solver.program": ("Solution",),
     "studies.dask_pool": ("Where",),
-    "studies.scenarios.request": ("Request",),
+    "studies.scenarios.run": ("Request",),
     "studies.scenarios.result": ("ScenarioResult",),
 }
 PLACES = {name: module for module, names in MODULES.items() for name in names}

@@ -6,7 +6,7 @@ from conftest import rows
 import pitplan
 from pitplan import PlanError, load
 from pitplan.cli import main
-from pitplan.commands.prepare import write_plan
+from pitplan.commands.plans import write_plan
 
 ORE = {"cu": lambda i, j, k: {(3, 3, 1): 6, (4, 3, 1): 2.5, (3, 4, 0): 9}.get((i, j, k), 0)}
 

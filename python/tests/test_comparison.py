@@ -13,7 +13,7 @@ from helpers.pushbacks import PUSHBACKS, pillars
 import pitplan
 from pitplan import PlanError
 from pitplan.cli import main
-from pitplan.commands import shells
+from pitplan.commands import plans
 from pitplan.core.atomic_files import hash_of
 from pitplan.figures import comparison as figures
 from pitplan.studies.comparison import Change, changes, names_of
@@ -64,7 +64,7 @@ def test_each_step_of_a_bridge_is_a_run_with_the_changes_so_far(run):
 def test_a_step_that_differs_from_its_recalculation_is_refused(run, monkeypatch):
     """A shell table with another NPV in the step between; without verification it would be in the bridge."""
     base, other = run("base"), run("other", CHEAP, DEAR)
-    write = shells.write_shells
+    write = plans.write_shells
 
     def bent(project, folder, writing):
         write(project, folder, writing)
@@ -76,7 +76,7 @@ def test_a_step_that_differs_from_its_recalculation_is_refused(run, monkeypatch)
         record["files"]["tables/shells.csv"] = hash_of(path)
         (Path(folder) / "plan.json").write_text(json.dumps(record))
 
-    monkeypatch.setattr(shells, "write_shells", bent)
+    monkeypatch.setattr(plans, "write_shells", bent)
     with pytest.raises(PlanError, match="verification failed|differ"):
         pitplan.compare([base, other], writing=replace(PLAIN, verifies=True))
     assert not (base.parent / "comparison").exists()

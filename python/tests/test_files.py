@@ -20,7 +20,7 @@ import pitplan
 from pitplan import BudgetUsedUp, PlanError, ProgramError, load
 from pitplan.cli import main
 from pitplan.commands import drawing
-from pitplan.commands.prepare import write_plan
+from pitplan.commands.plans import write_plan
 from pitplan.commands.writing import CURVE_PICTURES, GEOLOGY_PICTURES, PICTURES
 from pitplan.core import cell_outlines, libraries
 from pitplan.core.atomic_files import hash_of, write_json

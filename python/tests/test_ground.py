@@ -240,7 +240,7 @@ def test_a_year_by_whose_end_nothing_is_dug_has_no_body_and_is_told(folder, monk
     pytest.importorskip("vtk")
     result = read_folder(folder)
     later = replace(result, blocks=result.blocks.assign(year=np.where(result.blocks["year"] > 0, 2, 0)))
-    monkeypatch.setattr("pitplan.commands.export.read_folder", lambda path: later)
+    monkeypatch.setattr("pitplan.commands.outputs.read_folder", lambda path: later)
     target = pitplan.write_export(folder, "obj", shape=Shape("year"))
     assert [path.name for path in target.iterdir()] == ["year-2.obj"]
 

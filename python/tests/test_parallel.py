@@ -15,8 +15,8 @@ from helpers.pushbacks import UPRIGHT, pillars
 import pitplan
 from pitplan import MissingPackage, PlanError, ProgramError, Writing, load
 from pitplan.blockmodel import reader
-from pitplan.commands import audit_process
-from pitplan.commands.audit_process import AuditProcess
+from pitplan.commands import verification
+from pitplan.commands.verification import AuditProcess
 from pitplan.core import paths, processes
 from pitplan.core.processes import each_done, run_all
 from planaudit import AuditError, PackageError
@@ -160,8 +160,8 @@ def test_cases_in_processes_are_those_of_one(plan_folder, monkeypatch):
 def apart(monkeypatch):
     """Runs are verified in a process of its own; gives the processes."""
     started, begin = [], AuditProcess.begin
-    monkeypatch.setattr(audit_process, "APART", 1)
-    monkeypatch.setattr(audit_process, "cores", lambda: 2)
+    monkeypatch.setattr(verification, "APART", 1)
+    monkeypatch.setattr(verification, "cores", lambda: 2)
     monkeypatch.setattr(AuditProcess, "begin", lambda self: started.append(self.child) or begin(self))
     return started
 
@@ -175,7 +175,7 @@ def test_a_process_of_its_own_verifies_the_same(plan_folder, monkeypatch, apart)
     pitplan.write_shells(project, project.folder / "apart")
     pitplan.Plan.from_project(project).shells().write(project.folder / "object")
     assert len(apart) == 2 and all(child.returncode == 0 for child in apart)
-    monkeypatch.setattr(audit_process, "APART", 100)
+    monkeypatch.setattr(verification, "APART", 100)
     pitplan.write_shells(project, project.folder / "within")
     found = recorded(project.folder / "within")
     assert len(apart) == 2 and len(found) > 8

@@ -21,9 +21,9 @@ import pitplan
 from pitplan import MissingPackage, PlanError, ProgramError, Request, load
 from pitplan.cli import main
 from pitplan.cli.parser import parser
-from pitplan.commands import scenario_files
+from pitplan.commands import scenarios
 from pitplan.core.progress import Progress
-from pitplan.figures import scenarios
+from pitplan.figures import scenarios as maps
 from pitplan.studies import dask_pool
 from pitplan.studies.scenarios import pit_probability, run, store, worker
 
@@ -309,7 +309,7 @@ def test_some_answers_are_gathered_on_request_alone(plan_folder, with_blank_figu
     assert (
         blocks["name"].tolist() == ["b0-0-2", "b0-0-1", "b0-0-0"] and blocks["probability_1.50"].tolist() == [0.5] * 3
     )
-    for name in scenario_files.PICTURES.values():
+    for name in scenarios.PICTURES.values():
         assert (shared.folder / name).is_file()
     with pytest.raises(PlanError, match="revenue factor 0.70 is not among the revenue factors 0.50, 1.00, 1.50"):
         pitplan.gather(shared.folder, Request(revenue_factor=0.7))
@@ -323,7 +323,7 @@ def test_pictures_of_scenarios_are_those_that_the_project_asks_for(plan_folder, 
     solved_in_turn(shared)
     monkeypatch.setattr(scenarios, "write_sections", lambda likely, path: None)
     pitplan.gather(shared.folder)
-    assert scenarios.levels_to_show(shown[0]) == [2]
+    assert maps.levels_to_show(shown[0]) == [2]
     assert (
         b"<svg" in (shared.folder / "figures/spread.svg").read_bytes()[:500]
         and (shared.folder / "figures/spread.png").is_file()
@@ -341,7 +341,7 @@ def test_the_image_has_the_probabilities_of_all_cells(plan_folder):
     vtk = pytest.importorskip("vtk", reason="needs the Debian package python3-vtk9")
     shared = prepared(plan_folder(pillar(), COLUMNS, UPRIGHT))
     gathered = solved_in_turn(shared)
-    assert scenario_files.write_image(shared, gathered, shared.folder) == []
+    assert scenarios.write_image(shared, gathered, shared.folder) == []
     reader = vtk.vtkXMLImageDataReader()
     reader.SetFileName(str(shared.folder / "probability.vti"))
     reader.Update()

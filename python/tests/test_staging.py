@@ -13,7 +13,7 @@ from conftest import PROJECT, files_in, rows
 import pitplan
 from pitplan import PlanError, Request, Shape
 from pitplan.cli import main
-from pitplan.commands.prepare import write_plan
+from pitplan.commands.plans import write_plan
 from pitplan.core import atomic_files, staging
 from pitplan.export import registry
 from pitplan.results.folder import read_record

@@ -18,7 +18,7 @@ import pitplan
 from pitplan import Plan, PlanError, constraints, load, verify
 from pitplan.blockmodel import grid as grids, missing_blocks, reader
 from pitplan.cli import main
-from pitplan.commands.audited import demand
+from pitplan.commands.verification import demand
 from pitplan.economics import weighing
 from pitplan.pits import best_worst_case
 from pitplan.results.folder import read_record

@@ -81,7 +81,8 @@ def doctor(options: Namespace) -> int:
 
 
 def check(options: Namespace) -> int:
-    from ..commands.check import check as check_project
+    from pitplan.commands.plans import check as check_project
+
     from .printing import print_notes
 
     project = project_of(options)
@@ -91,7 +92,8 @@ def check(options: Namespace) -> int:
 
 
 def prepare(options: Namespace) -> int:
-    from ..commands.prepare import write_plan
+    from pitplan.commands.plans import write_plan
+
     from .printing import print_notes
 
     project = project_of(options)
@@ -102,9 +104,9 @@ def prepare(options: Namespace) -> int:
 
 
 def shells(options: Namespace) -> int:
+    from pitplan.commands.plans import write_shells
     from pitplan.report.columns import OF_SHELLS
 
-    from ..commands.shells import write_shells
     from .printing import print_answer
 
     project = project_of(options)
@@ -115,10 +117,10 @@ def shells(options: Namespace) -> int:
 
 
 def pit(options: Namespace) -> int:
+    from pitplan.commands.plans import write_pit
     from pitplan.report.columns import OF_SHELLS, cells_of
     from pitplan.results.folder import read_record
 
-    from ..commands.pit import write_pit
     from ..results import names
     from .printing import print_json, print_notes, print_table
 
@@ -137,9 +139,9 @@ def pit(options: Namespace) -> int:
 
 
 def pushbacks(options: Namespace) -> int:
+    from pitplan.commands.plans import write_pushbacks
     from pitplan.report.columns import OF_PUSHBACKS
 
-    from ..commands.pushbacks import write_pushbacks
     from .printing import print_answer
 
     project = project_of(options)
@@ -237,7 +239,7 @@ def print_scenarios(result: ScenarioResult) -> int:
 
 
 def scenario(options: Namespace) -> int:
-    from ..commands.scenario import solve_scenario
+    from pitplan.commands.scenarios import solve_scenario
 
     outcome = solve_scenario(options.folder, options.number)
     if outcome.why:
@@ -246,23 +248,23 @@ def scenario(options: Namespace) -> int:
 
 
 def report(options: Namespace) -> int:
-    from ..commands.report import write_report
+    from pitplan.commands.outputs import write_report
 
     print(write_report(options.folder, options.sensitivity, progress_of(options)))
     return 0
 
 
 def view(options: Namespace) -> int:
-    from ..commands.view import view as write_view
+    from pitplan.commands.outputs import view as write_view
 
     print(write_view(options.folder, progress_of(options), options.out))
     return 0
 
 
 def export(options: Namespace) -> int:
+    from pitplan.commands.outputs import write_export
     from pitplan.results.pit_states import Shape
 
-    from ..commands.export import write_export
     from .printing import print_path
 
     shape = Shape(options.of, options.surface, options.smooth, options.revenue_factor)
@@ -271,7 +273,8 @@ def export(options: Namespace) -> int:
 
 
 def audit(options: Namespace) -> int:
-    from ..commands.audit import audit as write_audit
+    from pitplan.commands.outputs import audit as write_audit
+
     from .printing import print_path
 
     print_path(write_audit(options.folder, options.revenue_factor, progress_of(options), options.out))
@@ -280,10 +283,8 @@ def audit(options: Namespace) -> int:
 
 def verify(options: Namespace) -> int:
     """Prints a line for each rule that holds, and the verdict. Raises PlanError if one does not."""
+    from pitplan.commands.verification import demand, verify as recalculate
     from planaudit.rules import as_lines
-
-    from ..commands.audited import demand
-    from ..commands.verify import verify as recalculate
 
     rules = recalculate(options.folder)
     demand(rules)

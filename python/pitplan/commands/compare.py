@@ -19,9 +19,9 @@ from pitplan.results import names
 from pitplan.results.rounding import shown
 from pitplan.studies import comparison
 from pitplan.studies.comparison import SCHEDULE, SHELLS, Run, Step, bridge, read_runs
+from planaudit import Rule
 
-from .audited import Rule, demand
-from .verify import verify
+from .verification import demand, verify
 from .writing import Place, Writing
 
 
@@ -124,8 +124,8 @@ class Runs:
 
     def npv(self, project: Project) -> float:
         """Returns the NPV of a run of a project. Raises PlanError if it has no plan."""
+        from .plans import write_shells
         from .schedule import write_block_schedule, write_schedule
-        from .shells import write_shells
 
         writers: dict[str, Callable[..., Any]] = {SHELLS: write_shells, SCHEDULE: write_schedule}
         by = writers.get(self.kind, write_block_schedule)

@@ -21,7 +21,7 @@ from pitplan.studies import sensitivity
 from pitplan.studies.dask_pool import Where
 from pitplan.studies.sensitivity import RECORD, TABLE, Case, Sensitivity, rules_of
 
-from .audited import verified
+from .verification import verified
 from .writing import Place, Source, Writing, demand_apart, in_all_formats, read
 
 

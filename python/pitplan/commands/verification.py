@@ -1,19 +1,147 @@
-"""The independent verification of a run while it draws and writes."""
+"""The independent verification of what commands write, by the package `planaudit`: of a large model in a process of its own, which reads the planner's table while the run solves."""
 
 from __future__ import annotations
 
+import json
 import os
-from collections.abc import Iterator
-from contextlib import contextmanager
+import subprocess
+import sys
+from collections.abc import Callable, Iterator
+from contextlib import contextmanager, suppress
+from pathlib import Path
+from typing import TYPE_CHECKING, Union
 
 import planaudit
+from pitplan.core import paths
 from pitplan.core.atomic_files import write_json
+from pitplan.core.processes import cores
+from pitplan.core.progress import Progress
 from pitplan.results import names
+from planaudit import AuditError, PackageError, Rule
 
+from ..errors import MissingPackage, PlanError
 from ..plan import Plan
-from .audit_process import AuditProcess, is_apart
-from .audited import verified
-from .writing import Run
+
+if TYPE_CHECKING:
+    from .writing import Run
+
+__all__ = ["Rule", "as_plan_errors", "demand", "verified"]
+
+
+@contextmanager
+def as_plan_errors() -> Iterator[None]:
+    """Raises PlanError in place of an error of the audit, and MissingPackage if it lacks a package."""
+    try:
+        yield
+    except PackageError as error:
+        raise MissingPackage(error.text, error.details) from error
+    except AuditError as error:
+        raise PlanError(error.text, error.details) from error
+
+
+def demand(rules: list[Rule]) -> None:
+    """Raises PlanError with the first differences, if there are any."""
+    with as_plan_errors():
+        planaudit.demand(rules)
+
+
+def verified(check: Callable[[], list[Rule]], progress: Progress) -> list[str]:
+    """Recalculates results independently.
+
+    Returns
+    -------
+    list of str
+        The rules that hold, each with its name.
+
+    Raises
+    ------
+    PlanError
+        If a result differs.
+    """
+    with progress.step("verifying"), as_plan_errors():
+        rules = check()
+        planaudit.demand(rules)
+    return [f"{rule.name}: {rule.holds}" for rule in rules]
+
+
+# A model of this number of blocks takes longer to verify than another process takes to start.
+APART = 100_000
+
+
+def is_apart(blocks: int) -> bool:
+    """Returns whether a model of this number of blocks is verified in a process of its own."""
+    return blocks >= APART and cores() > 1
+
+
+class AuditProcess:
+    """A process that reads the project and the table of a run, and verifies its results when they are staged.
+
+    Parameters
+    ----------
+    stage : Path
+        The folder in which the files of the run are staged; it holds the project as it is run.
+    """
+
+    def __init__(self, stage: Path) -> None:
+        words = [sys.executable, "-P", "-m", "planaudit", "--json", "--wait", "--final", str(stage.parent), str(stage)]
+        beside = os.pathsep.join([str(paths.PACKAGES), *filter(None, [os.environ.get("PYTHONPATH")])])
+        # A session of its own, so that an interruption from the keyboard reaches this process alone, which ends the other.
+        self.child = subprocess.Popen(
+            words,
+            stdin=subprocess.PIPE,
+            stdout=subprocess.PIPE,
+            stderr=subprocess.PIPE,
+            text=True,
+            env={**os.environ, "PYTHONPATH": beside},
+            start_new_session=True,
+        )
+
+    def begin(self) -> None:
+        """Lets it verify what is staged."""
+        assert self.child.stdin is not None
+        # One that has ended says why in its last words.
+        with suppress(OSError):
+            self.child.stdin.write("\n")
+            self.child.stdin.flush()
+
+    def rules(self) -> list[Rule]:
+        """Waits for its end and returns the rules.
+
+        Raises
+        ------
+        AuditError
+            As `planaudit.verify` does.
+        PlanError
+            If it ends without a result.
+        """
+        printed, said = self.child.communicate()
+        try:
+            found = json.loads(printed)
+        except ValueError as error:
+            last = (said.strip().splitlines() or ["nothing on standard error"])[-1]
+            why = f"the verification ended with status {self.child.returncode}: {last}"
+            raise PlanError(f"{why}: free some memory, or leave it out with --no-verify") from error
+        if "error" in found:
+            raise (PackageError if found["package"] else AuditError)(found["error"], found["details"])
+        return [Rule(it["name"], it["holds"], tuple(it["differences"]), it["count"]) for it in found["rules"]]
+
+    def end(self) -> None:
+        """Ends it, unless it has ended."""
+        self.child.kill()
+        # Pipes that are closed already cannot be read.
+        with suppress(ValueError):
+            self.child.communicate()
+
+
+@contextmanager
+def reading_ahead(stage: Path, is_wanted: bool) -> Iterator[list[AuditProcess]]:
+    """Yields a list with the process that reads ahead, or without one, and ends it after the body."""
+    started = [AuditProcess(stage)] if is_wanted else []
+    try:
+        yield started
+    finally:
+        for it in started:
+            it.end()
 
 
 @contextmanager
@@ -45,3 +173,20 @@ def verifying(plan: Plan, run: Run) -> Iterator[None]:
         record["verified"] = verified(process.rules, run.writing.progress)
     finally:
         process.end()
+
+
+def verify(folder: Union[str, Path]) -> list[Rule]:
+    """Recalculates every number of a folder of shells, of a pit, of a sensitivity or of scenarios independently.
+
+    Returns
+    -------
+    list of Rule
+        Each with the words of the rule in `holds`, the first ten places that differ in `differences`, and their number in `count`.
+
+    Raises
+    ------
+    PlanError
+        If the folder has no answer, or the table has changed since the run.
+    """
+    with as_plan_errors():
+        return planaudit.verify_folder(Path(folder))

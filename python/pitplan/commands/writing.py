@@ -27,7 +27,7 @@ from pitplan.solver.problem import Mine
 
 from ..errors import InputWarning, PlanError, ResultWarning
 from ..plan import Plan, prepared
-from .audit_process import AuditProcess, is_apart, reading_ahead
+from .verification import AuditProcess, is_apart, reading_ahead
 
 # A project, or the path of its project.toml; and a folder.
 Source = Union[str, Path, Project]
