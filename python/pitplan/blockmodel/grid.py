@@ -1,4 +1,4 @@
-"""The axes of a grid: those of the planner's coordinates, or those of a rotated grid."""
+"""A table of blocks as a regular grid. Cells are numbered from the top level down, row by row from the south-west."""
 
 from __future__ import annotations
 
@@ -65,6 +65,13 @@ class Frame:
         east, north = (f"{round(angle % 360, 4):.10g}" for angle in (self.azimuth + 90, self.azimuth))
         return f"along azimuth {east}\N{DEGREE SIGN}", f"along azimuth {north}\N{DEGREE SIGN}"
 
+
+# Grids that are turned about the vertical: how far, told by the blocks' centres, and each row's place along the
+# grid's own axes.
+#
+# The first guess is the direction from centres to their nearest neighbours. From one centre on, places of wider and
+# wider circles are then counted along the axes, and the axes fitted to these by least squares: so the count stays
+# right as far as the model goes.
 
 # So many centres tell the first guess, each by so many neighbours; their directions are so much alike, 1 being the same.
 CENTRES, NEIGHBOURS, ALIKE = 2_000, 25, 0.99

@@ -1,6 +1,6 @@
-"""Cost adjustment factors of blocks: MCAF multiplies the mining cost, PCAF the processing cost.
+"""Reads the table of blocks from a file or from pandas, and checks it completely.
 
-A block with tonnes needs a factor from 0; an empty field is an error. A block without tonnes costs nothing, so an empty field is 1 there.
+Rows are counted as in a spreadsheet: if the header is row 1, the first block is row 2.
 """
 
 from __future__ import annotations
@@ -51,6 +51,11 @@ from .table_checks import (
     text_columns,
     untyped_columns,
 )
+
+# Cost adjustment factors of blocks: MCAF multiplies the mining cost, PCAF the processing cost.
+#
+# A block with tonnes needs a factor from 0; an empty field is an error. A block without tonnes costs nothing, so an
+# empty field is 1 there.
 
 # The factor of a block whose cost is not adjusted.
 UNADJUSTED = 1.0

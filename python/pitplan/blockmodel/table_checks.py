@@ -1,4 +1,4 @@
-"""The columns that a project names: those of its blocks, and those of the file from which these follow."""
+"""Checks of a table's fields: what no block may have is an error that names the row, the column and the remedy."""
 
 from __future__ import annotations
 

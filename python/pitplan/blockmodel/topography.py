@@ -20,6 +20,13 @@ from pitplan.survey.readers import Box, Topography
 from .cell_volumes import TONNES_PLACES
 from .grid import Grid, metres
 
+# A topography as triangles over the columns of a grid: its height at their middles, and how much of each block lies
+# below it.
+#
+# The share of a block is exact for these triangles. Each is cut to the columns that it comes over, and over what is
+# left of it, where its height goes linearly, the volume above an elevation has a closed form; a block has what lies
+# above its floor without what lies above its top.
+
 # Triangles over columns that are in memory at once.
 PAIRS = 100_000
 # Shares of a triangle, and blocks, by which sums of floats are off.
@@ -208,6 +215,12 @@ def beside(places: np.ndarray, grid: Grid) -> str:
     )
 
 
+# Blocks that the ground cuts: of each the tonnes below a topography are kept, exactly for its triangles, and its
+# grades stay.
+#
+# Blocks are cut as the grid has them, those that are put together as a whole, and those that stand for cells without
+# rows too. What lies wholly above is air, of 0 tonnes.
+
 # Of a grid the shape, the origin, the size and the azimuth.
 GridBox = tuple[tuple[int, int, int], tuple[float, float, float], tuple[float, float, float], float]
 # By so much of its plan a column of blocks may be covered twice, or not at all, without a word.
@@ -291,6 +304,13 @@ def doubts(found: Below, grid: Grid) -> list[str]:
         if some.any()
     ]
 
+
+# Depletion by an as-mined surface: of each block the tonnes that remain, and which blocks are mined.
+#
+# The mined volume lies between the original topography and the as-mined surface. A block has the share of its tonnes
+# that lies below both, exactly for their triangles. It counts as mined if at least MINED of its volume is, since two
+# surveys of the same ground differ by a few decimetres. Where the project says that the model's own blocks are the
+# original ground, a block with its centre above the surface is mined as a whole, and every other block is whole.
 
 # The share of a block's volume from which on it counts as mined.
 MINED = 0.05

@@ -1,4 +1,7 @@
-"""Options that several subcommands share, and the values that they take."""
+"""The arguments of `pitplan` and of each subcommand.
+
+Words that other modules define stand here too, so that help needs none of these modules; tests compare them.
+"""
 
 from __future__ import annotations
 

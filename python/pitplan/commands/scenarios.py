@@ -1,4 +1,4 @@
-"""`pitplan scenario`: one scenario of a folder, for the lists of jobs of Slurm and GNU parallel."""
+"""`pitplan scenarios` and `gather`: pits or schedules of simulated models at several prices."""
 
 from __future__ import annotations
 

@@ -1,4 +1,4 @@
-"""Optional libraries, each named with its Debian package where it is missing."""
+"""The libraries of Python that pitplan uses, with their Debian packages."""
 
 from __future__ import annotations
 

@@ -32,6 +32,17 @@ from .libraries import is_of
 from .numeric_fields import header_row_of, without_truths
 from .processes import cores
 
+# Recognises how a text holds a table: what wrote it, its separator, its decimal mark, its header lines and its first
+# row.
+#
+#     Surpac Block Model Export        a preamble
+#     block model: pit.mdl
+#     Y,X,Z,au,sg                      the names: `header_row`
+#     m,m,m,g/t,t/m3                   a further header line
+#     100,200,10,0.5,2.7               the first row: `first_row`
+#
+# Lines are counted from 1.
+
 SEPARATORS = (",", ";", "\t", "|")
 # Columns that runs of blanks separate are sought last, since names and codes contain blanks.
 BLANKS = " "
@@ -583,6 +594,13 @@ def of_header(source: str) -> str:
     row = header_row_of(source)
     return f" row {row}" if row else ""
 
+
+# Reads plain tables in parts by several threads, with the fields that `text_tables` reads by one.
+#
+# A plain table is ASCII text without quotes and blanks, so that each line is a row. Its decimal numbers have at most
+# 15 characters without sign and exponent: the digits are a whole number that a float holds. pandas' faster conversion
+# multiplies or divides this once by a power of ten. Up to 10^22 a float holds this power too, so that the result is
+# rounded once, as the standard sets it.
 
 # Bytes of a table that several threads read in less time than one, and of the part that a thread reads at a time.
 LEAST, PART = 1 << 24, 1 << 23

@@ -1,9 +1,14 @@
-"""Several processes: the one that each block is sent to at each revenue factor, as nodes that never count a block twice.
+"""Economic block values: revenue and cost of each node of the solver.
 
-At a revenue factor a block is sent to the process with the greatest `factor * revenue - cost`, or to waste: the upper envelope of lines in the
-factor. The envelope is a sum of steps: from waste to the first process that pays as the factor rises, and from each process to the next
-better one. So a block has a node for each step, with the revenue and cost that the step adds, which depends on the node of the step before.
-The solver takes as many steps as pay, which add up to one process. Each step pays from its own factor on, so shells nest.
+The first node of a block is mining it: a cost without revenue. A mineralised block has a second node for processing, with the revenue of its
+metal and the cost of processing and selling, which depends on the first. So the solver processes a mined block exactly if that pays at the
+revenue factor: the cut-off is re-evaluated at each. With a fixed cut-off a block has one node, and ore is selected at the base price.
+
+Of a block that is processed, a share is lost in mining, and the rest is diluted with rock at zero grade. The result is the mill feed, to
+which processing costs, head grades and capacities refer. The diluting rock belongs to other blocks, so total material stays as in the
+table. A royalty on revenue is subtracted from it, so it scales with the price.
+
+A block whose resource class is treated as waste has no revenue and no metal.
 """
 
 from __future__ import annotations
@@ -26,6 +31,16 @@ from pitplan.errors import PlanError
 
 from .smelter_terms import charge, net, payable_share
 from .weighing import HIGH_GRADES, Feed, Hauled, Rows, Way, accepted_by
+
+
+# Several processes: the one that each block is sent to at each revenue factor, as nodes that never count a block
+# twice.
+#
+# At a revenue factor a block is sent to the process with the greatest `factor * revenue - cost`, or to waste: the
+# upper envelope of lines in the factor. The envelope is a sum of steps: from waste to the first process that pays as
+# the factor rises, and from each process to the next better one. So a block has a node for each step, with the
+# revenue and cost that the step adds, which depends on the node of the step before. The solver takes as many steps as
+# pay, which add up to one process. Each step pays from its own factor on, so shells nest.
 
 
 @dataclass(frozen=True)

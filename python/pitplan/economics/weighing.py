@@ -1,4 +1,4 @@
-"""Metallurgical recovery by head grade."""
+"""Rows of a block model valued in the currency: mill feed, recovered metal, revenue and cost in each process."""
 
 from __future__ import annotations
 
@@ -108,6 +108,17 @@ def accepted_by(accepts: Accepts, frame: pd.DataFrame, project: Project) -> NDAr
         found &= values <= (np.inf if grade.max is None else grade.max)
     return found
 
+
+# Haul distances and costs.
+#
+# The haul road of a block is the horizontal distance from its centroid to the pit exit, plus a ramp for the rise from
+# the floor of its bench to the exit, up or down. The horizontal length of the ramp is the rise divided by the
+# gradient (Hustrulid, Kuchta and Martin, Open Pit Mine Planning and Design, 3rd edition, 2013, on haulage roads). A
+# road that approaches the exit while it climbs is shorter, at least as long as the longer of the two parts. Benches,
+# road widths and curves are ignored: these are costs for a pit without a road design.
+#
+# All material is hauled as waste. Mill feed costs more or less than waste along the same road; the difference is part
+# of the processing cost.
 
 # Lengths are kept to a millimetre, elevations of floors to a micrometre.
 LENGTH_PLACES, ELEVATION_PLACES = 3, 6

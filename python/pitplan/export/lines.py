@@ -21,6 +21,11 @@ from pitplan.results.pit_states import FACTOR, GROUND, Shape, Stage, places_of, 
 
 from . import mesh
 
+# Toes and crests of benches, as closed lines in metres.
+#
+# The faces of blocks are vertical. So the toe at the floor of a bench and the crest at its top have one outline, that
+# of the mined blocks.
+
 TOE, CREST = "toe", "crest"
 
 

@@ -14,6 +14,12 @@ from pitplan.errors import PlanError
 from pitplan.results.folder import Folder
 from pitplan.results.pit_states import FACTOR, GROUND, Shape, Stage, places_of, rock, stages_of
 
+# The topography with a pit in it, as an open triangle mesh: the tops of the remaining blocks, and the faces between
+# them.
+#
+# The mesh has no lid over the pit, no walls at the sides of the model, and no faces where the table has no rock.
+# Smoothing moves each corner by at most half a block along each axis.
+
 # Relative difference that is allowed between the volume under the mesh and that of the cells.
 TOLERANCE = 1e-3
 NONE = -1

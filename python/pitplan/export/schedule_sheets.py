@@ -409,6 +409,9 @@ def units_of(metal: Metal) -> str:
     return f"{GRAMS[metal.quantity]}/{GRAMS[metal.price_unit]}"
 
 
+# The sheet `reserves` of a schedule's workbook: mill feed by pushback, if there are any, and resource class, and by
+# period, as sums of the sheet `inventory`.
+
 RESERVES_SHEET, INVENTORY = "reserves", "inventory"
 ORE, NOT_RESERVE = "ore", "not_reserve"
 # Blocks without a class.

@@ -1,8 +1,15 @@
-"""The best destinations of ore within a year: to processes of limited capacity, or to waste.
+"""Pit-by-pit analysis: when a pit is mined and when its cash flows, by the yearly mining and processing capacities.
 
-Parcels of ore are shipped to processes as in a transportation problem: each tonne earns its net value where it goes, and no process takes more
-than its capacity. The method is that of successive shortest paths (Ahuja, Magnanti and Orlin, Network Flows, 1993, section 9.7): all ore
-starts at its best destination, and what is above a capacity moves on by the paths that lose least. All years are solved side by side.
+Mining goes bench by bench. The best case mines shell by shell, by rising factor, and within each shell bench by bench from the top; the
+worst case mines the whole pit bench by bench; the specified case mines given pushbacks, each some benches behind the one before. The pieces,
+one after the other, are a shell's or pushback's part of a bench, or a bench of the pit.
+
+Within a year all capacities apply together: a bench of waste does not wait for the mill while mining capacity is left. A year ends in the
+piece that needs a capacity which is used up; its total material, ore, metal and cash are cut there in proportion. The last year is as long
+as the share of its most used capacity.
+
+Ore goes where it earns most in its year, within the capacities (`destinations`). With several processes the mine may wait for each of them
+or not (`ore_kinds`); each shell has the NPV of what is best for it.
 """
 
 from __future__ import annotations
@@ -28,6 +35,14 @@ from .ore_kinds import OreKinds, Wait, with_mining
 STRICT_HAIR = 1e-12
 Floats = NDArray[np.float64]
 Ints = NDArray[np.int64]
+
+
+# The best destinations of ore within a year: to processes of limited capacity, or to waste.
+#
+# Parcels of ore are shipped to processes as in a transportation problem: each tonne earns its net value where it
+# goes, and no process takes more than its capacity. The method is that of successive shortest paths (Ahuja, Magnanti
+# and Orlin, Network Flows, 1993, section 9.7): all ore starts at its best destination, and what is above a capacity
+# moves on by the paths that lose least. All years are solved side by side.
 
 
 def best_shares(feed: Floats, gain: Floats, takes: NDArray[np.bool_], capacity: Floats) -> Floats:

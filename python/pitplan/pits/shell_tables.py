@@ -1,4 +1,7 @@
-"""The cost of rock as waste in the cheapest of the dumps that accept it."""
+"""Tables of shells, blocks and years. Money is at the base price (revenue factor 1.0), except `value_at_revenue_factor` and yearly prices.
+
+`best_worst_case` schedules the shells and discounts their cash flows.
+"""
 
 from __future__ import annotations
 

@@ -1,4 +1,4 @@
-"""Search for the revenue factors at which nested shells hold given tonnages."""
+"""The skin of a pit: the outermost shell increments, which earn least per tonne and are least certain."""
 
 from __future__ import annotations
 

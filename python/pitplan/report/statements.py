@@ -1,4 +1,4 @@
-"""Written tables and pictures as parts of the page: each number with the cell that it is."""
+"""The parts of the page that finance and a Competent Person read: cash flow by line, valuation, and ore by resource class."""
 
 from __future__ import annotations
 

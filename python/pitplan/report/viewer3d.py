@@ -1,4 +1,8 @@
-"""Colours of the 3D page by category: rock type, domain and class as in the block model, and the destination of each block."""
+"""The shells in 3D: one HTML page with three.js and the model in it, to rotate, to cut by planes, and to pick blocks from.
+
+The page holds a byte per cell for each property that it colours by, and the rows of the table, all compressed. It finds the visible faces
+itself. For pushbacks and schedules it shows the topography after each stage.
+"""
 
 from __future__ import annotations
 

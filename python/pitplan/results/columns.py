@@ -1,4 +1,10 @@
-"""Columns that several written tables have."""
+"""The columns of all written tables: unit, decimals in files, and how they are shown.
+
+Everything that depends on a column takes it from here: rounding (`results.rounding`), the headings of report and command line
+(`report.columns`), the number formats of workbooks (`export.xlsx`) and the tables of docs/FORMATS.md (`tools/columns_page.py`).
+
+In a name, a word in capitals stands for others: recovered_METAL is recovered_copper and recovered_gold.
+"""
 
 from __future__ import annotations
 

@@ -1,8 +1,4 @@
-"""Records (.json) as they are read back: each part is of the kind that whatever reads it takes for granted, or the record is refused.
-
-A kind is a `Kind`; or a list of one kind, for a list of any length; or a tuple of kinds, for a list of that length; or a dictionary of
-kinds by key, for a table that has every key that is not `Lacking`. The key "*" means each key.
-"""
+"""A results folder, read back with the hashes of its files."""
 
 from __future__ import annotations
 
@@ -25,6 +21,12 @@ from pitplan.core.revenue_factors import is_factor, with_exact_factors
 from pitplan.errors import PlanError
 
 from .names import RECORD, TABLE
+
+# Records (.json) as they are read back: each part is of the kind that whatever reads it takes for granted, or the
+# record is refused.
+#
+# A kind is a `Kind`; or a list of one kind, for a list of any length; or a tuple of kinds, for a list of that length;
+# or a dictionary of kinds by key, for a table that has every key that is not `Lacking`. The key "*" means each key.
 
 # Cells that a grid may have along an axis and in all.
 MOST_ALONG, MOST_CELLS = 10**6, 64 * 10**6

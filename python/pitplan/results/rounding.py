@@ -1,4 +1,4 @@
-"""Text columns that name the conventions of a written table: how cash is discounted, and whether rows describe shells or pushbacks."""
+"""Rounds tables for their files, and adds the convention of discounting."""
 
 from __future__ import annotations
 

@@ -95,6 +95,9 @@ def stock_of(project: Project, rules: ScheduleRules) -> dict[str, tuple[tuple[fl
     return found
 
 
+# Limits on head grades and on shares of codes in feed, by process and period: an amount, at most 0, for each side and
+# each value that applies in some period.
+
 GRADE = "grade_"
 # Before the grade in the name of an amount that does not apply in all periods.
 AT = "@"

@@ -1,4 +1,4 @@
-"""The years near those in which an optimum mines each bench."""
+"""A yearly schedule of a pit's pushbacks by several methods, with an upper bound on the NPV of all of them."""
 
 from __future__ import annotations
 

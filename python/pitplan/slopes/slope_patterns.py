@@ -1,9 +1,7 @@
-"""Slope cones as boolean templates, and the smallest arc set whose transitive closure is the cone.
+"""Slope angles as precedences: which blocks above a block must be mined before it.
 
-A template has shape (levels, rows, columns): levels up from that of the block, rows from the south, columns from the west, with the block in
-the middle of each level. A block depends on every cell of the cone of its own slopes. An arc is left out if a predecessor between the two
-implies it: a lower block that lies between them in east and in north. Such a block is in the grid if both ends are, so that no implication is
-lost at the sides of the grid.
+A block depends on the blocks above it whose centroids lie in the cone of its slope domain, up to a number of benches. Above these the cone
+continues by its own steps, and so becomes their convex hull. There a slope gets steeper than required, by the slope error in `errors`.
 """
 
 from __future__ import annotations
@@ -17,6 +15,14 @@ from scipy.spatial import ConvexHull, QhullError
 
 from pitplan.config.slopes import DIP, MOST_LEVELS, WALL, Slopes, Wall
 from pitplan.errors import PlanError
+
+
+# Slope cones as boolean templates, and the smallest arc set whose transitive closure is the cone.
+#
+# A template has shape (levels, rows, columns): levels up from that of the block, rows from the south, columns from
+# the west, with the block in the middle of each level. A block depends on every cell of the cone of its own slopes.
+# An arc is left out if a predecessor between the two implies it: a lower block that lies between them in east and in
+# north. Such a block is in the grid if both ends are, so that no implication is lost at the sides of the grid.
 
 
 def of_steps(steps: tuple[tuple[int, int, int], ...]) -> np.ndarray:

@@ -253,6 +253,16 @@ def given(project: Project) -> tuple[str, ...]:
     return tuple(name for name in VARIED if is_there.get(name, True))
 
 
+# Sensitivity of the selected pit shell: single parameters changed by given shares, and pairs of them.
+#
+# Each case finds the pit of the same revenue factor again. It also values the base case's pit at the parameters of
+# the case: that pit is mined if nothing is planned again. There is no such value if the slopes change, since that pit
+# may not be stable.
+#
+# Best and worst case mine shell by shell. So that their NPVs do not jump where the first shells of a case fall
+# between two revenue factors of the project, each case finds shells of its own between these, as fine as
+# `largest_increment` says.
+
 CASES = "cases"
 # Columns of the base case's pit at the parameters of a case, and the value of its skin.
 KEPT = ("undiscounted_cash_flow", "npv_best", "npv_worst", "npv_specified", "years")

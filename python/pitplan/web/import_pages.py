@@ -1,4 +1,4 @@
-"""Block models that a browser sends: their names are checked, and their bytes go to disk in parts."""
+"""The pages that import a block model: the form, the file that it sends, and what the file was recognised as."""
 
 from __future__ import annotations
 

@@ -1,4 +1,4 @@
-"""What the formats of exports are called on pages."""
+"""What the page of an output folder shows: its notes, tables, figures and files."""
 
 from __future__ import annotations
 

@@ -268,6 +268,10 @@ def preferences(problem: BlockProblem, prices: NDArray[np.float64]) -> NDArray[n
     return np.argsort(-worth, axis=1, kind="stable").transpose(0, 2, 1)
 
 
+# Orders of blocks made of the relaxation: by the years in which it is expected to dig them (Chicoisne, Espinoza,
+# Goycoolea, Moreno and Rubio, A new algorithm for the open-pit mine production scheduling problem, Operations
+# Research 60(3), 2012).
+
 # By these shares of a block the year in which it is dug is told, besides the expected year.
 PARTS = (0.1, 0.5, 0.9)
 # Years before that in which the relaxation begins a block from which on it may be dug; None: any.
@@ -420,6 +424,12 @@ def best_shares(
     return shares / shares.sum(axis=1, keepdims=True)
 
 
+# Schedules that keep signed limits, such as those on head grades, by where the blocks of a year go.
+#
+# Filling years block by block keeps a head grade after each block, so that rich or dirty ore waits for what it is
+# blended with. Here signed limits have their prices instead: years are filled, and blocks moved, by what they earn
+# less these. A linear programme by year then chooses where the blocks go, so that the limits are kept.
+
 # The linear programmes are solved for this number of the filled schedules: those worth most at the dual prices.
 MOST_BLENDED = 6
 
@@ -448,6 +458,13 @@ def at_prices(problem: BlockProblem, prices: NDArray[np.float64]) -> BlockProble
         if limit.signed:
             values -= limit.amounts[:, :, None] * by_year
     return replace(problem, values=values, limits=tuple(limit for limit in problem.limits if not limit.signed))
+
+
+# Blocks that are processed in part, since the whole holds more than a year takes.
+#
+# Years are filled with blocks that each go to one destination. If a block holds more metal or feed than a limit of a
+# year, it fits nowhere but as waste. So such a problem gets more destinations: each sends the part of a block that
+# fits into a year, and the rest to where it takes least.
 
 
 @dataclass(frozen=True)

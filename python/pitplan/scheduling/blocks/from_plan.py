@@ -1,4 +1,4 @@
-"""Keys of a project that a schedule by block refuses, and those that it does not apply."""
+"""The blocks of a plan as a problem: what they earn by year, what they need, and the limits of `[schedule]`."""
 
 from __future__ import annotations
 
@@ -59,6 +59,13 @@ def unapplied(project: Project) -> list[str]:
     if ADDED_COST in keys:
         found.append(f"{WARNING}the NPV of this schedule by block leaves out the cost of {ADDED_COST}")
     return found
+
+
+# Limits on head grades in schedules by block: the content of a process's feed less the grade times its tonnes is at
+# most 0 in each year in which the limit applies.
+#
+# A block that recovers no metal in a process never lowers or raises the head grade there for the sake of a limit: it
+# counts only if that makes the limit tighter.
 
 
 @dataclass(frozen=True)

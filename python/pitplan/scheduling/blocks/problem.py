@@ -1,8 +1,8 @@
-"""Money as the whole numbers that the library of pits takes, always rounded upward.
+"""What is scheduled block by block: what each block earns by year, what it needs, and what a year may hold.
 
-The library solves a closure exactly, in whole numbers. So what a block earns in a year is rounded up to a whole number of a unit, and
-what the library makes of these is at least what any schedule earns. The unit is a power of two, by which floats are divided exactly, and so
-small that the greatest amount takes 50 bits of the 64. A pit is the same in any unit: the library's millionths stand for it here.
+With one destination this is the constrained pit limit problem (CPIT), with several the precedence constrained production scheduling
+problem (PCPSP) of Espinoza, Goycoolea, Moreno and Newman (MineLib: a library of open pit mining problems, Annals of Operations Research
+206, 2013).
 """
 
 from __future__ import annotations
@@ -19,6 +19,13 @@ from numpy.typing import NDArray
 import pitshell
 from pitplan.config.periods import YEAR
 from pitplan.errors import PlanError
+
+# Money as the whole numbers that the library of pits takes, always rounded upward.
+#
+# The library solves a closure exactly, in whole numbers. So what a block earns in a year is rounded up to a whole
+# number of a unit, and what the library makes of these is at least what any schedule earns. The unit is a power of
+# two, by which floats are divided exactly, and so small that the greatest amount takes 50 bits of the 64. A pit is
+# the same in any unit: the library's millionths stand for it here.
 
 BITS = 50
 # Half the distance from 1 to the next float: the greatest error, as a share, of one sum or product.
@@ -240,6 +247,21 @@ def demand_sound(problem: BlockProblem) -> None:
                 f"{due.name}: expected amounts by block and destination of 0 or more, and a minimum of 0 or more"
             )
 
+
+# The nodes of a schedule: "this block is mined by the end of this year", by destination.
+#
+# With several destinations a block has a node for each of them in a year, one after the other: "mined before, or in
+# this year and sent to one of the destinations up to this one". A node needs the next one of its block, in the year
+# or in the next year, and the last one of a year those of all that its block needs. So a closed set of nodes is a
+# schedule without limits (Bienstock and Zuckerberg, Solving LP relaxations of large-scale precedence constrained
+# problems, IPCO 2010).
+#
+# Only the last node of a year is one that other blocks need. So a maximum closure takes one node for each block and
+# year, worth as much as the best destination of that year; `expanded` then gives the nodes of destinations
+# .
+#
+# Blocks are ordered by the first year in which they can be mined, so that those of a year, with all that they need,
+# come first.
 
 # What the library of pits takes.
 MOST_NODES, MOST_PAIRS = 4_194_304, 67_108_864

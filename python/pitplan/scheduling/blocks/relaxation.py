@@ -81,6 +81,24 @@ def renumbered(label: NDArray[np.int64], most: int) -> Groups:
     return Groups(number[label].astype(np.int32), int(is_there.sum()))
 
 
+# What is left of a problem where each limit has a price: a closure of nodes, solved by the library of pits, and a
+# bound.
+#
+# With a price on each unit of each sum in each year, what the nodes are worth then and the prices times the limits
+# are together at least what any schedule earns (Lagrange): a price above 0 is paid for the most, of which a schedule
+# takes no more, and one below 0 is earned for the least, of which it takes no less; so each price times what it takes
+# is at most the price times that limit. So a bound needs no optimum of the prices, and whatever floats they are it
+# holds: what a block earns at them is rounded upward, by more than the floats may have lost. Where blocks earn
+# nothing but prices, a bound below 0 shows that no schedule keeps what is due: it would earn 0.
+#
+# Each year is solved for itself first. If the pit of each year lies within that of the next, all of them are the
+# closure; if it does not, these years are solved together, unless they are more than the library takes: the
+# precedences between years that are then left out only raise the bound.
+#
+# In each year a block counts with the destination where it is worth most at the prices, which is all that a closure
+# needs to know of them: it has one node a block and year, however many destinations there are.
+
+
 @dataclass(frozen=True)
 class Priced:
     """The smallest set of nodes worth most at some prices, a truth for each; the bound that it gives, in money; and in how many parts, of
@@ -190,6 +208,11 @@ def sold(nodes: Nodes, prices: NDArray[np.float64]) -> Fraction:
     )
     return sum(of_minimums, Fraction(0)) + max(accumulate(running)) + sum(of_dues, Fraction(0))
 
+
+# The linear relaxation where all nodes of a group are dug to one share: a small linear programme, whose prices of the
+# limits ask for the next closure (Bienstock and Zuckerberg, IPCO 2010; Munoz, Espinoza, Goycoolea, Moreno, Queyranne
+# and Rivera Letelier, A study of the Bienstock-Zuckerberg algorithm, Computational Optimization and Applications 69,
+# 2018).
 
 # Up to this number of pairs of groups, each pair has a mark, which is faster than sorting.
 MOST_MARKS = 2**28
@@ -430,6 +453,13 @@ def order_rows(pairs: csr_matrix) -> csr_matrix:
     return coo_matrix((signs, (row, np.concatenate([users, needed]))), shape=(len(users), pairs.shape[0])).tocsr()
 
 
+# The bound of all schedules by block: the linear relaxation, solved by rounds of a small programme and a closure.
+#
+# Each round solves the relaxation over groups of nodes, takes the prices of its limits, and solves
+# the closure at these, which divides groups. Groups that the last rounds do not tell apart are put
+# together. The closure's bound holds whatever the prices are, so a run may end at any round with the
+# least bound so far. If the closure divides no group, or its bound is met, the relaxation is solved.
+
 # The first groups lie between the nested pits of this number of revenue factors.
 FIRST_PITS = 40
 # Above FEW_GROUPS groups, equal groups merge after a relative gain of more than SLIGHT_GAIN.
@@ -641,6 +671,14 @@ def earliest_years(problem: BlockProblem, ranks: Ranks) -> NDArray[np.int64]:
         most = np.cumsum(limit.most) * (1 + HAIR)
         first = np.maximum(first, np.searchsorted(most, sum_of, side="left"))
     return first
+
+
+# The blocks that the relaxation takes: those that pay, and those that signed limits such as head grades require.
+#
+# Ore that does not pay may be mined to bring a head grade nearer to its limit. Nearly every block of a model could be
+# such ore, and few are. So the relaxation begins with the blocks that pay, and takes others as they are required: at
+# its multipliers the closure of all blocks is solved, which gives a bound for all of them, and the blocks of the
+# closure that the relaxation does not have are added.
 
 
 @dataclass(frozen=True)

@@ -1,4 +1,4 @@
-"""What a schedule mines, feeds and recovers by period, of any amount of its blocks, and of what lies on stockpiles at the start."""
+"""The lines of the cash flow of a method: physicals, revenue, costs and capex by period, from the quantities of blocks."""
 
 from __future__ import annotations
 

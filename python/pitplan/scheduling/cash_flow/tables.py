@@ -1,4 +1,4 @@
-"""Closure, depreciation and tax of a cash flow, its NPV at any rate, internal rate of return and payback."""
+"""The tables cash_flow.csv and valuation.csv of a schedule."""
 
 from __future__ import annotations
 

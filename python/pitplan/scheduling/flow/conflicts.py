@@ -1,8 +1,8 @@
-"""Irreducible sets of conflicting limits, by a deletion filter over elastic programmes (Chinneck and Dravnieks, Locating minimal infeasible
-constraint sets in linear programs, ORSA Journal on Computing 3(2), 1991).
+"""Which limits conflict if no schedule meets the minimums: by elastic programmes and their dual values.
 
-The limits that have dual values in the elastic programme conflict, but some of them may do so without the others. The filter leaves out parts of
-them, half at first and single ones at the end. If the rest still conflicts, it goes on with those of the rest that have dual values.
+Each minimum, and each maximum of a stockpile, may be missed at the cost of the share that is missed. The dual values of the optimum prove that
+so much is missed: the limits that have one conflict with each other, whatever the other limits are (Farkas' lemma). A deletion filter leaves out
+those of them that the conflict does not need.
 """
 
 from __future__ import annotations
@@ -24,6 +24,13 @@ from pitplan.scheduling.limits import ADVANCE, DUMP, DUMPED, GRADE, MAX, MIN, ST
 
 from .model import FlowModel
 from .programme import FlowProgramme, Limit
+
+# Irreducible sets of conflicting limits, by a deletion filter over elastic programmes (Chinneck and Dravnieks,
+# Locating minimal infeasible constraint sets in linear programs, ORSA Journal on Computing 3(2), 1991).
+#
+# The limits that have dual values in the elastic programme conflict, but some of them may do so without the others.
+# The filter leaves out parts of them, half at first and single ones at the end. If the rest still conflicts, it goes
+# on with those of the rest that have dual values.
 
 # So many programmes are solved at most.
 MOST_PROGRAMMES = 40

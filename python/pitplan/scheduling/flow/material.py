@@ -124,6 +124,11 @@ def joined(parts: list[Ore]) -> Ore:
 
 
 Floats = NDArray[np.float64]
+# The waste of a model and its dumps: rock by the set of dumps that accept it, and where the waste of each year goes.
+#
+# Within a year the waste of a set is mixed, so a share of all of it goes to a dump. That loses nothing, since a dump
+# costs the same for each tonne.
+
 # How the names of amounts of the rock of a set begin.
 SET = "rock_set_"
 # What a tonne costs that finds no room, in multiples of the dearest dump and of a unit of money; and a share of waste that may be rounding.

@@ -1,4 +1,4 @@
-"""Rows of the programmes of benches, whose unknowns are the share of each bench that is mined by the end of each year."""
+"""The material flow of pushbacks as a problem: benches, parcels of ore, limits, and stockpiles."""
 
 from __future__ import annotations
 

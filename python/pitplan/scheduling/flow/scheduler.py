@@ -1,8 +1,4 @@
-"""Orders in which the benches of pushbacks may be mined: by leads of each pushback over the next, and as the linear programme mines them.
-
-The latter are benches by their expected year in the optimum, as of Chicoisne, Espinoza, Goycoolea, Moreno and Rubio (A new algorithm for the
-open-pit mine production scheduling problem, Operations Research 60(3), 2012).
-"""
+"""Feasible schedules of material flow: by rule, and from orders of benches at their best pace."""
 
 from __future__ import annotations
 
@@ -28,6 +24,12 @@ from .material import FAR
 from .model import FlowModel, paying, started_rows
 from .pacing import Course, Pacing
 from .programme import FlowOptimum, FlowProgramme
+
+# Orders in which the benches of pushbacks may be mined: by leads of each pushback over the next, and as the linear
+# programme mines them.
+#
+# The latter are benches by their expected year in the optimum, as of Chicoisne, Espinoza, Goycoolea, Moreno and Rubio
+# (A new algorithm for the open-pit mine production scheduling problem, Operations Research 60(3), 2012).
 
 # Changes of one pushback's lead that are tried, the largest first; and how often in all.
 STEPS, MOST_TRIALS = (4, 2, 1), 80
@@ -132,6 +134,12 @@ def whole_shares(cumulative: NDArray[np.float64], slight: float) -> NDArray[np.f
     shares = np.diff(np.maximum.accumulate(rounded, axis=1), axis=1, prepend=0.0)
     return np.where(shares > HAIR, shares, 0.0)
 
+
+# Better depths of a schedule of whole benches, by linear programmes around it.
+#
+# By the end of a year at most one bench of a pushback is in work. While these benches stay the same, the shares of
+# them that are mined and all flows are a linear programme, whose optimum is worth no less than the schedule. A share
+# that reaches 0 or 1 in it leaves the bench to the one above or below, with which the next programme goes on.
 
 # So many programmes are solved at most, fewer of large ones. They end when two in turn gain less than this share. What gains less than the other
 # share may be noise.
@@ -460,6 +468,11 @@ def ended(flows: Flows) -> Flows:
         flows = max((flows.until(year) for year in range(model.years, -1, -1)), key=lambda it: it.value)
     return flows.cut(flows.last)
 
+
+# The material flow as an integer programme: the best schedule of parcels, if it is small enough to be found.
+#
+# To the unknowns of the linear programme come whole ones: whether a bench may be started by the end of a year. It may
+# only when all that it waits for is mined by then, and only then may any of it be mined.
 
 # What the solver's tolerance may add to a share.
 SHARE_NOISE = 1e-6

@@ -463,6 +463,9 @@ def shadow_prices(schedule: YearlySchedule, name: str) -> Floats:
     return whole_price(schedule.prices, name, schedule.years) / schedule.discounts(schedule.years)
 
 
+# Cut-offs of a schedule by process and year: those of the prices of capacities, as Lane has them (The Economic
+# Definition of Ore, 1988), and those that were realised.
+
 # A flow of a smaller share of the feed of a year may be the solver's tolerance alone.
 SLIGHT = 1e-6
 # What a row of feed.csv or cutoffs.csv is of.

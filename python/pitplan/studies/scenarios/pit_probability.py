@@ -1,4 +1,4 @@
-"""The inclusion probability of each cell at a revenue factor, for plans and sections."""
+"""Inclusion probabilities, and tables by scenario and of quantiles, from the results of all scenarios."""
 
 from __future__ import annotations
 

@@ -1,4 +1,9 @@
-"""How scenarios are solved."""
+"""Solves the scenarios that have no result yet: over Dask, or by lists of jobs that others start.
+
+All realisations are read before any scenario is solved, so that an error in the last one cannot stop a run half-way. Results are files: a
+scheduler passes only a number to a task and a status back. The lists for Slurm and GNU parallel are text, which you can edit before you
+submit it.
+"""
 
 from __future__ import annotations
 
@@ -46,6 +51,15 @@ class Request:
     partial: bool = False
     by: str = PIT
 
+
+# Scenarios as lists of jobs: a Slurm array, and a list for GNU parallel.
+#
+# Both run `scenario.sh NUMBER`. It ends with the status of `pitplan scenario`: 0 to 5 are final, and any other means
+# that the program or its process was killed, so that the scenario is tried again.
+#
+# A folder may have any name that Slurm does not take as a pattern. The scripts quote it for the shell that reads
+# them. GNU parallel passes its words to a second shell, so the folder reaches that one by the environment. Python is
+# run with -P, since it would otherwise import modules from the folder in which the script is started.
 
 SCRIPT, ARRAY, GATHER, START, JOBS, LOG = (
     "scenario.sh",

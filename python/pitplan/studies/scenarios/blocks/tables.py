@@ -1,12 +1,4 @@
-"""The common schedule in each scenario: mill feed and cash flow of its years with the grades of the scenario.
-
-Each year mines the blocks of the schedule, whatever they hold. Then the ore goes to the mill; if it exceeds a limit, the selection that earns
-most, and the rest becomes waste. The selection of a year does not bind other years, so this is the most that the schedule can earn in the
-scenario. It is feasible for the scenario's own problem, which has the same years, limits and blocks, and sends blocks in shares too. So it
-earns at most the upper bound of the scenario. The mean of these bounds is a bound on the wait-and-see problem. Less the mean NPV of the common
-schedule it bounds the expected value of perfect information (Birge and Louveaux, Introduction to Stochastic Programming, 2nd edition, Springer
-2011, chapter 4).
-"""
+"""Tables of the schedules of all scenarios, and of the common schedule."""
 
 from __future__ import annotations
 
@@ -31,6 +23,16 @@ from .worker import Kept, diggable_of, mean_of, read_answer
 
 # Relative tolerance of limits and of planned feed, for sums of floats.
 HAIR = 1e-9
+# The common schedule in each scenario: mill feed and cash flow of its years with the grades of the scenario.
+#
+# Each year mines the blocks of the schedule, whatever they hold. Then the ore goes to the mill; if it exceeds a
+# limit, the selection that earns most, and the rest becomes waste. The selection of a year does not bind other years,
+# so this is the most that the schedule can earn in the scenario. It is feasible for the scenario's own problem, which
+# has the same years, limits and blocks, and sends blocks in shares too. So it earns at most the upper bound of the
+# scenario. The mean of these bounds is a bound on the wait-and-see problem. Less the mean NPV of the common schedule
+# it bounds the expected value of perfect information (Birge and Louveaux, Introduction to Stochastic Programming, 2nd
+# edition, Springer 2011, chapter 4).
+
 LEFT, PLANNED = "unprocessed_tonnes", "planned_feed_tonnes"
 
 
