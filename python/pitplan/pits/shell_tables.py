@@ -5,7 +5,9 @@
 
 from __future__ import annotations
 
+from collections.abc import Callable
 from dataclasses import dataclass, replace
+from functools import partial
 from typing import Optional
 
 import numpy as np
@@ -248,29 +250,55 @@ def costs_of_ore(plan: Plan, cells: Cells) -> dict[str, np.ndarray]:
 
 
 def amounts(plan: Plan, cells: Cells) -> pd.DataFrame:
-    """One row per revenue factor: tonnes, grades and cash flow of its shell, without time."""
-    pit, ore, content = cells.factor, np.where(cells.ore, cells.factor, 0), cells.content
-    tonnes, feed_tonnes, in_situ = (
-        within(plan, pit, cells.tonnes),
-        within(plan, ore, cells.feed),
-        within(plan, ore, cells.tonnes),
+    """Returns a row per revenue factor: tonnes, grades and cash flow of its shell, without time."""
+    first, total = cells.factor, partial(within, plan)
+    table = pd.DataFrame(
+        of_outlines(plan, cells, outline=first, total=total, mineralised=mineralised_waste(plan, first))
     )
+    processed = total(cells.processed, cells.feed)
+    table.insert(table.columns.get_loc("strip_ratio") + 1, "processed_at_revenue_factor", processed)
+    return table
+
+
+def of_outlines(
+    plan: Plan,
+    cells: Cells,
+    *,
+    outline: np.ndarray,
+    total: Callable[[np.ndarray, np.ndarray], np.ndarray],
+    mineralised: dict[str, np.ndarray],
+) -> dict[str, np.ndarray]:
+    """Returns tonnes, grades and cash flow of shells or pushbacks, without time.
+
+    Parameters
+    ----------
+    plan : Plan
+    cells : Cells
+        Their amounts.
+    outline : array, shape (cells,)
+        The shell or pushback of each cell; 0: none.
+    total : callable
+        Sums an array over the cells of each shell or pushback, as the first array says.
+    mineralised : dict
+        The column of mineralised waste; empty without resource classes.
+    """
+    ore = np.where(cells.ore, outline, 0)
+    tonnes, feed_tonnes, in_situ = total(outline, cells.tonnes), total(ore, cells.feed), total(ore, cells.tonnes)
     columns = {
-        "blocks": within(plan, pit, cells.tonnes > 0).astype(np.int64),
+        "blocks": total(outline, cells.tonnes > 0).astype(np.int64),
         "tonnes": tonnes,
         "feed_tonnes": feed_tonnes,
         "in_situ_ore_tonnes": in_situ,
         "waste_tonnes": tonnes - in_situ,
-        **mineralised_waste(plan, pit),
+        **mineralised,
         "strip_ratio": ratio(tonnes - in_situ, in_situ),
-        "processed_at_revenue_factor": within(plan, cells.processed, cells.feed),
     }
-    columns |= {name: within(plan, pit, feed) for name, feed in feeds_of(plan, cells).items()}
+    columns |= {name: total(outline, feed) for name, feed in feeds_of(plan, cells).items()}
     for metal in plan.project.metals:
-        columns[f"head_grade_{metal.name}"] = ratio(within(plan, ore, content[metal.name]), feed_tonnes)
-        columns[f"recovered_{metal.name}"] = within(plan, ore, plan.values.metal[metal.name])
-    columns["undiscounted_cash_flow"] = within(plan, pit, cells.worth)
-    return pd.DataFrame(columns)
+        columns[f"head_grade_{metal.name}"] = ratio(total(ore, cells.content[metal.name]), feed_tonnes)
+        columns[f"recovered_{metal.name}"] = total(ore, plan.values.metal[metal.name])
+    columns["undiscounted_cash_flow"] = total(outline, cells.worth)
+    return columns
 
 
 def mineralised_waste(plan: Plan, pit: np.ndarray) -> dict[str, np.ndarray]:

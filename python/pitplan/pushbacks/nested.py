@@ -9,6 +9,7 @@ reports the gap.
 from __future__ import annotations
 
 from dataclasses import dataclass, replace
+from functools import partial
 from typing import Optional
 
 import numpy as np
@@ -245,33 +246,19 @@ def table(pushbacks: Pushbacks) -> pd.DataFrame:
     one. In the last row the same is `value_lost_to_width`.
     """
     plan, cells = pushbacks.plan, shell_tables.cells_of(pushbacks.plan, pushbacks.solution)
-    ore = np.where(cells.ore, pushbacks.pushback, 0)
-    tonnes, feed_tonnes, in_situ = (
-        added(of, amounts, pushbacks)
-        for of, amounts in ((pushbacks.pushback, cells.tonnes), (ore, cells.feed), (ore, cells.tonnes))
-    )
     columns = {
         "pushback": np.arange(1, len(pushbacks.factors) + 1),
         "revenue_factor": np.array(pushbacks.factors),
-        "blocks": added(pushbacks.pushback, cells.tonnes > 0, pushbacks).astype(np.int64),
-        "tonnes": tonnes,
-        "feed_tonnes": feed_tonnes,
-        "in_situ_ore_tonnes": in_situ,
-        "waste_tonnes": tonnes - in_situ,
-        **mineralised_waste(pushbacks),
-        "strip_ratio": shell_tables.ratio(tonnes - in_situ, in_situ),
+        **shell_tables.of_outlines(
+            plan,
+            cells,
+            outline=pushbacks.pushback,
+            total=partial(added, pushbacks),
+            mineralised=mineralised_waste(pushbacks),
+        ),
     }
-    columns |= {
-        name: added(pushbacks.pushback, feed, pushbacks) for name, feed in shell_tables.feeds_of(plan, cells).items()
-    }
-    for metal in plan.project.metals:
-        columns[f"head_grade_{metal.name}"] = shell_tables.ratio(
-            added(ore, cells.content[metal.name], pushbacks), feed_tonnes
-        )
-        columns[f"recovered_{metal.name}"] = added(ore, plan.values.metal[metal.name], pushbacks)
-    columns["undiscounted_cash_flow"] = added(pushbacks.pushback, cells.worth, pushbacks)
     if rules_of(plan.project).mining_cost_added:
-        columns["mining_cost_added"] = added(pushbacks.pushback, pushbacks.mining_cost_added, pushbacks)
+        columns["mining_cost_added"] = added(pushbacks, pushbacks.pushback, pushbacks.mining_cost_added)
     lacking = shell_tables.within(plan, cells.factor, cells.worth) - np.cumsum(columns["undiscounted_cash_flow"])
     is_last = columns["pushback"] == len(pushbacks.factors)
     columns["deferred_value"], columns["value_lost_to_width"] = np.where(is_last, 0.0, lacking), np.where(
@@ -286,7 +273,7 @@ def mineralised_waste(pushbacks: Pushbacks) -> dict[str, np.ndarray]:
         return {}
     values = pushbacks.plan.values
     tonnes = np.where(values.mineralised_waste(BASE_PRICE), values.tonnes, 0.0)
-    return {shell_tables.MINERALISED: added(pushbacks.pushback, tonnes, pushbacks)}
+    return {shell_tables.MINERALISED: added(pushbacks, pushbacks.pushback, tonnes)}
 
 
 def shapes(pushbacks: Pushbacks) -> dict[str, list[float]]:
@@ -300,6 +287,6 @@ def shapes(pushbacks: Pushbacks) -> dict[str, list[float]]:
     }
 
 
-def added(pushback: np.ndarray, values: np.ndarray, pushbacks: Pushbacks) -> np.ndarray:
+def added(pushbacks: Pushbacks, pushback: np.ndarray, values: np.ndarray) -> np.ndarray:
     """Returns the sum of the values over the cells of each pushback."""
     return np.bincount(pushback, values, minlength=len(pushbacks.factors) + 1)[1:]
