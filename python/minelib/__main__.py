@@ -1,4 +1,4 @@
-"""`python3 -m minelib FILES... --out FOLDER`: the conversion for whoever has Python and none of pitplan's libraries."""
+"""`python3 -m minelib FILES... --out FOLDER`: the conversion for users with Python and none of pitplan's libraries."""
 
 from __future__ import annotations
 

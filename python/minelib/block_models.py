@@ -1,4 +1,4 @@
-"""Block models: `.blocks`, of which every line has a block, its place, and the same number of attributes."""
+"""Block models: `.blocks`, where every line has a block, its place, and the same number of attributes."""
 
 from __future__ import annotations
 

@@ -31,7 +31,7 @@ def convert(paths: Iterable[Path], folder: Path, limits: Limits = Limits()) -> d
     """Writes mine.upit, mine.prec and mine.blocks, as far as their sources are among `paths`, and convert.json.
 
     Gives the record: for each file what was read, scaled, rounded and dropped, and `notes` in sentences. Raises
-    MinelibError, with nothing written, where a file cannot be converted exactly but for the roundings that it tells.
+    MinelibError, with nothing written, where a file cannot be converted exactly except for the roundings that it reports.
     """
     sources = sorted_by_kind(list(paths))
     demand_apart(sources, folder)

@@ -1,4 +1,4 @@
-"""How a command ends: each failure is one sentence on standard error, whatever becomes of its streams."""
+"""How a command ends: each failure is one sentence on standard error, even if its streams are closed."""
 
 from __future__ import annotations
 

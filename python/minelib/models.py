@@ -56,7 +56,7 @@ class Draft:
 
 
 def read(path: Path) -> Model:
-    """Raises MinelibError, with the line, where a header is missing, a block stands twice or a number is none."""
+    """Raises MinelibError, with the line, where a header is missing, a block stands twice or a number is malformed."""
     draft, section = Draft(), ""
     for line in lines(path):
         header = HEADER.fullmatch(line.text)

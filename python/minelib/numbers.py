@@ -62,7 +62,7 @@ def places_of(value: Decimal) -> int:
 
 
 def fit(values: list[Decimal]) -> Fitted:
-    """The same numbers, exact where a power of ten brings them all within twelve digits and six decimals; else with the
+    """The same numbers, exact where a power of ten brings them all within twelve digits and six decimals; otherwise with the
     power that leaves the most decimals, and the rest rounded, halves to the even one."""
     with localcontext(EXACT):
         places = max(map(places_of, values), default=0)

@@ -38,7 +38,7 @@ class Precedence:
 
 
 def read(path: Path, count: Optional[int], most: int) -> Precedence:
-    """`count` blocks, or where it is None at most `most`. Raises MinelibError, with the line, where a field is none."""
+    """`count` blocks, or where it is None at most `most`. Raises MinelibError, with the line, where a field is no number."""
     needs: Needs = {}
     twice = themselves = joined = 0
     limit = most if count is None else count

@@ -1,8 +1,8 @@
 """Models of schedules, `.cpit` and `.pcpsp`: what each block earns and takes of each resource, and what a period may hold.
 
 In a `.pcpsp` a block has a value for each destination, and a line of what is taken of a resource names a block, a destination, a resource
-and an amount. In which order the two in the middle stand is told by the file's own numbers, where only one order fits how many there are
-of each; else it must be said. General side constraints are refused.
+and an amount. In which order the two in the middle stand follows from the file's own numbers, where only one order fits how many there are
+of each; otherwise it must be said. General side constraints are refused.
 """
 
 from __future__ import annotations
@@ -24,7 +24,7 @@ OF_PCPSP = (DESTINATIONS, GENERAL, *OF_GENERAL)
 KNOWN = ("NAME", "TYPE", BLOCKS, PERIODS, RESOURCES, RATE, VALUES, TAKEN, LIMITS, *OF_PCPSP)
 # What may stand behind the block in a line of what a PCPSP takes of a resource.
 SECONDS = ("destination", "resource")
-# Of a resource and a period the least and the most; None where there is none.
+# Of a resource and a period the least and the most; None where none exists.
 Bounds = tuple[Optional[Decimal], Optional[Decimal]]
 
 
@@ -36,7 +36,7 @@ class ScheduleModel:
     periods  how many there are
     rate     a value in period t, from 0, counts (1 + rate) ** -t of it
     taken    of each resource what a block takes of it, by block and destination; what is not named takes nothing
-    limits   by resource and period, from 0, the least and the most; where none is named there is none
+    limits   by resource and period, from 0, the least and the most; where none is named none exists
     unnamed  how many blocks have no value, and so 0
     """
 
@@ -74,7 +74,7 @@ class Draft:
         return self.header(key).whole(self.header(key).text)
 
     def below(self, line: Line, word: str, key: str) -> int:
-        """A number of a block, a period, a destination or a resource, of which there are so many as the header says."""
+        """A number of a block, a period, a destination or a resource, as many as the header says."""
         number, count = line.whole(word), self.count(key)
         if number >= count:
             raise line.wrong(f"{number}, where {key}: is {count:,} and numbers count from 0")
@@ -82,9 +82,9 @@ class Draft:
 
 
 def read(path: Path, second: Optional[str] = None) -> ScheduleModel:
-    """A model of a schedule; `second` says what stands behind the block where a PCPSP tells what blocks take: destination or resource.
+    """A model of a schedule; `second` says what stands behind the block where a PCPSP lists what blocks take: destination or resource.
 
-    Raises MinelibError, with the line, where a header is missing or not known, a number is none, or a line stands twice; of a PCPSP where
+    Raises MinelibError, with the line, where a header is missing or not known, a number is malformed, or a line stands twice; of a PCPSP where
     it has general side constraints, or nothing says what stands behind the block.
     """
     draft = drafted(path)
@@ -183,7 +183,7 @@ def in_order(second: str) -> tuple[str, str]:
 
 
 def second_of(draft: Draft) -> str:
-    """What stands behind the block, told by which of both orders fits how many destinations and resources there are.
+    """What follows the block, found by which of both orders fits how many destinations and resources there are.
 
     Raises MinelibError where both fit, and the sentence of the first line where none does.
     """

@@ -4,6 +4,6 @@ import sys
 
 from .cli import main
 
-# Dask's processes begin by reading this file, and must not begin the command anew.
+# Dask's processes begin by reading this file, and must not begin the command again.
 if __name__ == "__main__":
     sys.exit(main())

@@ -4,7 +4,7 @@ import re
 from collections.abc import Sequence
 from typing import Any, Optional
 
-# Whatever ends a line, by str.splitlines.
+# Characters that end a line, by str.splitlines.
 LINE_ENDS = re.compile("[\n\r\v\f\x1c\x1d\x1e\x85\u2028\u2029]")
 
 
@@ -31,7 +31,7 @@ class PlanError(Exception):
 
 
 def received(kind: type[PlanError], text: str, state: dict[str, Any]) -> PlanError:
-    """Returns an error that another process has sent, as it was: its lines stay lines."""
+    """Returns an error that another process has sent, unchanged: its lines stay lines."""
     error = kind.__new__(kind)
     error.args = (text,)
     error.__dict__.update(state)

@@ -35,7 +35,7 @@ class Preparation:
     project : Project
         The project, whose metals name the columns of grades.
     read : Table
-        The table as it was read and checked.
+        The table as read and checked.
     any_size : bool
         Whether the grid may have more cells than the solver takes, since the model is cropped later.
     table : Table

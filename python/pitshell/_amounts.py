@@ -81,7 +81,7 @@ def _of_whole(numbers: NDArray[np.integer], name: str) -> Millionths:
 
 
 def _of_objects(numbers: NDArray, name: str) -> Millionths:
-    """Decimals, and whatever else of Python or numpy is a number, one by one."""
+    """Decimals, and any other number of Python or numpy, one by one."""
     amounts = np.empty(len(numbers), dtype=np.int64)
     rounded = 0
     for block, number in enumerate(numbers):
@@ -118,7 +118,7 @@ def _of_floats(numbers: NDArray[np.float64], name: str) -> Millionths:
 def _nearest_millionths(parts: NDArray[np.float64]) -> tuple[NDArray[np.int64], NDArray[np.bool_]]:
     """The nearest whole millionths of numbers between -1 and 1, a tie to the even one, and which numbers are others.
 
-    A product of floats and its error make the exact one. Half a millionth is a float, so a product that is none lies on the same side of
+    A product of floats and its error make the exact one. Half a millionth is a float, so a product that is not one lies on the same side of
     it as the exact one, and only where it is one does the error decide.
     """
     product = parts * float(MILLION)

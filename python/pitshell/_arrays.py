@@ -18,18 +18,18 @@ MOST_WHOLE = 2**32 - 1
 @dataclass(frozen=True)
 class Rows:
     """`starts`, shape (blocks + 1,), and `needs`, shape (pairs,): block u needs `needs[starts[u]:starts[u + 1]]`. `order`, shape (pairs,):
-    for each place the number of the need as it was handed in; None where these are the same."""
+    for each place the number of the need as handed in; None where these are the same."""
 
     starts: NDArray[np.uint32]
     needs: NDArray[np.uint32]
     order: NDArray[np.int64] | None = None
 
     def forth(self, amounts: NDArray[Any]) -> NDArray[Any]:
-        """What stood by needs as they were handed in, by places."""
+        """What stood by needs as handed in, by places."""
         return amounts if self.order is None else amounts[self.order]
 
     def back(self, amounts: NDArray[Any]) -> NDArray[Any]:
-        """What stands by places, by needs as they were handed in."""
+        """What stands by places, by needs as handed in."""
         if self.order is None:
             return amounts
         found = np.empty_like(amounts)
@@ -37,7 +37,7 @@ class Rows:
         return found
 
     def need(self, place: int) -> int:
-        """The number of the need at a place, as it was handed in."""
+        """The number of the need at a place, as handed in."""
         return place if self.order is None else int(self.order[place])
 
 
@@ -80,7 +80,7 @@ def _whole(array: ArrayLike, name: str) -> NDArray[np.uint32]:
 
 
 def _of_pairs(pairs: NDArray[Any], blocks: int) -> Rows:
-    """Rows of the pairs (u, p) of "u needs p", in whatever order they stand; of one row they stay in their order."""
+    """Rows of the pairs (u, p) of "u needs p", in any order; of one row they stay in their order."""
     users = _whole(pairs[:, 0], "needs[:, 0]")
     needed = _whole(pairs[:, 1], "needs[:, 1]")
     outside = np.flatnonzero(users >= blocks)

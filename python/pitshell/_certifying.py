@@ -1,4 +1,4 @@
-"""Certificates: the pit with the flow that shows it, and the check of such a flow, whoever made it."""
+"""Certificates: the pit with the flow that shows it, and the check of such a flow from any source."""
 
 from __future__ import annotations
 

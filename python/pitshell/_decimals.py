@@ -1,4 +1,4 @@
-"""Exact decimals, whatever precision, rounding and traps the caller's decimal context has."""
+"""Exact decimals, at any precision, rounding and traps that the caller's decimal context has."""
 
 from __future__ import annotations
 
@@ -24,7 +24,7 @@ def scaled(whole: int, places: int) -> Decimal:
 def of_number(number: object) -> Decimal:
     """The same number as a decimal, exact.
 
-    Raises TypeError where it is no number; True and False are none.
+    Raises TypeError where it is no number; True and False do not count.
     """
     if isinstance(number, Decimal):
         return number

@@ -29,7 +29,7 @@ WORDS = {
 }
 
 
-# So many blocks of a cycle stand in the words.
+# This many blocks of a cycle stand in the words.
 MOST_NAMED = 20
 # Above it a number may have been one below 0.
 MOST_OF_SIGNED = 2**31 - 1

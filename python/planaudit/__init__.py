@@ -14,7 +14,7 @@ these:
   to its precedence benches. If the project does not set their number, no slope error exceeds half a degree.
 - **Constraints**: must-mine blocks are in every shell, and excluded blocks in none.
 - **Money**: each cost and revenue is the product of numbers of the table and the project to the last decimal: by floats, and by exact decimals
-  where these do not tell the rounding. Haul distances are right to a millimetre, by geometry.
+  where these do not decide the rounding. Haul distances are right to a millimetre, by geometry.
 - **Resource classes**: no block of a class that is waste has a revenue, and mineralised waste is what of it would pay as ore.
 - **Shells**: tables add up, and the solver's value of each shell is that of its blocks, to the last digit of blocks.csv.
 - **Years**: no year exceeds a capacity, years add up to their shell, and both NPVs follow from its benches.

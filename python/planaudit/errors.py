@@ -6,7 +6,7 @@ import re
 from collections.abc import Sequence
 from typing import Any
 
-# Whatever ends a line, by str.splitlines.
+# Characters that end a line, by str.splitlines.
 LINE_ENDS = re.compile("[\n\r\v\f\x1c\x1d\x1e\x85\u2028\u2029]")
 # A longer sentence quotes a whole file: its middle is left out.
 MOST_LETTERS = 2_000

@@ -66,14 +66,14 @@ class Frame:
         return f"along azimuth {east}\N{DEGREE SIGN}", f"along azimuth {north}\N{DEGREE SIGN}"
 
 
-# Grids that are turned about the vertical: how far, told by the blocks' centres, and each row's place along the
+# Grids that are turned about the vertical: how far, found from the blocks' centres, and each row's place along the
 # grid's own axes.
 #
 # The first guess is the direction from centres to their nearest neighbours. From one centre on, places of wider and
 # wider circles are then counted along the axes, and the axes fitted to these by least squares: so the count stays
 # right as far as the model goes.
 
-# So many centres tell the first guess, each by so many neighbours; their directions are so much alike, 1 being the same.
+# This many centres give the first guess, each by this many neighbours; their directions are so much alike, 1 being the same.
 CENTRES, NEIGHBOURS, ALIKE = 2_000, 25, 0.99
 # Up to this share of a block off its place a centre is counted while axes are fitted.
 NEAR = 0.25
@@ -111,7 +111,7 @@ class Axes:
     off: complex = 0j
 
     def counted(self, centres: np.ndarray) -> tuple[np.ndarray, np.ndarray]:
-        """Columns and rows of centres from the start, whole but for what they are off the grid; each a row of two."""
+        """Columns and rows of centres from the start, whole except for what they are off the grid; each a row of two."""
         steps = (centres - self.start - self.off) * np.exp(-1j * self.angle)
         steps = np.stack([steps.real / self.size[0], steps.imag / self.size[1]])
         whole = np.rint(steps)
@@ -198,7 +198,7 @@ def first_angle(places: np.ndarray) -> Optional[float]:
 
 
 def steps_along(places: np.ndarray, angle: float) -> tuple[Optional[float], Optional[float]]:
-    """Metres from centres to the next along both axes, where most that have neighbours agree; None where there are none."""
+    """Metres from centres to the next along both axes, where most that have neighbours agree; None where none exist."""
     if len(places) < 2:
         return None, None
     steps = neighbours(places, NEIGHBOURS) * np.exp(-1j * angle)
@@ -271,7 +271,7 @@ def sizes_told(axes: Axes, places: np.ndarray, tolerance: float) -> tuple[float,
 
 @dataclass(frozen=True)
 class Allowed:
-    """How far those centres that lie on a grid may lie off one that is told with fewer digits: metres, hardly more than they do."""
+    """How far those centres that lie on a grid may lie off one that is given with fewer digits: metres, hardly more than they do."""
 
     places: np.ndarray
     most: float
@@ -323,7 +323,7 @@ def places_on_axes(centres: np.ndarray, axes: Axes, told: tuple[float, float], w
 
 
 MOST_BLOCKS = 4_194_304
-# Of a grid of up to so many cells blocks are put together, or what no shell can reach is left out.
+# Of a grid of up to this many cells blocks are put together, or what no shell can reach is left out.
 MOST_CELLS = 64_000_000
 # Up to this share of the rows may lie off the grid that the others make: these are named then.
 FEW = 0.01

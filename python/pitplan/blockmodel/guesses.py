@@ -36,7 +36,7 @@ NULL_WORDS = frozenset(
 )
 # Numbers that are null codes wherever they occur once; others repeat.
 USUAL = (-99.0, -999.0, -9999.0, -99999.0, -1e30)
-# So many ranges of the other numbers a null code lies below them, if some of these are negative.
+# This many ranges of the other numbers a null code lies below them, if some of these are negative.
 FAR = 3
 # Different words of one column that may be null codes.
 MOST_WORDS = 4
@@ -191,7 +191,7 @@ def hints_of(names: list[str], below: list[list[str]]) -> dict[str, str]:
 
 
 def columns_of(frame: pd.DataFrame, hints: Optional[Mapping[str, str]] = None) -> Columns:
-    """Returns the guessed columns of a table as it was read: numbers as numbers, everything else as text. `hints` says more of columns."""
+    """Returns the guessed columns of a table as read: numbers as numbers, everything else as text. `hints` says more of columns."""
     hints = hints or {}
     plain = {plain_of(name): name for name in reversed(list(map(str, frame.columns)))}
     centres = {axis: found for axis, names in CENTRES.items() if (found := by_name(plain, names))}
@@ -356,7 +356,7 @@ class Role:
 
 
 def role_of_text(column: str, text: str) -> Role:
-    """Reads the role of a column, such as tonnes, gold or copper:percent. Raises PlanError if the text is none."""
+    """Reads the role of a column, such as tonnes, gold or copper:percent. Raises PlanError if the text is no role."""
     key, sign, unit = (part.strip() for part in text.partition(":"))
     if key in ROLE_WORDS and not sign:
         return Role(key)
@@ -493,7 +493,7 @@ class Model:
 
 @dataclass(frozen=True)
 class Rows:
-    """A table as it was read, and the same without nulls, which is kept by the columns that have none.
+    """A table as read, and the same without nulls, which is kept by the columns that have none.
 
     Attributes
     ----------

@@ -91,7 +91,7 @@ class Archive:
         return PlanError(f"{self.file}: {where}: {why}: export the file again")
 
     def object(self, value: Any, where: str, classes: Sequence[str] = ()) -> dict[str, Any]:
-        """Returns an object by its identifier. Raises PlanError if there is none, or it is of another class."""
+        """Returns an object by its identifier. Raises PlanError if none exists, or it is of another class."""
         found = self.objects.get(value) if isinstance(value, str) else value
         if not isinstance(found, dict):
             raise self.wrong(where, f"found {shown(value)}, expected the identifier of an object")
@@ -181,7 +181,7 @@ def opened(file: Path, handle: BinaryIO) -> Archive:
 
 
 def volume_of(archive: Archive) -> dict[str, Any]:
-    """Returns the only volume element of the project. Raises PlanError if there is none, or there are several."""
+    """Returns the only volume element of the project. Raises PlanError if none exists, or there are several."""
     found = [it for it in archive.objects.values() if isinstance(it, dict) and it.get("__class__") == "VolumeElement"]
     if len(found) != 1:
         names = ", ".join(str(it.get("name")) for it in found) or "none"
@@ -250,7 +250,7 @@ def middles(side: np.ndarray) -> np.ndarray:
 
 
 def cells_of(archive: Archive, geometry: dict[str, Any], where: str) -> Cells:
-    """Reads the grid of a volume. Raises PlanError if a side is none, the axes are not upright, or there are too many cells."""
+    """Reads the grid of a volume. Raises PlanError if a side is missing, the axes are not upright, or there are too many cells."""
     sides = tuple(archive.array(geometry.get(f"tensor_{axis}"), None, f"{where}: tensor_{axis}") for axis in "uvw")
     for axis, side in zip("uvw", sides):
         if not len(side) or not (np.isfinite(side) & (side > 0)).all():

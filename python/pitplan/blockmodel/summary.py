@@ -25,7 +25,7 @@ USUAL_PRICES = {
     "gold": 75, "silver": 0.9, "platinum": 30, "palladium": 31, "copper": 9000, "molybdenum": 45000, "nickel": 17000, "zinc": 2700,
     "lead": 2100, "cobalt": 26000, "iron": 130, "tin": 30000, "tungsten": 40000, "lithium": 60000, "uranium": 170000,
 }  # fmt: skip
-# A price is doubtful if it is so many times the usual one, or less, and within NEAR times in another unit.
+# A price is doubtful if it is this many times the usual one, or less, and within NEAR times in another unit.
 FAR, NEAR = 10.0, 3.0
 
 
@@ -173,7 +173,7 @@ def mean_of(grades: np.ndarray, tonnes: np.ndarray) -> float:
 
 
 def of_table(table: Table, grid: Grid, project: Project) -> list[str]:
-    """The lines of a checked table, as it was before cells without rows were filled."""
+    """The lines of a checked table, in its state before cells without rows were filled."""
     tonnes = table.frame[project.table.tonnes].to_numpy()
     grades = [grade_of(metal, table.frame[metal.column].to_numpy(), tonnes) for metal in project.metals]
     return [*of_ground(table, grid, project), *of_grades(grades)]
@@ -238,5 +238,5 @@ def rock_of(columns: TableColumns) -> str:
 
 
 def not_used(names: Sequence[str]) -> list[str]:
-    """A line that names the table's columns of which nothing is taken; none where there are no such."""
+    """A line that names the table's columns that are not used; none if all are used."""
     return [f"unused columns: {', '.join(names)}"] if names else []

@@ -286,7 +286,7 @@ def told(before: np.ndarray, after: np.ndarray) -> str:
 
 
 def doubts(found: Below, grid: Grid) -> list[str]:
-    """Columns of blocks that the topography covers in part or not at all, and those of which rock below it is not in the table."""
+    """Columns of blocks that the topography covers in part or not at all, and those whose rock below it is not in the table."""
     over, first = np.unique(grid.rows % grid.per_level, return_inverse=True)
     covered = found.covered[over]
     highest = np.full(len(over), grid.shape[0])

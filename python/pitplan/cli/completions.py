@@ -323,7 +323,7 @@ def of_fish(subcommands: list[Subcommand], top: tuple[Option, ...]) -> str:
 
 
 def fish_lines(sub: Subcommand) -> Iterator[str]:
-    """The lines of a subcommand: its arguments, whatever their number, and its options."""
+    """The lines of a subcommand: its arguments, in any number, and its options."""
     begin = f"complete -c pitplan -n '__fish_seen_subcommand_from {sub.name}'"
     for argument in sub.arguments:
         if argument.kind != NOTHING:

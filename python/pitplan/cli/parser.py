@@ -147,7 +147,7 @@ class Parser(argparse.ArgumentParser):
         return options
 
     def _check_value(self, action: argparse.Action, value: Any) -> None:
-        """Refuses a word that is none of the choices, with the one that is most like it."""
+        """Refuses a word that is not one of the choices, with the one that is most like it."""
         choices = [str(it) for it in action.choices or ()]
         near = get_close_matches(str(value), choices, 1)
         if near and value not in choices:

@@ -27,7 +27,7 @@ from .writing import Place, Writing
 
 @dataclass(frozen=True)
 class Comparison:
-    """A comparison of runs, the first of which is the base.
+    """A comparison of runs; the first one is the base.
 
     Attributes
     ----------

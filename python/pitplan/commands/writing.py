@@ -110,7 +110,7 @@ class Run:
     Attributes
     ----------
     project : Project
-        The project as it was given. The plan of the mine may have other factors.
+        The project as given. The plan of the mine may have other factors.
     mine : Mine
         The mine of the plan, ready for its solver.
     record : dict
@@ -153,7 +153,7 @@ def begun(project: Project, folder: Path, writing: Writing, planned: Optional[Pr
     Parameters
     ----------
     project : Project
-        The project as it was given, which is recorded.
+        The project as given, which is recorded.
     folder : Path
         Where the files go.
     writing : Writing

@@ -69,7 +69,7 @@ def texts_of(values: np.ndarray) -> Optional[list[str]]:
         return None
     if values.dtype != np.float64 and 2 * len(np.unique(values[:SAMPLE])) > SAMPLE:
         return [*map(repr, values.tolist())]
-    # By the bits of floats, which tell 0 from -0.
+    # By the bits of floats, which differ for 0 and -0.
     place, distinct = pd.factorize(values.view(np.int64) if values.dtype == np.float64 else values)
     words = [("" if it != it else repr(it)) for it in distinct.view(values.dtype).tolist()]
     return np.array(words, dtype=object)[place].tolist()

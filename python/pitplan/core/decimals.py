@@ -2,7 +2,7 @@
 
 A number that stands in a table as `0.1` is held as 1 of 10**-1. Sums and products are exact; the only rounding is the
 one that is asked for at the end, and it says how many values it changed. Whole numbers are of 64 bits wherever the greatest of them shows
-beforehand that a result fits, which is many times as fast, and else Python's own.
+beforehand that a result fits, which is many times as fast, and otherwise Python's own.
 """
 
 from __future__ import annotations
@@ -15,7 +15,7 @@ import numpy as np
 
 from .revenue_factors import PER_MILLE, per_mille
 
-# Up to here a float64 holds every whole number, so a decimal of so many digits is told from its float.
+# Up to here a float64 holds every whole number, so a decimal of this many digits follows from its float.
 EXACT_WHOLE = 2**53
 MOST_PLACES = 15
 # Powers of ten up to this one are floats.
@@ -108,7 +108,7 @@ def greatest(whole: Union[int, np.ndarray]) -> int:
 
 def product(left: np.ndarray, right: Union[int, np.ndarray]) -> np.ndarray:
     """Products of whole numbers, exact; of a right one that is no array by it."""
-    # Of zeros a product fits by whatever, which may have more than 64 bits.
+    # A product of zeros fits with any factor, which may have more than 64 bits.
     fits = max(greatest(left), 1) * greatest(right) <= MOST_WHOLE
     return left * right if fits else left.astype(object) * right
 

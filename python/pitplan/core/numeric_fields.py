@@ -1,4 +1,4 @@
-"""The fields of a table's columns as numbers, whatever pandas makes of a column that holds a text."""
+"""The fields of a table's columns as numbers, independently of what pandas makes of a column that holds a text."""
 
 from __future__ import annotations
 
@@ -73,7 +73,7 @@ def is_numeric(column: pd.Series) -> bool:
 
 
 def holds_texts(column: pd.Series) -> bool:
-    """Whether pandas holds the fields as texts or as objects, by whatever name of a dtype."""
+    """Whether pandas holds the fields as texts or as objects, under any name of a dtype."""
     return not is_numeric(column) and not types.is_bool_dtype(column.dtype)
 
 

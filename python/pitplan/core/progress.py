@@ -12,8 +12,8 @@ from pitplan.errors import WARNING, PlanWarning, on_one_line
 
 
 class Progress:
-    """Tells each step when it begins and when it ends; with no stream it tells nothing. The line of a step that has others within it is ended
-    by the first of these, and told anew at its end."""
+    """Prints each step when it begins and when it ends; without a stream it prints nothing. The line of a step that has others within it is ended
+    by the first of these, and printed again at its end."""
 
     def __init__(self, stream: Optional[TextIO] = None) -> None:
         self.stream = stream

@@ -173,7 +173,7 @@ def is_header(row: list[str], usual: float) -> bool:
 
 
 def decimal_of(rows: list[list[str]], separator: str) -> str:
-    """Returns the decimal mark of rows. Commas that separate fields, or thousands, are none."""
+    """Returns the decimal mark of rows. Commas that separate fields, or thousands, do not count."""
     fields = [field for row in rows for field in row]
     has_points = any(WITH_POINT.fullmatch(field) for field in fields)
     has_commas = separator != "," and any(WITH_COMMA.fullmatch(field) for field in fields)
@@ -413,7 +413,7 @@ def is_parquet(file: Path) -> bool:
 def read_parquet(file: Path, codes: list[str], wanted: list[str]) -> tuple[pd.DataFrame, list[str]]:
     """The wanted columns that the file has, numbers as float64 and codes as texts, and the names of all its columns.
 
-    Raises MissingPackage without pyarrow, and PlanError where the file is none that it reads.
+    Raises MissingPackage without pyarrow, and PlanError where the file is not one that it reads.
     """
     pyarrow = reader_of(file)
     try:
@@ -437,7 +437,7 @@ def reader_of(file: Path) -> Any:
 
 
 def plain(frame: pd.DataFrame, codes: list[str]) -> pd.DataFrame:
-    """Codes as texts, empty where there is none; and single floats as the shortest decimals that are theirs: 0.3 and not 0.300000012."""
+    """Codes as texts, empty where none exists; and single floats as the shortest decimals that are theirs: 0.3 and not 0.300000012."""
     result = frame.copy()
     for name in frame.columns:
         if name in codes:

@@ -1,4 +1,4 @@
-"""Costs of blocks by line, of which block values have the sums: mining, depth and haulage; processing, royalty per tonne, haulage of ore and
+"""Costs of blocks by line, which block values add up: mining, depth and haulage; processing, royalty per tonne, haulage of ore and
 penalties of smelters."""
 
 from __future__ import annotations

@@ -128,6 +128,6 @@ def edges_of(worth: NDArray[np.float64], tonnes: NDArray[np.float64], count: int
     through = np.cumsum(np.bincount(place, tonnes))
     shares = np.arange(1, count) / count
     off = np.abs(through[None, :-1] / (through[-1] or 1.0) - shares[:, None])
-    # Of two values that are equally near the lower one counts, whatever the rounding of sums.
+    # Of two values that are equally near the lower one counts, independently of the rounding of sums.
     last = np.unique(np.round(off, DECIMALS).argmin(axis=1))
     return np.asarray((found[last] + found[last + 1]) / 2)

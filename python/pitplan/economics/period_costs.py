@@ -79,7 +79,7 @@ class YearlyMoney:
         return found
 
     def costs(self, years: int) -> dict[str, np.ndarray]:
-        """Returns the columns that a table of so many years has for these."""
+        """Returns the columns that a table of this many years has for these."""
         found = {"fixed_cost": self.fixed(years), "capex": self.spent(years)}
         return {name: found[name] for name in self.columns}
 

@@ -80,7 +80,7 @@ def at_grades(curve: Curve, head: Head) -> np.ndarray:
     points = [(whole_and_places(grade), whole_and_places(share)) for grade, share in curve.points]
     places = max(head.grade.places, head.tonnes_of.places, *(own for (_, own), _ in points))
     finest = max(own for _, (_, own) in points)
-    # A grade at the mill is `grade / unit` of these whole numbers, of which a named grade is `at / one`.
+    # A grade at the mill is `grade / unit` of these whole numbers, and a named grade is `at / one`.
     # Their products are of any size.
     grade, unit, one = head.grade.at(places).astype(object), head.tonnes_of.at(places).astype(object), 10**places
     named = [(at * 10 ** (places - own), share * 10 ** (finest - fine)) for (at, own), (share, fine) in points]

@@ -131,7 +131,7 @@ STOCKPILES = ("#dcc04e", "#9fc79d", "#b9a3cf", "#d99fb0")
 DUMPS = ("#cfc9c0", "#aaa39a", "#87817a", "#e3d8c5", "#b9ae98")
 # Of resource classes, from the best known on; further ones are pale.
 CLASSES, OTHER_CLASS = ("#1f4e79", "#5b93c7", "#b9d3ea", "#d9d4c8", "#ece8df"), "#dddddd"
-# Of other codes, from the most frequent on: colours that the colour-blind tell apart (Okabe and Ito), then paler ones.
+# Of other codes, from the most frequent on: colours that the colour-blind distinguish (Okabe and Ito), then paler ones.
 CODES = (
     *("#0072b2", "#e69f00", "#009e73", "#cc79a7", "#56b4e9", "#d55e00", "#f0e442", "#7f7f7f"),
     *("#8fb3d9", "#f3cf80", "#80cfb9", "#e6bcd3", "#abdaf4", "#eaaf80", "#f8f2a1", "#c0c0c0"),

@@ -78,7 +78,7 @@ def best_shares(feed: Floats, gain: Floats, takes: NDArray[np.bool_], capacity: 
 
 @dataclass(frozen=True)
 class Shipments:
-    """Tonnes of parcels at destinations, waste last; of years in some of which a destination is above its capacity.
+    """Tonnes of parcels at destinations, waste last; of years, in some a destination is above its capacity.
 
     Attributes
     ----------
@@ -187,7 +187,7 @@ HAIR = 1e-9
 EQUAL, TINY = 1e-9, 1e-3
 # How much of a year, or of a shorter period, lies between a cash flow and its end, if it does not flow continuously.
 BEFORE_THE_END = {"end_of_year": 0.0, "mid_year": 0.5}
-# Years of a period of which no time is used.
+# Years of a period without used time.
 MOMENT = 1e-12
 # A discount rate per year, or rates of shape (rates, 1).
 Rate = Union[float, np.ndarray]
@@ -432,7 +432,7 @@ def sequences(case: str, benches: Benches, settings: ShellRules) -> Iterator[np.
 
 
 def specified_pieces(benches: Benches, rules: SpecifiedCase) -> Iterator[np.ndarray]:
-    """Yields the pieces of each shell: benches of its pushbacks, of which each is `bench_lag` benches behind the one before."""
+    """Yields the pieces of each shell: benches of its pushbacks, each `bench_lag` benches behind the one before."""
     pushback = np.searchsorted(np.array(rules.pushbacks), np.array(benches.factors) - HAIR)
     levels, width = benches.columns.shape[1:]
     by_pushback = np.zeros((int(pushback.max(initial=0)) + 1, levels, width))

@@ -69,7 +69,7 @@ def of_pit(plan: Plan, pit: Mask) -> pd.DataFrame:
 
 
 def of_pushbacks(plan: Plan, pushback: NDArray[np.int64], count: int) -> pd.DataFrame:
-    """Returns the curves of the model, of the pit and of each of so many pushbacks, by the pushback of each cell from 1, 0 for none."""
+    """Returns the curves of the model, of the pit and of each of this many pushbacks, by the pushback of each cell from 1, 0 for none."""
     parts = {MODEL: np.ones(len(pushback), dtype=bool), PIT: pushback > 0}
     parts |= {f"pushback {number}": pushback == number for number in range(1, count + 1)}
     return grade_tonnage(plan, parts)

@@ -196,7 +196,7 @@ def with_mining(uses: Floats, shares: Floats, settings: ShellRules) -> Wait:
 
 
 def unions(masks: Mask) -> list[Mask]:
-    """Returns all different unions of rows with a process; all processes if there are none."""
+    """Returns all different unions of rows with a process; all processes if none exist."""
     found = {tuple(row) for row in masks if row.any()} or {(True,) * masks.shape[1]}
     rows = sorted(found)
     for row in rows:

@@ -37,7 +37,7 @@ TOUCHING = np.ones((3, 3, 3), dtype=bool)
 HAIR = 1e-9
 # Narrow pieces of up to this share of a pushback's tonnes go to the pushback before.
 SMALL = 0.25
-# A pushback that keeps less than this share of what its shell adds is told.
+# A pushback that keeps less than this share of what its shell adds is reported.
 FEW = 0.5
 # The largest number of remaining pieces that are named one by one.
 NAMED = 5
@@ -103,7 +103,7 @@ def free_of(plan: Plan) -> np.ndarray:
 
 
 def rectangle(wide: float, sides: tuple[float, float]) -> Rectangle:
-    """Returns the blocks north and east that are at least so many metres wide; `sides` are those of a block."""
+    """Returns the blocks north and east that are at least this many metres wide; `sides` are those of a block."""
     north, east = (max(1, math.ceil(wide / side - HAIR)) for side in sides)
     return north, east
 
@@ -199,7 +199,7 @@ def opened(mask: np.ndarray, free: np.ndarray, shape: Optional[Rectangle]) -> np
     """Returns the cells that lie in a rectangle of true and free cells; all without a rectangle."""
     if shape is None or not mask.any():
         return mask
-    # A line each way comes to the same as the rectangle, and is faster.
+    # A line each way gives the same as the rectangle, and is faster.
     north, east = np.ones((shape[0], 1), dtype=bool), np.ones((1, shape[1]), dtype=bool)
     whole = ndimage.binary_erosion(ndimage.binary_erosion(mask | free, north), east)
     return ndimage.binary_dilation(ndimage.binary_dilation(whole, east), north)

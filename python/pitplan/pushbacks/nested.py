@@ -30,7 +30,7 @@ from pitplan.solver.program import Solution
 
 from . import mining_width
 
-# A shell that misses its share by more than this part of it is told as a gap.
+# A shell that misses its share by more than this part of it is reported as a gap.
 FAR_OFF = 0.1
 
 

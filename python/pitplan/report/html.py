@@ -48,7 +48,7 @@ class Sensitivity:
 def sensitivity_beside(
     project: Project, inputs: dict[str, str], folder: Optional[Path]
 ) -> tuple[Optional[Sensitivity], str]:
-    """Returns the sensitivity to show, and if there is none the reason, or "" if none was run.
+    """Returns the sensitivity to show, and if none exists the reason, or "" if none was run.
 
     Parameters
     ----------

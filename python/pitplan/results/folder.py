@@ -22,7 +22,7 @@ from pitplan.errors import PlanError
 
 from .names import RECORD, TABLE
 
-# Records (.json) as they are read back: each part is of the kind that whatever reads it takes for granted, or the
+# Records (.json) as they are read back: each part is of the kind that its readers take for granted, or the
 # record is refused.
 #
 # A kind is a `Kind`; or a list of one kind, for a list of any length; or a tuple of kinds, for a list of that length;

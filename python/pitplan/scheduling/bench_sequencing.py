@@ -189,8 +189,8 @@ class Sequence:
 
     order  the benches that are dug, each behind those that it waits for
     first  for each bench the first year, from 1, in which it may be dug; None: any
-    eager  whether benches further down the order use what a full limit leaves of the others; else the first limit that is full ends the
-           year, but for that of sinking, which holds up its pushback alone
+    eager  whether benches further down the order use what a full limit leaves of the others; otherwise the first limit that is full ends the
+           year, except for that of sinking, which holds up its pushback alone
     pace   the most rock that is dug by the end of each year; None: any
     """
 

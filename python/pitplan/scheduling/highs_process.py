@@ -32,7 +32,7 @@ Found = TypeVar("Found")
 
 
 def solve(programme: Programme, effort: Effort = Effort(), patience: Optional[float] = None) -> Optimum:
-    """The optimum, in a process of its own unless it takes no time. After so many seconds of `patience` that process is ended, with nothing
+    """The optimum, in a process of its own unless it takes no time. After this many seconds of `patience` that process is ended, with nothing
     found, since HiGHS may go on for long when its own time is up.
 
     Raises PlanError where HiGHS finds nothing although its time is not up, and KeyboardInterrupt, with that process ended, where the run

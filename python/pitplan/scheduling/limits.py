@@ -159,7 +159,7 @@ def grade_limits(project: Project) -> list[GradeLimit]:
 def of_side(
     project: Project, of: tuple[FeedGrade, int], side: tuple[str, float], base: Optional[float]
 ) -> Iterator[GradeLimit]:
-    """Yields the limits of a grade on one side, the name and sign of which are given, in the periods with each value."""
+    """Yields the limits of a grade on one side, with the given name and sign, in the periods with each value."""
     (limit, process), (word, sign) = of, side
 
     def of_period(period: Period) -> Optional[float]:

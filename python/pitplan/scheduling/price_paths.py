@@ -5,7 +5,7 @@ The logarithm X of a price follows the one-factor model of Schwartz (1997): dX =
     mean      X exp(-k t) + a (1 - exp(-k t))
     variance  s^2 (1 - exp(-2 k t)) / (2 k)
 
-so that paths are exact whatever the length of a period. A period has the price at its middle. The mine follows its schedule on every path: what is
+so that paths are exact for any length of a period. A period has the price at its middle. The mine follows its schedule on every path: what is
 mined, and where it goes, stays.
 """
 
@@ -61,7 +61,7 @@ def prices_of(path: PricePath, start: float, times: NDArray[np.float64], seed: t
 
 
 def net_at(metal: Metal, royalty: float, prices: Paths) -> Paths:
-    """Returns what a recovered tonne or gram earns at prices, less royalty and charges: linear in the price, but for price participation."""
+    """Returns what a recovered tonne or gram earns at prices, less royalty and charges: linear in the price, except for price participation."""
     terms = metal.smelter
     plain = replace(metal, smelter=replace(terms, price_participation=None)) if terms else metal
     at_zero, at_step = (float(net(plain, plain.price * 0 + price, plain.price * 0)) for price in (0, STEP))

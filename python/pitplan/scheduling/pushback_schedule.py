@@ -307,7 +307,7 @@ def relaxations(schedule: YearlySchedule, rules: ScheduleRules, progress: Progre
     """Yields the schedule with the optimum of the linear programme and the upper bound, then with those of finer parcels while it pays.
 
     A large programme begins with few parcels. Those of blocks that choose alike follow, each in the years near those in which the programme before
-    mines its bench. The bound holds whatever the parcels and these years are.
+    mines its bench. The bound holds for any parcels and years.
     """
     is_large = FlowProgramme(schedule.model).is_large
     if is_large:

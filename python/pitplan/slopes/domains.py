@@ -40,7 +40,7 @@ class StepList:
 
     @property
     def always(self) -> np.ndarray:
-        """Whether the arc of each step is written whatever the slopes in between, shape (steps,)."""
+        """Whether the arc of each step is written for any slopes in between, shape (steps,)."""
         return ~self.via.any(axis=1)
 
 
@@ -203,7 +203,7 @@ class Slice:
 
 
 def slices(grid: Grid, walls: Walls, blocks: np.ndarray) -> Iterator[Slice]:
-    """Yields the predecessors of blocks, whose ids ascend. Above the highest level there are none."""
+    """Yields the predecessors of blocks, whose ids ascend. Above the highest level none exist."""
     most = max((len(walls.lists[number].steps) for number in np.unique(walls.list_of[blocks])), default=1)
     step = max(1, FIELDS // most)
     for start in range(0, len(blocks), step):

@@ -73,7 +73,7 @@ def preferred() -> str:
 
 
 def place_of(solver: Solver) -> tuple[str, Path]:
-    """Returns the variable that names a solver, and the file that is used here. Raises ProgramError if there is none."""
+    """Returns the variable that names a solver, and the file that is used here. Raises ProgramError if none exists."""
     return ("PITSHELL_LIBRARY", library.loaded().LIBRARY) if solver.by == LIBRARY else ("PITSHELL", paths.program())
 
 

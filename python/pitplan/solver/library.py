@@ -55,7 +55,7 @@ def loaded() -> ModuleType:
 
 @lru_cache(maxsize=1)
 def identity() -> dict[str, str]:
-    """Returns the version of the package and the SHA-256 of the library, which is loaded. Raises ProgramError if there is none."""
+    """Returns the version of the package and the SHA-256 of the library, which is loaded. Raises ProgramError if none exists."""
     pitshell = loaded()
     return {"version": f"libpitshell {pitshell.__version__}", "sha256": hash_of(pitshell.LIBRARY)}
 

@@ -56,7 +56,7 @@ class MineInFiles:
     folder: Path
 
     def shells(self, factors: tuple[float, ...]) -> Solution:
-        """The shells of the rest that fixed blocks leave; of all where there are none."""
+        """The shells of the rest that fixed blocks leave; of all where none exist."""
         names = (
             (mine_files.BLOCKS, mine_files.PREC)
             if self.plan.settled is None

@@ -66,7 +66,7 @@ def ended(command: str, status: int, said: str) -> ProgramError:
 
 
 def identity() -> dict[str, str]:
-    """Returns version and SHA-256 of the program. Raises ProgramError if there is none."""
+    """Returns version and SHA-256 of the program. Raises ProgramError if none exists."""
     return {"version": call("--version").decode().strip(), "sha256": hash_of(program())}
 
 

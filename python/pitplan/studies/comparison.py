@@ -44,7 +44,7 @@ class Run:
     record : dict
         plan.json.
     project : Project
-        The project as it was run.
+        The project as run.
     """
 
     name: str
@@ -110,7 +110,7 @@ class Run:
         return table[table["method"] == self.case].rename(columns={self.word: "year"})
 
     def demand_inputs(self) -> None:
-        """Raises PlanError if an input file is not as it was when the run was made."""
+        """Raises PlanError if an input file has changed since the run was made."""
         for name, path in self.project.named_inputs.items():
             if path == self.project.path:
                 continue
@@ -120,7 +120,7 @@ class Run:
 
 
 def read_runs(folders: Sequence[Path]) -> list[Run]:
-    """Reads runs of one kind, the first of which is the base.
+    """Reads runs of one kind; the first one is the base.
 
     Raises
     ------
@@ -175,7 +175,7 @@ class Change:
     path : tuple of str
         Section, name of the entry if the section is a list of named ones, and key; shorter if a section or an entry is new or gone.
     base, value : object
-        The values; None where there is none.
+        The values; None where none exists.
     """
 
     path: tuple[str, ...]
@@ -193,7 +193,7 @@ class Change:
         return self.path[0] not in SILENT
 
     def texts(self) -> tuple[str, str]:
-        """Returns the values as in a project.toml; "" where there is none."""
+        """Returns the values as in a project.toml; "" where none exists."""
         return text_of(self.base), text_of(self.value)
 
     def made_in(self, data: Data) -> Data:

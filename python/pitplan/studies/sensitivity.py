@@ -336,7 +336,7 @@ class Sensitivity:
         Names of the files of results.
     solver : Solver
     asked : Project
-        The project as it was given.
+        The project as given.
     """
 
     project: Project

@@ -26,7 +26,7 @@ EXPLODED = "INSERT (explode it)"
 
 
 def layers_of(file: SurveyFile) -> tuple[dict[str, Layer], list[str]]:
-    """The layers of the drawing's model space, and what is to be told of it.
+    """The layers of the drawing's model space, and notes on it.
 
     Raises MissingPackage without ezdxf, and PlanError where the file is no drawing, or is in feet.
     """
@@ -35,7 +35,7 @@ def layers_of(file: SurveyFile) -> tuple[dict[str, Layer], list[str]]:
 
 @lru_cache(maxsize=2)
 def read(path: Path, state: tuple[tuple[int, int], ...]) -> tuple[dict[str, Layer], list[str]]:
-    """The same, once for a file that stays in this state, since a second takes 10,000 faces, and the second look reads them too."""
+    """The same, once for a file that stays in this state, since a second takes 10,000 faces, and the verification reads them too."""
     ezdxf = load("ezdxf", PACKAGE, "a .dxf file")
     try:
         drawing = ezdxf.readfile(path)
@@ -48,7 +48,7 @@ def read(path: Path, state: tuple[tuple[int, int], ...]) -> tuple[dict[str, Laye
 
 
 def notes_of(drawing: Any, path: Path) -> list[str]:
-    """A warning where the header names other units than metres: programs write one of their own there, whatever the numbers are in. Raises
+    """A warning where the header names other units than metres: programs write one of their own there, for numbers in any unit. Raises
     PlanError where it names feet, which none does by itself."""
     unit = int(drawing.header.get("$INSUNITS", 0))
     if unit in FEET:
@@ -57,7 +57,7 @@ def notes_of(drawing: Any, path: Path) -> list[str]:
 
 
 def add(layer: Layer, entity: Any) -> None:
-    """Puts what a layer's entity tells into the layer: of what tells nothing the kind alone."""
+    """Adds what a layer's entity holds to the layer; if it holds nothing, its kind alone."""
     kind = entity.dxftype()
     if kind == "3DFACE":
         layer.kinds[kind] += 1

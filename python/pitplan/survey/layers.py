@@ -23,7 +23,7 @@ class Layer:
 
     faces     triangles, arrays of shape (some, 3, 3)
     points    arrays of shape (some, 3), of lines their corners
-    polygons  each a list of rings of shape (some, 2), the first of which is its outline and the others its holes
+    polygons  each a list of rings of shape (some, 2); the first is its outline and the others its holes
     kinds     how much of what there is, in the words of the file's format
     """
 

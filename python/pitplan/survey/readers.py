@@ -1,6 +1,6 @@
 """Topographies and areas of the files that surveyors give: tables of points, strings, drawings (DXF), maps, and rasters of heights.
 
-What reads a file is told by its ending. Coordinates are taken as they are written, in metres of the table's own system: none is
+The ending of a file decides its reader. Coordinates are taken as they are written, in metres of the table's own system: none is
 transformed.
 """
 
@@ -47,7 +47,7 @@ class Topography:
 
 @dataclass(frozen=True)
 class Areas:
-    """Polygons on the map, each a list of rings x, y in metres, of which the first is its outline and the others its holes; and what a
+    """Polygons on the map, each a list of rings x, y in metres; the first is its outline and the others its holes; and what a
     planner should know of them."""
 
     polygons: list[list[np.ndarray]]
@@ -129,7 +129,7 @@ def layers_of(file: SurveyFile) -> tuple[dict[str, Layer], list[str]]:
 
 @contextmanager
 def reading(path: Path) -> Iterator[None]:
-    """Raises PlanError in the place of whatever a reader of others raises in the middle of a file that is cut short or bent."""
+    """Raises PlanError in place of any error that a reader of others raises in the middle of a file that is cut short or bent."""
     try:
         yield
     except (PlanError, MemoryError):

@@ -62,7 +62,7 @@ class Recognised:
     figure : str
         The path of the figure from the folder that is served; empty without one.
     project_hash : str
-        SHA-256 of the project as it was written.
+        SHA-256 of the project as written.
     """
 
     notes: list[str]

@@ -111,7 +111,7 @@ class Jobs:
     def __init__(self, root: Path) -> None:
         self.root, self.folder = root, root / FOLDER
         self.runners: list[subprocess.Popen[bytes]] = []
-        # Jobs that have ended do not change. All are read when the queue is looked through first.
+        # Jobs that have ended do not change. All are read when the queue is read first.
         self.ended: dict[int, Job] = {}
         self.lock = threading.RLock()
         demand_private(self.folder)

@@ -87,7 +87,7 @@ def demand_project(text: str, path: Path, name: str) -> Project:
 
 
 def sent(text: str) -> str:
-    """Returns a text as it was typed: browsers send each end of a line as two letters."""
+    """Returns a text as typed: browsers send each end of a line as two letters."""
     return text.replace("\r\n", "\n")
 
 

@@ -46,7 +46,7 @@ HOST = "127.0.0.1"
 PATIENCE, MOST_REQUESTS = 20.0, 200
 # Seconds in which the same message is logged once.
 SPARING = 60.0
-# How often the queue is looked through, in seconds.
+# How often the queue is read, in seconds.
 PACE = 0.5
 
 

@@ -19,7 +19,7 @@ from .kept import Kept
 
 # Folders below the one that is served are searched to this depth.
 DEPTH = 5
-# How many projects and records are kept as they were read.
+# How many projects and records are kept after reading.
 KEPT = 5_000
 # The record of each kind of results, with the title of those without a plan.
 RECORDS = {
@@ -212,7 +212,7 @@ def project_in(path: Path, name: str) -> list[ProjectFile]:
 
 
 def record_in(path: Path, kind: str) -> Record:
-    """Returns the record in a file, of this kind or of that which it says. Raises ValueError, OSError or RecursionError if it is none."""
+    """Returns the record in a file, of this kind or of that which it says. Raises ValueError, OSError or RecursionError if it is not a record."""
     said = json.loads(path.read_text(encoding="utf-8"))
     if not isinstance(said, dict):
         raise ValueError(path)

@@ -83,7 +83,7 @@ def greatest(above: np.ndarray, inside: list[Run]) -> np.ndarray:
     far = max(max(abs(run.west), abs(run.east)) for run in inside)
     padded = np.zeros((levels, rows + 2 * deep, columns + 2 * far), dtype=above.dtype)
     padded[:, deep : deep + rows, far : far + columns] = above
-    # The largest value of one, two, four .. cells from each on, two of which cover a run.
+    # The largest value of one, two, four .. cells from each on, where two cover a run.
     powers, found = [padded], np.zeros_like(above)
     while 2 ** len(powers) <= max(run.east - run.west + 1 for run in inside):
         half = 2 ** (len(powers) - 1)

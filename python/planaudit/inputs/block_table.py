@@ -197,7 +197,7 @@ def with_stripped(frame: pd.DataFrame, codes: list[str]) -> pd.DataFrame:
 def stripped(codes: pd.Series) -> pd.Series:
     """Returns codes without blanks around them; missing ones are empty."""
     texts = codes.fillna("").astype(str) if codes.hasnans else codes
-    # A look at all of them together is faster than a strip of each.
+    # Reading all of them together is faster than a strip of each.
     whole = "\0".join(texts.tolist())
     has_blanks = len(whole.split()) > 1 or whole.strip() != whole
     return texts.str.strip() if has_blanks else texts

@@ -60,5 +60,5 @@ class Calendar:
         return sum(self.months(each) for each in range(1, number + 1)) / MONTHS
 
     def time(self, place: float) -> float:
-        """Returns the years until `place` periods are over, the last of which may be a part of one."""
+        """Returns the years until `place` periods are over, the last one may be a part."""
         return self.end(int(place)) + (place - int(place)) * self.length(int(place) + 1)

@@ -26,7 +26,7 @@ HEAD = 2
 
 @dataclass
 class Layer:
-    """A layer: points, shape (n, 3); triangles, shape (n, 3, 3); and polygons as rings, shape (n, 2), the first of which is the outline."""
+    """A layer: points, shape (n, 3); triangles, shape (n, 3, 3); and polygons as rings, shape (n, 2), the first is the outline."""
 
     points: list[np.ndarray] = field(default_factory=list)
     faces: list[np.ndarray] = field(default_factory=list)

@@ -1,6 +1,6 @@
 """Reads plain tables: all fields of a column at the same time, from their bytes.
 
-A plain table is ASCII without quotes, each row of which has as many fields as there are names. A number of at most 15 digits is a whole number that
+A plain table is ASCII without quotes, whose rows have as many fields as there are names. A number of at most 15 digits is a whole number that
 a float holds, divided by a power of ten that a float holds, so that one division rounds it as the standard sets it. Other numbers are read field by
 field. Fields of at most eight characters are words, and equal words are read once. Pandas reads tables that are not plain.
 """

@@ -93,7 +93,7 @@ def walls(values: list[Section]) -> tuple[dict[str, Any], ...]:
 
 
 def accepts(data: Section) -> dict[str, Any]:
-    """Returns codes, any if there are none, and ranges of in-situ grades, both limits included."""
+    """Returns codes, any if none exist, and ranges of in-situ grades, both limits included."""
     ranges = sides(others(data, CODES))
     return section("accepts", data) | {"grades": tuple({"column": name} | it for name, it in ranges.items())}
 

@@ -44,7 +44,7 @@ def together(parts: pd.DataFrame, project: Project, grid: dict[str, Any]) -> pd.
     found[columns["x"]], found[columns["y"]] = places_of(np.stack([east, north], axis=1), grid).T
     found[columns["z"]] = grid["origin"][2] + grid["size"][2] * up
     if columns["id"]:
-        # From the west, the south and the floor of the whole table, of which blocks may be removed.
+        # From the west, the south and the floor of the whole table, whose blocks may be removed.
         from_one = [(axis - axis.min() + 1).tolist() for axis in cells.places]
         found[columns["id"]] = np.array([f"{east}-{north}-{up}" for east, north, up in zip(*from_one)], dtype=object)
     return pd.DataFrame(found, copy=False)

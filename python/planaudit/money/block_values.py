@@ -21,7 +21,7 @@ from planaudit.money import haulage, smelter
 from planaudit.money.feed import at_grade, by_code, of_code
 from planaudit.rules import TOLD, Rule, rule
 
-# Blocks of which the amounts are near a half of the last decimal, so that floats do not tell its rounding: so many are computed exactly, and so
+# Blocks whose amounts are near a half of the last decimal, so that floats do not decide its rounding: this many are computed exactly, and this
 # many others.
 NEAR_HALVES, SAMPLE = 20_000, 2_000
 # The error of an amount by floats, in units of its last decimal and as a share.
@@ -48,7 +48,7 @@ def verify(answer: Answer) -> Rule:
 def unlike(answer: Answer, names: tuple[str, str]) -> tuple[list[str], int, int]:
     """Returns the first ten differences of each amount, their number, and how many blocks are not compared exactly.
 
-    Floats tell the rounding of an amount unless it is near a half of its last decimal. These amounts are computed by exact decimals.
+    Floats decide the rounding of an amount unless it is near a half of its last decimal. These amounts are computed by exact decimals.
     """
     unit, rows, differences, count = 10.0 ** -answer.project.economics["decimals"], len(answer.rows), [], 0
     near = np.zeros(rows, dtype=bool)

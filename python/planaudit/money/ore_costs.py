@@ -13,7 +13,7 @@ from planaudit.money.period_costs import BY_TERMS, PROCESSING, SELLING, differin
 
 
 def charged(metal: Section) -> float:
-    """Returns what is charged for a recovered tonne or gram, whatever the price."""
+    """Returns what is charged for a recovered tonne or gram, at any price."""
     return float(
         sum(it for name, it in smelter.charged(metal, metal["price"]).items() if name != smelter.PARTICIPATION)
     )

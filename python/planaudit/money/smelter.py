@@ -34,7 +34,7 @@ def paid_share(metal: Section) -> Decimal:
         return Decimal(1)
     if not terms["minimum_deduction"]:
         return terms["payable"]
-    # Of each tonne of concentrate so many units are not paid.
+    # Of each tonne of concentrate this many units are not paid.
     left = Fraction(terms["concentrate_grade"] or 0) - Fraction(terms["minimum_deduction"])
     return min(terms["payable"], to_twelve(left / Fraction(terms["concentrate_grade"] or 1)))
 

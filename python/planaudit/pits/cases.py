@@ -130,7 +130,7 @@ class Pieces:
         return found
 
     def of_benches(self, shares: np.ndarray, count: int) -> np.ndarray:
-        """Returns shares of pieces, shape (years, pieces), as shares of so many benches."""
+        """Returns shares of pieces, shape (years, pieces), as shares of this many benches."""
         found = np.zeros((len(shares), count))
         found[:, self.bench] = shares[:, self.piece]
         return found

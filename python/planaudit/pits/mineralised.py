@@ -12,7 +12,7 @@ from planaudit.money import block_values as money
 from planaudit.revenue_factors import BASE_PRICE, PER_MILLE, per_mille
 
 NAME = "mineralised_waste_tonnes"
-# Floats tell whether a block pays unless the amounts differ by at most so many units of the last decimal, or this share of the revenue.
+# Floats decide whether a block pays unless the amounts differ by at most this many units of the last decimal, or this share of the revenue.
 UNITS, REL = 2.0, 1e-9
 
 

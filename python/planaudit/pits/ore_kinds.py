@@ -19,7 +19,7 @@ from planaudit.money.feed import recovered
 from planaudit.money.period_costs import premiums, years_of_prices
 from planaudit.pits.capacities import Capacity
 
-# Value bins of each process; net values per tonne are rounded to so many decimals; and amounts of money are whole millionths.
+# Value bins of each process; net values per tonne are rounded to this many decimals; and amounts of money are whole millionths.
 BINS, DECIMALS, MILLIONTHS = 8, 6, 1e6
 # Decimals to which two shares of tonnage are equally near.
 NEAR = 9

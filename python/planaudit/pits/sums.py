@@ -164,7 +164,7 @@ def total(amounts: np.ndarray) -> int:
 
 
 def first_processed(answer: Answer) -> np.ndarray:
-    """Returns for each block the least revenue factor at which it is mined and processing it pays; 0 if there is none."""
+    """Returns for each block the least revenue factor at which it is mined and processing it pays; 0 if none exists."""
     first = answer.said["revenue_factor"].to_numpy()
     expected = np.zeros(len(first))
     if answer.project.economics["cutoff"] == "per_revenue_factor":

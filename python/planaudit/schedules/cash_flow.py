@@ -32,7 +32,7 @@ CHARGES = ("treatment_charge", "refining_charge", "participation", "freight", sm
 OF_SELLING = tuple(f"{name}_" for name in (smelter.SELLING, *CHARGES))
 COSTS = (*OF_SELLING, "mining_cost_", "processing_cost_")
 OTHER_COSTS = ("haulage_cost", "stacking_cost", "reclaim_cost", "dump_cost", "fixed_cost")
-# With so many decimals the rounding of block values is no line.
+# With this many decimals the rounding of block values is no line.
 MOST_DECIMALS = 6
 
 

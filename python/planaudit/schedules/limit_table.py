@@ -92,7 +92,7 @@ class LimitTable:
             for name, (_, most) in self.limits.items()
             if np.isfinite(most).any() or name in self.minimums or name in shown
         ]
-        # Limits hold in the years of the linear programme, of which a method may have fewer.
+        # Limits hold in the years of the linear programme, and a method may have fewer.
         piles = stock_limits(self.answer.project, max(last, int(self.years)))
         held = [f"{STOCK}{name}" for name, (least, most) in piles.items() if least.any() or np.isfinite(most).any()]
         held += list(dumps.limits_of(self.answer.project, max(last, 1)))
@@ -151,7 +151,7 @@ class LimitTable:
         return grade, loose, *((np.nan, limit) if first.sign > 0 else (limit, np.nan)), price
 
     def bounds(self, name: str, year: int) -> tuple[float, float]:
-        """Returns minimum and maximum of a year; nan where there is none."""
+        """Returns minimum and maximum of a year; nan where none exists."""
         if name.startswith(ADVANCE):
             project = self.answer.project
             assert project.schedule is not None

@@ -91,7 +91,7 @@ class BlockAmounts:
 
     @cached_property
     def charges(self) -> dict[str, np.ndarray]:
-        """What is charged for a tonne or gram of each metal in each process, whatever the price."""
+        """What is charged for a tonne or gram of each metal in each process, at any price."""
         return ore_costs.charges(self.answer)
 
     @cached_property

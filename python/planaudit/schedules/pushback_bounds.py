@@ -35,7 +35,7 @@ HOLDS = (
     "wherever each block goes"
 )
 CENT, HAIR, SLIGHT = 0.01, 1e-9, 1e-7
-# Over so many years limits of mining are compared.
+# Over this many years limits of mining are compared.
 SPAN = 3
 # A limit by year.
 Limits = dict[tuple[str, str], np.ndarray]

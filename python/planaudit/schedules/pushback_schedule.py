@@ -50,7 +50,7 @@ AMOUNT, SHARE = 0.6e-3, 0.6e-9
 class Way:
     """The schedule of one method.
 
-    rows  the rows of schedule.csv, with the `level` of their bench, from 0 at the top; -1 if there is none
+    rows  the rows of schedule.csv, with the `level` of their bench, from 0 at the top; -1 if none exists
     said  its entry in schedule.json
     """
 

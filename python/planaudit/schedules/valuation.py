@@ -47,7 +47,7 @@ class Periods:
         return float(self.present(rate).sum())
 
     def is_return(self, said: float) -> bool:
-        """Whether a rate is where the NPV becomes 0; nan if it is none above 0."""
+        """Whether a rate is where the NPV becomes 0; nan if none above 0."""
         slight = AMOUNT * (len(self.cash) + 2)
         if np.isnan(said):
             return self.npv(0.0) <= slight or self.npv(10.0) > -slight

@@ -37,7 +37,7 @@ def points(axis: Data) -> list[tuple[Any, Pairs, Pairs]]:
 
 
 def set_key(data: Data, path: list[str], value: Any) -> None:
-    """Sets a key by its path: entries of lists go by name, or by number from 1. Of a list with one pair the second number is set."""
+    """Sets a key by its path: entries of lists have a name, or a number from 1. Of a list with one pair the second number is set."""
     entry: Any = data
     for part in path[:-1]:
         by_name = {str(it["name"]): it for it in entry if isinstance(it, dict) and "name" in it}

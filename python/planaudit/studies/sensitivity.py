@@ -37,7 +37,7 @@ AXES = ("parameter", "change", "second_parameter", "second_change")
 HILL_AXES = ("parameter", "value", "second_parameter", "second_value")
 # Keys of [metals.smelter] that are charges.
 CHARGES = ("treatment_charge", "refining_charge", "freight")
-# The pits of which a case has amounts: its own, that of the base case, and the skin of this.
+# The pits whose amounts a case has: its own, that of the base case, and the skin of this.
 CASE, KEPT_PIT, SKIN = "case", "kept", "skin"
 KEPT = ("undiscounted_cash_flow", "npv_best", "npv_worst", "npv_specified", "years")
 OF_EACH = {
@@ -369,7 +369,7 @@ def changed(
 
 
 def change_key(data: Data, path: list[str], by: Decimal) -> None:
-    """Changes the numbers of a key, by its path: entries of lists go by name, or by number from 1."""
+    """Changes the numbers of a key, by its path: entries of lists have a name, or a number from 1."""
     entry: Any = data
     for part in path[:-1]:
         if isinstance(entry, list):

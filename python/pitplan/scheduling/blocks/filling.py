@@ -28,7 +28,7 @@ class Ranks:
     """Blocks in an order in which each stands behind all that it needs.
 
     order   the blocks
-    bounds  the blocks of rank k, of which the longest way of needs has k pairs, are `order[bounds[k]:bounds[k + 1]]`
+    bounds  the blocks of rank k, whose longest way of needs has k pairs, are `order[bounds[k]:bounds[k + 1]]`
     """
 
     order: NDArray[np.int64]
@@ -85,7 +85,7 @@ def greatest_needed(needs: Needs, ranks: Ranks, keys: NDArray[np.float64]) -> ND
 
 
 def row_starts(needs: Needs, rows: NDArray[np.int64]) -> NDArray[np.int64]:
-    """Where each of the given rows, none of which is empty, begins in `rows_of` them."""
+    """Where each of the given rows, all with entries, begins in `rows_of` them."""
     counts = needs.starts[rows + 1].astype(np.int64) - needs.starts[rows]
     return np.cumsum(counts) - counts
 
@@ -122,7 +122,7 @@ def cones_with(needs: Needs, ranks: Ranks, marked: NDArray[np.int64]) -> NDArray
     return held
 
 
-# A gain of a smaller share is none.
+# A gain of a smaller share does not count.
 GAIN_NOISE = 1e-9
 
 
@@ -213,7 +213,7 @@ class Filling:
         return None
 
     def without_loss(self, sequence: Sequence) -> BlockSchedule:
-        """The filled years without what does not pay at its time, filled anew without it as long as that gains."""
+        """The filled years without what does not pay at its time, filled again without it as long as that gains."""
         best = nothing(self.problem)
         schedule = self.fill(sequence)
         while True:
@@ -272,7 +272,7 @@ def preferences(problem: BlockProblem, prices: NDArray[np.float64]) -> NDArray[n
 # Goycoolea, Moreno and Rubio, A new algorithm for the open-pit mine production scheduling problem, Operations
 # Research 60(3), 2012).
 
-# By these shares of a block the year in which it is dug is told, besides the expected year.
+# By these shares of a block the year in which it is dug is guessed, besides the expected year.
 PARTS = (0.1, 0.5, 0.9)
 # Years before that in which the relaxation begins a block from which on it may be dug; None: any.
 EARLIER = (0, 1, None)

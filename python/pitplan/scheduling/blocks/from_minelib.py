@@ -36,7 +36,7 @@ def limit_of(model: ScheduleModel, resource: int) -> Limit:
     for place, amount in model.taken[resource].items():
         amounts[place] = float(amount)
     bounds = [model.limits.get((resource, period), (None, None)) for period in range(model.periods)]
-    # Amounts are 0 or more, and so a least below 0 is none.
+    # Amounts are 0 or more, and so a least below 0 has no effect.
     least = np.array([max(float(below or 0), 0.0) for below, _ in bounds])
     most = np.array([np.inf if above is None else float(above) for _, above in bounds])
     return Limit(f"resource {resource}", amounts, most, least)

@@ -77,7 +77,7 @@ class HeadGrade:
     name : str
         Its column in years.csv, such as head_grade_mill_as_ppm.
     destination : int
-        The number of the process among the destinations, of which waste is 0.
+        The number of the process among the destinations; waste is 0.
     limits : dict of str to GradeLimit
         The limits by name, such as grade_mill_as_ppm_max; one for each value that some period has.
     content, feed : array, shape (cells,)
@@ -205,7 +205,7 @@ def of_plan(plan: Plan) -> PlannedBlocks:
 
 
 def diggable(plan: Plan, wanted: NDArray[np.bool_]) -> tuple[NDArray[np.int64], Needs]:
-    """The cells that are wanted, or must be dug, with all that they need but for air that no rock lies over; and their needs."""
+    """The cells that are wanted, or must be dug, with all that they need except for air that no rock lies over; and their needs."""
     cells = cells_of(plan, wanted)
     needs = needs_of(plan, cells)
     is_under_rock = greatest_needed(needs, ranks_of(needs), (plan.values.tonnes[cells] > 0).astype(float)) > 0
@@ -229,7 +229,7 @@ def demand_small(plan: Plan, cells: NDArray[np.int64], held: dict[str, NDArray[n
 
 
 def dues_of(forced: NDArray[np.bool_], destinations: int) -> tuple[Due, ...]:
-    """That the forced blocks are dug in some year; nothing where there are none."""
+    """That the forced blocks are dug in some year; nothing where none exist."""
     of_each = np.repeat(forced[:, None], destinations, axis=1).astype(float)
     return (Due(f"{forced.sum():,} must-mine blocks", of_each, float(forced.sum())),) if forced.any() else ()
 

@@ -41,7 +41,7 @@ class Whole:
 
 
 def upward(values: NDArray[np.float64], error: NDArray[np.float64] | float = 0.0) -> Whole:
-    """The least whole numbers that are at least `values`, each of which may be too small by its error, 0 or more."""
+    """The least whole numbers that are at least `values`, each may be too small by its error, 0 or more."""
     most = float(np.abs(values).max(initial=0.0) + np.max(error, initial=0.0))
     exponent = int(np.frexp(most)[1]) - BITS if most else 0
     # The sum itself may be rounded down.
@@ -71,7 +71,7 @@ def least_float(exact: Fraction) -> float:
 class Limit:
     """The most of a sum that a year may hold, and the least that it must.
 
-    name     as it is told
+    name as it is printed
     amounts  what each block adds to the sum in each destination, 0 or more unless the limit is signed: shape (blocks, destinations)
     most     by year, infinite where there is no limit: shape (years,)
     least    by year; None: 0 in all, or none at all of a signed limit
@@ -86,7 +86,7 @@ class Limit:
 
     @property
     def floor(self) -> NDArray[np.float64]:
-        """The least by year: 0 where nothing is due, since no block takes from the sum; of a signed limit there is none."""
+        """The least by year: 0 where nothing is due, since no block takes from the sum; of a signed limit none exists."""
         if self.signed:
             return np.full_like(self.most, -np.inf)
         return np.zeros_like(self.most) if self.least is None else self.least
@@ -271,7 +271,7 @@ MOST_NODES, MOST_PAIRS = 4_194_304, 67_108_864
 class Nodes:
     """The nodes year by year, there block by block, and there destination by destination.
 
-    problem  of which they are, its blocks by rising first years
+    their problem, its blocks by rising first years
     first    the first year in which each block can be mined, from 0: shape (blocks,)
     """
 
@@ -437,7 +437,7 @@ class BlockSchedule:
         return np.asarray((self.sums(problem) > most + self.slack(problem)).any(axis=0))
 
     def lacking(self, problem: BlockProblem) -> float:
-        """What lacks of what years must hold at least, as shares of it added up; 0 where nothing does but for a hair."""
+        """What lacks of what years must hold at least, as shares of it added up; 0 where nothing does except for a hair."""
         floors = np.array([limit.floor for limit in problem.limits]).reshape(len(problem.limits), problem.years)
         short = [np.maximum(floors - self.sums(problem), 0.0) / np.where(floors > 0, floors, 1.0)]
         short += [
@@ -457,7 +457,7 @@ class BlockSchedule:
         return self.is_allowed(problem) and not self.lacking(problem)
 
     def is_allowed(self, problem: BlockProblem) -> bool:
-        """Whether no block is dug before one that it needs, each goes whole to destinations, and no year is above a limit but for a
+        """Whether no block is dug before one that it needs, each goes whole to destinations, and no year is above a limit except for a
         hair."""
         is_dug = self.year < problem.years
         whole = np.abs(self.share.sum(axis=1) - is_dug) <= HAIR

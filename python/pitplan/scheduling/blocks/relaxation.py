@@ -40,7 +40,7 @@ class Groups:
         return renumbered(2 * self.label.astype(np.int64) + in_closure, 2 * self.count)
 
     def parents(self, divided: Groups) -> NDArray[np.int32]:
-        """The group of which each of the divided groups is a part."""
+        """The group that contains each of the divided groups."""
         found = np.empty(divided.count, dtype=np.int32)
         found[divided.label] = self.label
         return found
@@ -68,13 +68,13 @@ class History:
         return History(np.column_stack(columns)[:, -2 * ROUNDS_KEPT :])
 
     def coarsened(self, groups: Groups) -> tuple[Groups, History]:
-        """Puts groups together that the last rounds do not tell apart."""
+        """Puts groups together that the last rounds do not separate."""
         rows, number = np.unique(self.found, axis=0, return_inverse=True)
         return groups.of_groups(number.ravel()), History(rows)
 
 
 def renumbered(label: NDArray[np.int64], most: int) -> Groups:
-    """Groups by numbers below `most`, of which some may be left out."""
+    """Groups by numbers below `most`, some may be left out."""
     is_there = np.zeros(most, dtype=bool)
     is_there[label] = True
     number = np.cumsum(is_there, dtype=np.int64) - 1
@@ -85,10 +85,10 @@ def renumbered(label: NDArray[np.int64], most: int) -> Groups:
 # bound.
 #
 # With a price on each unit of each sum in each year, what the nodes are worth then and the prices times the limits
-# are together at least what any schedule earns (Lagrange): a price above 0 is paid for the most, of which a schedule
-# takes no more, and one below 0 is earned for the least, of which it takes no less; so each price times what it takes
-# is at most the price times that limit. So a bound needs no optimum of the prices, and whatever floats they are it
-# holds: what a block earns at them is rounded upward, by more than the floats may have lost. Where blocks earn
+# are together at least what any schedule earns (Lagrange): a price above 0 is paid for the most that a schedule may
+# take, and one below 0 is earned for the least that it must take; so each price times what it takes
+# is at most the price times that limit. So a bound needs no optimum of the prices, and it holds for any
+# floats: what a block earns at them is rounded upward, by more than the floats may have lost. Where blocks earn
 # nothing but prices, a bound below 0 shows that no schedule keeps what is due: it would earn 0.
 #
 # Each year is solved for itself first. If the pit of each year lies within that of the next, all of them are the
@@ -154,7 +154,7 @@ def solved(nodes: Nodes, gain: NDArray[np.int64], first: int, last: int) -> Part
 
 
 def joined_years(nodes: Nodes, parts: list[Part]) -> list[tuple[int, int]]:
-    """The years of parts; those are put together, if the library takes them so, of which one has a block by its last year that the next has
+    """The years of parts; those are put together, if the library takes them so, where one has a block by its last year that the next has
     not by its first."""
     found = [(parts[0].first, parts[0].last)]
     for part, following in zip(parts, parts[1:]):
@@ -310,7 +310,7 @@ class Master:
         ]
 
     def solve(self, groups: Groups, seeks_dues: bool = False) -> Restricted:
-        """The optimum of these groups; or the least that lacks of what is due, whatever it earns. Raises PlanError where HiGHS finds
+        """The optimum of these groups; or the least that lacks of what is due, at any earnings. Raises PlanError where HiGHS finds
         none."""
         # What leads in a circle is dug to one share.
         pairs = pairs_of(groups, self.nodes)
@@ -456,8 +456,8 @@ def order_rows(pairs: csr_matrix) -> csr_matrix:
 # The bound of all schedules by block: the linear relaxation, solved by rounds of a small programme and a closure.
 #
 # Each round solves the relaxation over groups of nodes, takes the prices of its limits, and solves
-# the closure at these, which divides groups. Groups that the last rounds do not tell apart are put
-# together. The closure's bound holds whatever the prices are, so a run may end at any round with the
+# the closure at these, which divides groups. Groups that the last rounds do not separate are put
+# together. The closure's bound holds at any prices, so a run may end at any round with the
 # least bound so far. If the closure divides no group, or its bound is met, the relaxation is solved.
 
 # The first groups lie between the nested pits of this number of revenue factors.
@@ -644,7 +644,7 @@ def worth_digging(problem: BlockProblem, required: Optional[NDArray[np.bool_]] =
     earns no less: what these earn is the sum over years of what they gain with all of them that are dug by then. Where a block earns one
     value times a discount that falls with the years, and nothing is due, U is the ultimate pit.
 
-    Raises pitshell.Refusal where the needs are none.
+    Raises pitshell.Refusal where the needs are invalid.
     """
     gains = by_end(upward(problem.values.max(axis=1)).amounts)
     needs = problem.needs.starts, problem.needs.needed
@@ -662,7 +662,7 @@ def worth_digging(problem: BlockProblem, required: Optional[NDArray[np.bool_]] =
 
 def earliest_years(problem: BlockProblem, ranks: Ranks) -> NDArray[np.int64]:
     """The first year, from 0, by whose end a block can be dug with all that it needs, as the limits up to then allow; as many as there are
-    years where there is none. Shape (blocks,). Signed limits show no such year, since other blocks may make room."""
+    years where none exists. Shape (blocks,). Signed limits show no such year, since other blocks may make room."""
     first, limits = np.zeros(problem.blocks, dtype=np.int64), [limit for limit in problem.limits if not limit.signed]
     if not limits:
         return first

@@ -26,8 +26,8 @@ RELAXED = 1e-4
 WINDOW_SECONDS, PATIENCE = 60.0, 180.0
 # HiGHS ends within this number of seconds after its time limit, or much later.
 LATE = 10.0
-# Windows are solved again for this number of seconds while years miss a minimum; the message names at most TOLD of these years.
-DUE_SECONDS, TOLD = 600.0, 5
+# Windows are solved again for this number of seconds while years miss a minimum; the message names at most MOST_NAMED of these years.
+DUE_SECONDS, MOST_NAMED = 600.0, 5
 
 
 @dataclass(frozen=True)
@@ -183,7 +183,7 @@ class Search:
                 self.offer(with_best_shares(self.problem, better))
 
     def keep_dues(self, began: float) -> None:
-        """Solves windows anew while something lacks of what must be held at least, and less does."""
+        """Solves windows again while something lacks of what must be held at least, and less does."""
         effort = Effort(0.0, time.monotonic() - began + DUE_SECONDS)
         for size in sizes_of(self.problem) if self.best.lacking(self.problem) else []:
             while self.best.lacking(self.problem) and self.sweep(size, effort, began, until_kept=True):
@@ -198,7 +198,7 @@ class Search:
             short = np.flatnonzero(by_year < limit.floor * (1 - HAIR))
             told += [
                 f"{problem.word} {year + 1} has {by_year[year]:,.10g} of {limit.name} for {limit.floor[year]:,.10g}"
-                for year in short[:TOLD]
+                for year in short[:MOST_NAMED]
             ]
         told += [
             due.name for due in problem.dues if float((due.amounts * self.best.share).sum()) < due.least * (1 - HAIR)
@@ -207,7 +207,7 @@ class Search:
         raise PlanError(f"{why}: {'; '.join(told)}: reduce the minimums, or increase [schedule] milp seconds")
 
     def windows(self, effort: Effort, began: float) -> None:
-        """Solves window after window anew, larger ones once none has become better, until the gap is reached or the seconds are over."""
+        """Solves window after window again, larger ones once none has become better, until the gap is reached or the seconds are over."""
         for size in sizes_of(self.problem):
             while self.sweep(size, effort, began):
                 pass
@@ -226,7 +226,7 @@ class Search:
         return self.best.is_better(before, self.problem)
 
     def solved(self, window: Window, effort: Effort, patience: float) -> BlockSchedule:
-        """The schedule with a window solved anew, unless that was done of the same blocks in the same years."""
+        """The schedule with a window solved again, unless that was done of the same blocks in the same years."""
         tried = (window.first, window.last), window.blocks.tobytes(), self.best.year[window.blocks].tobytes()
         if not len(window.blocks) or tried in self.tried:
             return self.best

@@ -243,7 +243,7 @@ def inventory_table(blocks: ScheduledBlocks) -> pd.DataFrame:
 
 
 def inventory_rows(blocks: ScheduledBlocks, number: int) -> pd.DataFrame:
-    """Returns a row per block with tonnes of which a share goes to a destination, by its number."""
+    """Returns a row per block with tonnes whose share goes to a destination, by its number."""
     planned, schedule = blocks.planned, blocks.found.schedule
     plan, destination = planned.plan, planned.destinations[number]
     mined = (schedule.year < planned.problem.years) & (plan.values.tonnes[planned.cells] > 0)

@@ -1,4 +1,4 @@
-"""A schedule made better by integer programmes: some years at a time, and of their blocks those of which the relaxation is least sure.
+"""A schedule made better by integer programmes: some years at a time, and of their blocks those that the relaxation decides least.
 
 The unknowns of a window are, for each of its free blocks and each of its years, whether the block is dug by the year's end, and in which
 shares it goes to destinations in that year. All other blocks stay as they are: a free block is dug no sooner than what it needs of them and
@@ -76,7 +76,7 @@ class Window:
         )
 
     def owed(self) -> csr_matrix:
-        """A row for each sum that must be held at least, of which the other blocks leave something due: what shares add, as parts of
+        """A row for each sum that must be held at least, if the other blocks leave something due: what shares add, as parts of
         that."""
         rows = [csr_matrix((0, self.width))]
         for limit in self.part.limits:
@@ -167,7 +167,7 @@ class Window:
         return matrix, -np.ones(len(some))
 
     def solved(self, effort: Effort, patience: float = np.inf) -> BlockSchedule:
-        """The schedule with the best that was found in the window, or as it was where that is no better, or is not found in so many
+        """The schedule with the best that was found in the window, or unchanged where that is no better, or is not found in this many
         seconds of patience.
 
         Raises PlanError where HiGHS fails, and KeyboardInterrupt where it is interrupted.
@@ -188,7 +188,7 @@ class Window:
 
 
 def sizes_of(problem: BlockProblem) -> list[tuple[int, int]]:
-    """Years and most unknowns of windows, one size after the other: all years where all blocks fit, else a few of which only some are
+    """Years and most unknowns of windows, one size after the other: all years where all blocks fit, otherwise a few with some that are
     free."""
     if problem.blocks * problem.years <= MOST_UNKNOWNS or problem.years == 1:
         return [(problem.years, MOST_UNKNOWNS)]
@@ -204,7 +204,7 @@ def window_of(
     most: int = MOST_UNKNOWNS,
 ) -> Window:
     """The window of years, with the blocks dug in them and those not dug that the relaxation begins by their end; where they make more than
-    so many unknowns those whose expected year is nearest to the middle.
+    this many unknowns those whose expected year is nearest to the middle.
 
     cumulative  the share of each block that the relaxation has dug by the end of each year: shape (blocks, years)
     """

@@ -105,7 +105,7 @@ class Finance:
         return float(cash @ of_cash - self.statement.capex @ of_capex)
 
     def irr(self, cash: Amounts) -> float:
-        """Returns the least rate above 0 from which on the NPV is not positive; nan if it is none at 0 %, or still is at 1,000 %."""
+        """Returns the least rate above 0 from which on the NPV is not positive; nan if it is not positive at 0 %, or still is at 1,000 %."""
         of_cash, of_capex = self.factors_of_rates
         below = np.flatnonzero(of_cash @ cash - of_capex @ self.statement.capex <= 0)
         if not len(below) or below[0] == 0:

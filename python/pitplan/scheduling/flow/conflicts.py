@@ -1,7 +1,7 @@
 """Which limits conflict if no schedule meets the minimums: by elastic programmes and their dual values.
 
 Each minimum, and each maximum of a stockpile, may be missed at the cost of the share that is missed. The dual values of the optimum prove that
-so much is missed: the limits that have one conflict with each other, whatever the other limits are (Farkas' lemma). A deletion filter leaves out
+so much is missed: the limits that have one conflict with each other, for any values of the other limits (Farkas' lemma). A deletion filter leaves out
 those of them that the conflict does not need.
 """
 
@@ -32,7 +32,7 @@ from .programme import FlowProgramme, Limit
 # The filter leaves out parts of them, half at first and single ones at the end. If the rest still conflicts, it goes
 # on with those of the rest that have dual values.
 
-# So many programmes are solved at most.
+# This many programmes are solved at most.
 MOST_PROGRAMMES = 40
 # The year of limits that hold in all years at a time: the vertical advance, and the capacity of a dump.
 ALL = -1

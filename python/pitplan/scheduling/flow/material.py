@@ -98,7 +98,7 @@ class Ore:
         return replace(self, gain=gain, amounts=amounts)
 
     def merged(self, parcel: NDArray[np.int64], bench: NDArray[np.int64], bins: NDArray[np.int64]) -> Ore:
-        """Returns the sums over units by their parcel, all of which the same stockpiles accept; `bench` and `bins` are those of the parcels."""
+        """Returns the sums over units by their parcel, where the same stockpiles accept all units; `bench` and `bins` are those of the parcels."""
 
         def sums(values: NDArray[np.float64]) -> NDArray[np.float64]:
             return np.stack([np.bincount(parcel, row, minlength=len(bench)) for row in values])
@@ -110,14 +110,14 @@ class Ore:
         return Ore(bench, bins, sums(self.gain), amounts, accepted)
 
     def unit(self, number: int) -> Ore:
-        """Returns one unit alone, whatever accepts it."""
+        """Returns one unit alone, without its stockpiles."""
         some = slice(number, number + 1)
         amounts = {name: values[:, some] for name, values in self.amounts.items()}
         return Ore(self.bench[some], self.bin[some], self.gain[:, some], amounts)
 
 
 def joined(parts: list[Ore]) -> Ore:
-    """Returns the units of all parts, whatever accepts them. The parts have the same amounts."""
+    """Returns the units of all parts, without their stockpiles. The parts have the same amounts."""
     amounts = {name: np.concatenate([part.amounts[name] for part in parts], axis=1) for name in parts[0].amounts}
     bench, bins = (np.concatenate([getattr(part, name) for part in parts]) for name in ("bench", "bin"))
     return Ore(bench, bins, np.concatenate([part.gain for part in parts], axis=1), amounts)

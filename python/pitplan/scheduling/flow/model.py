@@ -20,7 +20,7 @@ from pitplan.scheduling.highs_process import demand_solved
 
 from .material import FEED, SET, Ore, Waste
 
-# Over so many years a limit of mining keeps a bench behind another one.
+# Over this many years a limit of mining keeps a bench behind another one.
 SPAN = 3
 
 
@@ -98,7 +98,7 @@ def kept_behind(amounts: NDArray[np.float64], most: NDArray[np.float64]) -> dict
 
 
 def implied(found: dict[tuple[int, int], NDArray[np.int64]], years: tuple[int, int]) -> NDArray[np.int64]:
-    """Returns the bench that a step of a year, and one over the rest, lead to; -2 if there are none."""
+    """Returns the bench that a step of a year, and one over the rest, lead to; -2 if none exist."""
     first, last = years
     step, rest = found.get((last - 1, last)), found.get((first, last - 1))
     if first == last - 1 or step is None or rest is None:
@@ -347,7 +347,7 @@ class FlowModel:
 
     @cached_property
     def blended(self) -> list[str]:
-        """The limits of which processing some ore uses less than nothing, so that blends keep them."""
+        """The limits whose amounts some ore lowers: it uses less than nothing, so that blends keep them."""
         ores = (self.ore, self.opening.ore)
         return [name for name in self.limits if any((ore.of(name) < 0).any() for ore in ores)]
 

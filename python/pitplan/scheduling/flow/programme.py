@@ -3,7 +3,7 @@
 Unknowns, each by year: the share of a bench that is mined by the end of the year; the share of a parcel that a process takes as it is mined,
 that goes to a stockpile, that lies there at the end of the year, and that a process takes from there; the share of a lot that lies on a
 stockpile at the start and that a process takes; the share of the rock of a set of dumps that goes to each of them as waste; and, if years cost
-anything, whether the mine runs. What a parcel sends nowhere is waste. A stockpile gives each parcel back as it was placed.
+anything, whether the mine runs. What a parcel sends nowhere is waste. A stockpile gives each parcel back unchanged.
 """
 
 from __future__ import annotations

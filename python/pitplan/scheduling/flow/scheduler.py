@@ -35,7 +35,7 @@ from .programme import FlowOptimum, FlowProgramme
 STEPS, MOST_TRIALS = (4, 2, 1), 80
 # Shares of a bench that date it: it counts as mined in the year that completes the share. The expected year is another date.
 PARTS = (0.1, 0.5, 0.9)
-# A bench of which the optimum mines less than this share is left; and a share that may be the solver's tolerance alone.
+# A bench that the optimum mines less than this share is left; and a share that may be the solver's tolerance alone.
 LEFT, RANK_NOISE = 0.5, 1e-6
 
 
@@ -141,7 +141,7 @@ def whole_shares(cumulative: NDArray[np.float64], slight: float) -> NDArray[np.f
 # them that are mined and all flows are a linear programme, whose optimum is worth no less than the schedule. A share
 # that reaches 0 or 1 in it leaves the bench to the one above or below, with which the next programme goes on.
 
-# So many programmes are solved at most, fewer of large ones. They end when two in turn gain less than this share. What gains less than the other
+# This many programmes are solved at most, fewer of large ones. They end when two in turn gain less than this share. What gains less than the other
 # share may be noise.
 PROGRAMMES, OF_LARGE, GAINED, NOISE = 24, 8, 1e-4, 1e-7
 # A share that may be the solver's tolerance alone.
@@ -301,7 +301,7 @@ def by_rule(model: FlowModel, pace: Pace, years: Optional[int]) -> tuple[Flows, 
 
 
 def dumped_by_rule(model: FlowModel, dug: NDArray[np.float64], dig_at: Digs) -> Flows:
-    """Returns the flows of what is mined with the richest ore first and waste on the cheapest dumps with room. Where there is none, less is mined;
+    """Returns the flows of what is mined with the richest ore first and waste on the cheapest dumps with room. Where none exists, less is mined;
     after SLOWER trials waste may still find none."""
     flows = richest_first(model, dug)
     for _ in range(SLOWER if model.waste.sets else 0):
@@ -375,7 +375,7 @@ def deepened(flows: Flows) -> Flows:
 
 
 def orders_of(model: FlowModel, optimum: FlowOptimum, compared: int) -> list[Ordered]:
-    """Returns orders of benches, the best first: by leads, and as the optimum of the linear programme is expected to mine them. So many of the best
+    """Returns orders of benches, the best first: by leads, and as the optimum of the linear programme is expected to mine them. This many of the best
     are compared again with all bins."""
     exact, pacing = Pacing(model, optimum.prices), Pacing(model, optimum.prices, MOST_KINDS)
     found = by_one_lead(pacing)

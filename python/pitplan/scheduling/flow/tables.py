@@ -408,7 +408,7 @@ def of_grade(schedule: YearlySchedule, flows: Flows, limits: list[GradeLimit]) -
 
 
 def amounts_of(schedule: YearlySchedule, flows: Flows, name: str) -> tuple[Floats, Floats, Floats]:
-    """Returns what is used of an amount in each year, its minimum and its maximum; nan where there is none."""
+    """Returns what is used of an amount in each year, its minimum and its maximum; nan where none exists."""
     limits, years, nothing = schedule.problem.limits, flows.years, np.full(flows.years, np.nan)
     if name.startswith(ADVANCE):
         mine = schedule.benches.pushback == int(name.removeprefix(ADVANCE))

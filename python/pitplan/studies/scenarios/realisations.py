@@ -145,7 +145,7 @@ def models(base: Base) -> Iterator[Model]:
 
 
 def model_files(project: Project) -> list[Path]:
-    """Returns the tables of realisations, by name. Raises PlanError if there is none, or two have one name."""
+    """Returns the tables of realisations, by name. Raises PlanError if none exists, or two have one name."""
     folder = scenarios_of(project).folder
     assert folder is not None
     found = sorted([*folder.glob("*.csv"), *folder.glob("*.csv.gz")])

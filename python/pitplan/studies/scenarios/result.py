@@ -72,7 +72,7 @@ class ScenarioResult:
         return self.frame(SCHEDULES, dtype={"realisation": str}, keep_default_na=False, na_values=[""])
 
     def likely(self, revenue_factor: float = BASE_PRICE) -> Likely:
-        """Returns the inclusion probabilities at a revenue factor, for figures. Raises PlanError if there are none at it."""
+        """Returns the inclusion probabilities at a revenue factor, for figures. Raises PlanError if none exist at it."""
         blocks, name = self.probability, f"probability_{factor_text(revenue_factor)}"
         if name not in blocks:
             raise PlanError(f"{self.folder / PROBABILITY}: has no revenue factor {factor_text(revenue_factor)}")

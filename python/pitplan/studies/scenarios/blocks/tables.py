@@ -25,7 +25,7 @@ from .worker import Kept, diggable_of, mean_of, read_answer
 HAIR = 1e-9
 # The common schedule in each scenario: mill feed and cash flow of its years with the grades of the scenario.
 #
-# Each year mines the blocks of the schedule, whatever they hold. Then the ore goes to the mill; if it exceeds a
+# Each year mines the blocks of the schedule, with any grades. Then the ore goes to the mill; if it exceeds a
 # limit, the selection that earns most, and the rest becomes waste. The selection of a year does not bind other years,
 # so this is the most that the schedule can earn in the scenario. It is feasible for the scenario's own problem, which
 # has the same years, limits and blocks, and sends blocks in shares too. So it earns at most the upper bound of the
