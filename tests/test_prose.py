@@ -31,6 +31,13 @@ def test_doc_comments_are_read_by_paragraph() -> None:
     assert blocks == [(1, "A module of two lines."), (5, "One."), (7, "Two.")]
 
 
+def test_docstrings_and_comments_of_python_are_read() -> None:
+    text = '"""A module.\n\nAs told.\n"""\n\n# A comment\n# of which this is the end.\nx = "told"  # whatever\n\n\n'
+    text += 'def call(told):\n    """Says so.\n\n    told : str\n        None if it is None.\n    """\n'
+    found = [(lapse.where, lapse.words) for lapse in prose.docstring_lapses("a.py", text)]
+    assert found == [("a.py:3", "told"), ("a.py:6", "of which"), ("a.py:8", "whatever")]
+
+
 def test_subjects_have_an_area() -> None:
     assert all(prose.SUBJECT.match(subject) for subject in ("solver: refuse a budget", "README, docs: say so", "crates/csr: sort"))
     assert not any(prose.SUBJECT.match(subject) for subject in ("The solver refuses a budget", "solver:", ": nothing"))

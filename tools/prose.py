@@ -6,15 +6,19 @@
     tools/prose.py --lower    writes the counts that are lower now into tools/prose.json
 
 Counted are words to avoid and sentences of more than 40 words, in README.md, CONTRIBUTING.md, docs/, the READMEs of crates, man/*.in and
-the doc comments of crates/*/src; and commit subjects of more than 72 characters or without an area, as in `solver: refuse a budget`.
+the doc comments of crates/*/src; the same words in docstrings and comments of the Python packages; and commit subjects of more than 72
+characters or without an area, as in `solver: refuse a budget`.
 What is allowed can only fall: a number above an earlier one of the file's history is an error. A crate's README has at most 120 words;
 of longer ones none is allowed.
 """
+import ast
+import io
 import json
 import pathlib
 import re
 import subprocess
 import sys
+import tokenize
 from typing import Iterator, NamedTuple
 
 from crates import TOP
@@ -22,6 +26,7 @@ from crates import TOP
 ALLOWED = TOP / "tools" / "prose.json"
 DOCUMENTS = ("README.md", "CONTRIBUTING.md", "docs/**/*.md", "crates/*/README.md", "man/*.in")
 COMMENTS = "crates/*/src/**/*.rt"
+PYTHON = ("python/pitplan/**/*.py", "python/planaudit/**/*.py", "python/pitshell/**/*.py", "python/minelib/**/*.py")
 MOST_WORDS, MOST_CHARACTERS, README_WORDS = 40, 72, 120
 # Paraphrases, with what to write for each, as docs/GLOSSARY.md and the textbooks have it.
 AVOIDED = {
@@ -29,7 +34,7 @@ AVOIDED = {
     r"second look|looked at|look(?:s|ed)? (?:at|through)": "verify, read, search",
     r"goes by|go by": "follows",
     r"comes to|come to": "yields",
-    r"is none|are none": "does not exist",
+    r"(?:is|are) (?-i:none)": "does not exist",
     r"of which": "whose, or two sentences",
     r"anew": "again",
     r"turned round": "transposed, reversed",
@@ -90,6 +95,25 @@ def comment_blocks(text: str) -> Iterator[tuple[int, str]]:
             block.append(words)
 
 
+def python_blocks(text: str) -> Iterator[tuple[int, str]]:
+    """The paragraphs of docstrings and the comments of a Python module, each with its first line."""
+    for node in ast.walk(ast.parse(text)):
+        if isinstance(node, (ast.Module, ast.ClassDef, ast.FunctionDef, ast.AsyncFunctionDef)) and ast.get_docstring(node):
+            first = node.body[0].lineno
+            for paragraph in re.finditer(r"(?:.+\n?)+", node.body[0].value.value):
+                # Names of parameters are no prose.
+                prose = re.sub(r"^ *\w+(?:, \w+)* : ", "", paragraph[0], flags=re.MULTILINE)
+                yield first + node.body[0].value.value[: paragraph.start()].count("\n"), " ".join(prose.split())
+    block, begin = [], 0
+    for token in tokenize.generate_tokens(io.StringIO(text).readline):
+        if token.type == tokenize.COMMENT:
+            begin = begin if block else token.start[0]
+            block.append(token.string.lstrip("#").strip())
+        elif token.type != tokenize.NL and block:
+            yield begin, " ".join(block)
+            block = []
+
+
 def plain(text: str) -> str:
     """The text without the targets of links, and with the word Code for each piece of code."""
     return re.sub(r"`[^`]*`", "Code", re.sub(r"\]\([^)]*\)", "]", text))
@@ -106,6 +130,12 @@ def lapses_of(where: str, blocks: Iterator[tuple[int, str]]) -> Iterator[Lapse]:
                 yield Lapse("sentences", f"{where}:{line}", f"{words} words: {sentence[:60]}..")
 
 
+def docstring_lapses(where: str, text: str) -> Iterator[Lapse]:
+    for line, block in python_blocks(text):
+        for found in AVOID.finditer(plain(block)):
+            yield Lapse("docstrings", f"{where}:{line}", found[0])
+
+
 def subjects() -> Iterator[Lapse]:
     shown = subprocess.run(["git", "log", "--no-merges", "--format=%h %s"], cwd=TOP, capture_output=True, text=True, check=True).stdout
     for line in shown.splitlines():
@@ -120,6 +150,8 @@ def lapses() -> list[Lapse]:
         found += lapses_of(str(file.relative_to(TOP)), document_blocks(file.read_text(encoding="utf-8")))
     for file in files((COMMENTS,)):
         found += lapses_of(str(file.relative_to(TOP)), comment_blocks(file.read_text(encoding="utf-8")))
+    for file in files(PYTHON):
+        found += docstring_lapses(str(file.relative_to(TOP)), file.read_text(encoding="utf-8"))
     return found
 
 
