@@ -62,7 +62,6 @@ if TYPE_CHECKING:
     from pitplan.solver.program import Solution
     from pitplan.studies.dask_pool import Where
     from pitplan.studies.scenarios.result import ScenarioResult
-    from planaudit import Rule
 
     from .api.block_model import BlockModel
     from .api.plan import Plan
@@ -73,7 +72,7 @@ if TYPE_CHECKING:
     from .commands.scenarios import gather, write_scenarios
     from .commands.schedule import write_block_schedule, write_schedule
     from .commands.sensitivity import write_sensitivity
-    from .commands.verification import verify
+    from .commands.verification import Rule, verify
     from .commands.writing import Writing
     from .errors import BudgetUsedUp, InputWarning, MissingPackage, PlanError, PlanWarning, ProgramError, ResultWarning
     from .studies.scenarios.run import Request

@@ -14,7 +14,8 @@ import numpy as np
 import pandas as pd
 
 from pitplan import constraints
-from pitplan.blockmodel.grid import MOST_BLOCKS, Grid, metres
+from pitplan.blockmodel import grid as grids
+from pitplan.blockmodel.grid import Grid, metres
 from pitplan.config.economics import PER_REVENUE_FACTOR
 from pitplan.config.project import Project
 from pitplan.errors import PlanError
@@ -53,7 +54,7 @@ def is_too_large(model: Model, project: Project) -> bool:
     nodes = model.grid.count + (
         np.count_nonzero(with_metal(model.frame, project)) if project.economics.cutoff == PER_REVENUE_FACTOR else 0
     )
-    return nodes > MOST_BLOCKS
+    return nodes > grids.MOST_BLOCKS
 
 
 def with_metal(frame: pd.DataFrame, project: Project) -> np.ndarray:
@@ -70,16 +71,16 @@ def left(model: Model, walls: Walls, project: Project) -> tuple[Model, str]:
     wanted[grid.rows[can_pay(model, project)]] = True
     wanted[constraints.of_table(model.frame, grid, project, model.source).forced] = True
     if not wanted.any():
-        most = f"the solver takes at most {MOST_BLOCKS:,} blocks"
+        most = f"the solver takes at most {grids.MOST_BLOCKS:,} blocks"
         raise PlanError(
             f"{model.source}: the grid has {grid.count:,} cells, and {most}: no block pays for its processing, so no shell holds any"
         )
     box = box_of(closure.used_blocks(grid, walls, wanted), grid)
     inside = grid.cube(np.arange(grid.count))[box.parts]
-    if inside.size > MOST_BLOCKS:
+    if inside.size > grids.MOST_BLOCKS:
         raise PlanError(
             f"{model.source}: shells can reach {inside.size:,} of the {grid.count:,} cells, and the solver takes at most "
-            f"{MOST_BLOCKS:,} blocks: set [table] reblock, or give a smaller model"
+            f"{grids.MOST_BLOCKS:,} blocks: set [table] reblock, or give a smaller model"
         )
     return named_anew(cropped(model, box, inside), project), note_of(model, box)
 

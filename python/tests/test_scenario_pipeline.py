@@ -427,7 +427,7 @@ def one_step_a_block(steps, block):
             {"reblocked", "shells", "values"},
         ),
         # Rows that are cut by nothing.
-        (topography, "cut", lambda frame, grid, project, file: (frame, []), {"topography"}),
+        (topography, "cut_by_topography", lambda frame, grid, project, file: (frame, []), {"topography"}),
         # Steps without the last one of each block.
         (block_values.Steps, "on", one_step_a_block, {"values"}),
     ],

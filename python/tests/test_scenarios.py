@@ -318,7 +318,7 @@ def test_some_answers_are_gathered_on_request_alone(plan_folder, with_blank_figu
 def test_pictures_of_scenarios_are_those_that_the_project_asks_for(plan_folder, monkeypatch, with_figures):
     """Three blocks over each other: of the three levels the lowest is asked for."""
     shown = []
-    monkeypatch.setattr(scenarios, "write_plans", lambda likely, path: shown.append(likely))
+    monkeypatch.setattr(maps, "write_plans", lambda likely, path: shown.append(likely))
     shared = prepared(plan_folder(pillar(), COLUMNS + '[figures]\nlevels = [5]\nformats = ["svg"]\n', UPRIGHT))
     solved_in_turn(shared)
     monkeypatch.setattr(scenarios, "write_sections", lambda likely, path: None)

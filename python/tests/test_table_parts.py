@@ -108,7 +108,7 @@ def test_one_thread_reads_what_is_not_plain(in_parts, tmp_path, monkeypatch, fie
     path = written(tmp_path / "t.csv", text_of(rows))
     assert parts(path) is None
     found = text_tables.read_columns(path, form(), FIELDS)
-    monkeypatch.setattr(text_tables, "read", lambda *_: None)
+    monkeypatch.setattr(text_tables, "read_parts", lambda *_: None)
     pd.testing.assert_frame_equal(found, text_tables.read_columns(path, form(), FIELDS), check_categorical=False)
 
 

@@ -191,7 +191,7 @@ def test_a_failed_export_leaves_no_folder_that_it_made(folder, tmp_path, monkeyp
         path.write_text("half")
         raise PlanError("no more")
 
-    monkeypatch.setitem(pitplan.commands.export.registry.WRITERS, "csv", half)
+    monkeypatch.setitem(pitplan.commands.outputs.registry.WRITERS, "csv", half)
     with pytest.raises(PlanError, match="no more"):
         pitplan.write_export(folder, "csv", out=tmp_path / "new" / "deep" / "pit.csv")
     assert not (tmp_path / "new").exists()

@@ -390,7 +390,7 @@ def test_a_run_that_cuts_wrong_is_refused(plan_folder, tmp_path, monkeypatch, be
     plane(tmp_path, lambda x, y: 12 + 0.2 * x)
     right = topography.below
     if bent == "share":
-        monkeypatch.setattr(topography, "cut", lambda frame, *_: (frame, []))
+        monkeypatch.setattr(topography, "cut_by_topography", lambda frame, *_: (frame, []))
     else:
         monkeypatch.setattr(topography, "below", lambda triangles, grid: right(triangles + [0, 0, 1], grid))
     with pytest.raises(PlanError, match="topography: block "):

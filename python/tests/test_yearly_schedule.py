@@ -419,7 +419,7 @@ def test_an_interruption_while_depths_are_improved_keeps_the_schedule(plan_folde
     def interrupted(model, dug, value):
         raise KeyboardInterrupt
 
-    monkeypatch.setattr(scheduler, "improved", interrupted)
+    monkeypatch.setattr(scheduler, "improved_depths", interrupted)
     assert main(["schedule", str(path := plan_folder(pillars(), PUSHBACKS))]) == 130
     told = json.loads((path.parent / "plan/schedule/schedule.json").read_text())
     assert list(told["methods"]) == ["rule", "lp"] and told["interrupted"]

@@ -12,7 +12,7 @@ from pitplan.core.atomic_files import NotedPath, noted, staged, staged_file
 from pitplan.core.progress import Progress, silent
 from pitplan.core.revenue_factors import factor_text, factor_texts
 from pitplan.export import audit as auditing, planner_table, registry
-from pitplan.report import html, viewer3d
+from pitplan.report import html
 from pitplan.results import names
 from pitplan.results.folder import Folder, read_folder
 from pitplan.results.names import REPORT, VIEW
@@ -240,6 +240,9 @@ def view(folder: Place, progress: Progress = silent, out: Optional[Place] = None
     PlanError
         If the folder has no shells or has changed since the run, or `out` is an input or a file of a plan.
     """
+    # It draws, by matplotlib.
+    from pitplan.report import viewer3d
+
     result = read_folder(plan_folder(folder))
     target = file_of(out, result.path / VIEW, result)
     with progress.step("writing the 3D page"), staged_file(target) as path:

@@ -10,10 +10,6 @@ from pathlib import Path
 from types import ModuleType
 from typing import Mapping
 
-import numpy as np
-import pandas as pd
-import scipy
-
 from pitplan.errors import MissingPackage
 
 # The package of the library of pits.
@@ -131,4 +127,4 @@ def release() -> str:
 def libraries() -> dict[str, str]:
     """Returns the versions of pitplan, of Python, and of the libraries that compute."""
     own = {"pitplan": release(), "python": sys.version.split()[0]}
-    return own | {library.__name__: library.__version__ for library in (np, pd, scipy)}
+    return own | {name: str(importlib.import_module(name).__version__) for name in ("numpy", "pandas", "scipy")}
