@@ -7,6 +7,7 @@ from helpers.programmes import integer_optimum, limits, small
 from helpers.random_tests import examples
 from hypothesis import given, strategies as st
 
+from pitplan.core import tolerances
 from pitplan.scheduling.bench_sequencing import Limits, Sequence, dig
 from pitplan.scheduling.flow import scheduler
 from pitplan.scheduling.flow.programme import FlowProgramme
@@ -67,4 +68,4 @@ def inside(problem, least, most):
     """The shares of an optimum between these, which is that of whole benches."""
     model = without_flows(problem, least.shape[1])
     optimum = FlowProgramme(model, between=(least, most)).solved()
-    return whole_shares(np.clip(optimum.cumulative, least, most), scheduler.DEPTH_NOISE)
+    return whole_shares(np.clip(optimum.cumulative, least, most), tolerances.SOLVER_SHARE)

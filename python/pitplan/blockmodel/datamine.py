@@ -19,6 +19,7 @@ import numpy as np
 import pandas as pd
 
 from pitplan.core.numeric_fields import as_codes
+from pitplan.core.tolerances import SINGLE_PRECISION
 from pitplan.errors import PlanError
 
 from .grid import MOST_CELLS
@@ -30,7 +31,7 @@ MOST_FIELDS = (DATA - HEAD) // FIELD
 # Numbers of the definition, by word from 0: fields, last page, and records on the last page.
 FIELDS, LAST_PAGE, LAST_RECORD = 21, 22, 23
 # The magnitude of absent data and of missing bounds. Single precision does not hold it exactly.
-ABSENT, HAIR = 1e30, 1e-6
+ABSENT = 1e30
 CHARACTERS = 4
 ENCODING = "cp1252"
 # The fields that a block model has, and their columns.
@@ -283,7 +284,7 @@ def numbers_of(file: Path, definition: Definition, records: np.ndarray, part: Pa
             f"{file}: record {int(infinite.argmax()) + 1:,} field {part.name}: is infinite: the file is damaged: export it again"
         )
     values = as_decimals(found)
-    return np.where(np.abs(values) >= ABSENT * (1 - HAIR), np.nan, values)
+    return np.where(np.abs(values) >= ABSENT * (1 - SINGLE_PRECISION), np.nan, values)
 
 
 def as_decimals(values: np.ndarray) -> np.ndarray:

@@ -18,6 +18,7 @@ import numpy as np
 import pandas as pd
 
 from pitplan.core.numeric_fields import as_codes
+from pitplan.core.tolerances import SINGLE_PRECISION
 from pitplan.errors import PlanError
 
 from .grid import MOST_CELLS, PLACES
@@ -33,8 +34,6 @@ ZIP = b"PK\x03\x04"
 KINDS, SIZES = "fiu", (1, 2, 4, 8)
 # Cells along an axis.
 MOST_SIDE = 1_000_000
-# Parts of a unit vector that count as none.
-HAIR = 1e-6
 # The columns that the grid gives; an attribute of such a name is called NAME_attribute.
 GIVEN = ("x", "y", "z", "xinc", "yinc", "zinc")
 TEXTS = ("StringData", "DateTimeData")
@@ -294,9 +293,13 @@ def vector(archive: Archive, value: Any, where: str) -> np.ndarray:
 
 def upright(archive: Archive, axes: np.ndarray, where: str) -> tuple[int, int, int]:
     """Returns which axes run east, north and up, or west, south and down. Raises PlanError if none is vertical, or they are not at right angles."""
-    vertical = np.abs(axes[:, 2]) > 1 - HAIR
+    vertical = np.abs(axes[:, 2]) > 1 - SINGLE_PRECISION
     flat = np.flatnonzero(~vertical)
-    if vertical.sum() != 1 or (np.abs(axes[flat, 2]) > HAIR).any() or abs(axes[flat[0]] @ axes[flat[1]]) > HAIR:
+    if (
+        vertical.sum() != 1
+        or (np.abs(axes[flat, 2]) > SINGLE_PRECISION).any()
+        or abs(axes[flat[0]] @ axes[flat[1]]) > SINGLE_PRECISION
+    ):
         said = ", ".join(f"({', '.join(f'{part:.6g}' for part in axis)})" for axis in axes)
         why = f"found the axes {said}, expected a vertical one and two horizontal ones at right angles"
         raise PlanError(f"{archive.file}: {where}: {why}: export the model without dip or plunge")

@@ -13,6 +13,7 @@ import pandas as pd
 from pitplan.config.project import Project
 from pitplan.config.survey import SurveyFile
 from pitplan.core.libraries import load
+from pitplan.core.tolerances import SUM_ERROR
 from pitplan.errors import PlanError
 from pitplan.survey import readers
 from pitplan.survey.readers import Box, Topography
@@ -29,8 +30,6 @@ from .grid import Grid, metres
 
 # Triangles over columns that are in memory at once.
 PAIRS = 100_000
-# Shares of a triangle, and blocks, by which sums of floats are off.
-HAIR = 1e-9
 
 
 def box_of(grid: Grid) -> Box:
@@ -63,7 +62,7 @@ def over_grid(triangles: np.ndarray, grid: Grid) -> np.ndarray:
     low, high = corners[..., :2].min(axis=1), corners[..., :2].max(axis=1)
     _, rows, columns = grid.shape
     near = (high > -0.5).all(axis=1) & (low < np.array([columns, rows]) - 0.5).all(axis=1)
-    return corners[near & (np.abs(areas(corners)) > HAIR**2)]
+    return corners[near & (np.abs(areas(corners)) > SUM_ERROR**2)]
 
 
 def areas(corners: np.ndarray) -> np.ndarray:
@@ -97,13 +96,13 @@ def heights(triangles: np.ndarray, grid: Grid) -> np.ndarray:
     """The elevation in metres of the triangles at the middle of each column of blocks, of several the greatest; infinite beyond them."""
     corners = over_grid(triangles, grid)
     found = np.full(grid.per_level, -np.inf)
-    for some, place in pairs(corners, grid, HAIR):
+    for some, place in pairs(corners, grid, SUM_ERROR):
         a, b, c = (some[:, corner, :2] for corner in range(3))
         parts = np.stack(
             [one[:, 0] * two[:, 1] - one[:, 1] * two[:, 0] for one, two in ((b, c), (c, a), (a, b))], axis=1
         )
         shares = parts / parts.sum(axis=1, keepdims=True)
-        inside = (shares >= -HAIR).all(axis=1)
+        inside = (shares >= -SUM_ERROR).all(axis=1)
         np.maximum.at(found, place[inside], (shares * some[..., 2]).sum(axis=1)[inside])
     return np.where(np.isinf(found), np.inf, grid.extent()[4] + found * grid.size[2])
 
@@ -134,10 +133,10 @@ def below(triangles: np.ndarray, grid: Grid) -> Below:
         sums.add(fans[one][..., 2], area[one], np.repeat(place, area.shape[1]).reshape(area.shape)[one])
     covered, above = sums.covered, sums.above()
     share = np.divide(
-        above[:-1] - above[1:], covered, out=np.ones((grid.shape[0], grid.per_level)), where=covered > HAIR
+        above[:-1] - above[1:], covered, out=np.ones((grid.shape[0], grid.per_level)), where=covered > SUM_ERROR
     )
-    height = np.divide(above[0], covered, out=np.zeros(grid.per_level), where=covered > HAIR)
-    return Below(np.where(share < HAIR, 0.0, np.where(share > 1 - HAIR, 1.0, share)), covered, height)
+    height = np.divide(above[0], covered, out=np.zeros(grid.per_level), where=covered > SUM_ERROR)
+    return Below(np.where(share < SUM_ERROR, 0.0, np.where(share > 1 - SUM_ERROR, 1.0, share)), covered, height)
 
 
 def over_column(triangles: np.ndarray) -> np.ndarray:
@@ -237,7 +236,7 @@ def cut_by_topography(
     """
     read, found = surveyed(file, file.state, (grid.shape, grid.origin, grid.size, grid.azimuth))
     place = grid.rows % grid.per_level
-    if (found.covered[place] <= HAIR).all():
+    if (found.covered[place] <= SUM_ERROR).all():
         raise PlanError(f"{file.path}: covers no block: {beside(read.points, grid)}")
     demand_one_height(found, grid, file.path)
     share = found.share[grid.shape[0] - 1 - grid.rows // grid.per_level, place]
@@ -291,7 +290,7 @@ def doubts(found: Below, grid: Grid) -> list[str]:
     covered = found.covered[over]
     highest = np.full(len(over), grid.shape[0])
     np.minimum.at(highest, first, grid.rows // grid.per_level)
-    beyond, part = covered <= HAIR, (covered > HAIR) & (covered < 1 - SLIP)
+    beyond, part = covered <= SUM_ERROR, (covered > SUM_ERROR) & (covered < 1 - SLIP)
     higher = ~beyond & (found.height[over] > grid.shape[0] - highest + 1)
     said = {
         "columns of blocks lie beyond it; their blocks are not cut": beyond,
@@ -365,7 +364,7 @@ def by_volumes(grid: Grid, original: SurveyFile, surface: SurveyFile) -> Ground:
     box = (grid.shape, grid.origin, grid.size, grid.azimuth)
     (_, ground), (read, mined) = (surveyed(file, file.state, box) for file in (original, surface))
     level, place = grid.shape[0] - 1 - grid.rows // grid.per_level, grid.rows % grid.per_level
-    if (mined.covered[place] <= HAIR).all():
+    if (mined.covered[place] <= SUM_ERROR).all():
         raise PlanError(f"{surface.path}: covers no block: {beside(read.points, grid)}")
     demand_one_height(mined, grid, surface.path)
     whole = ground.share[level, place]

@@ -5,9 +5,9 @@ tolerances of its own.
 """
 
 # Sums of floats: amounts, shares and lengths that differ by less are equal, and a limit may be exceeded by this share of it.
-ROUNDING = 1e-9
-# Sums that are compared before shares of them are shipped, and years: tighter than ROUNDING, so that shipping ends within it.
-STRICT_ROUNDING = 1e-12
+SUM_ERROR = 1e-9
+# Sums that are compared before shares of them are shipped, and years: tighter than SUM_ERROR, so that shipping ends within it.
+STRICT_SUM_ERROR = 1e-12
 # Shares and flows that HiGHS may leave: its feasibility tolerance is 1e-7 for each row and bound.
 SOLVER_SHARE = 1e-7
 # Sums of ten or so of such shares, and shares of limits and dual values that are sums.
@@ -16,7 +16,7 @@ SOLVER_SUM = 1e-6
 MISSED_LIMIT = 1e-8
 # Dual values of HiGHS below this are zero.
 ZERO_PRICE = 1e-15
-# NPVs that differ by less than this amount in the currency are equal, as are those within ROUNDING.
+# NPVs that differ by less than this amount in the currency are equal, as are those within SUM_ERROR.
 EQUAL_MONEY = 1e-3
 # Components of unit vectors, and numbers in single precision.
 SINGLE_PRECISION = 1e-6

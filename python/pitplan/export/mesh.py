@@ -10,6 +10,7 @@ import numpy as np
 
 from pitplan.blockmodel.grid import Grid, metres, turn_of
 from pitplan.core.libraries import load
+from pitplan.core.tolerances import MESH_VOLUME
 from pitplan.errors import PlanError
 from pitplan.results.folder import Folder
 from pitplan.results.pit_states import FACTOR, GROUND, Shape, Stage, places_of, rock, stages_of
@@ -20,8 +21,6 @@ from pitplan.results.pit_states import FACTOR, GROUND, Shape, Stage, places_of, 
 # The mesh has no lid over the pit, no walls at the sides of the model, and no faces where the table has no rock.
 # Smoothing moves each corner by at most half a block along each axis.
 
-# Relative difference that is allowed between the volume under the mesh and that of the cells.
-TOLERANCE = 1e-3
 NONE = -1
 # Taubin smoothing: the two weights of the Laplacian, and how often both steps are taken.
 SHRINK, GROW, TURNS = 0.5, -0.53, 10
@@ -196,7 +195,7 @@ def of_stage(rock: np.ndarray, stage: Stage, grid: Grid, smooth: bool) -> tuple[
     faces = stepped(heights)
     volume, expected = (volume_under(stepped(untouched)) - volume_under(faces)) * cell, heights.cells * cell
     said = f"{volume:,.0f} m3 lie between it and the original ground, and the {heights.cells:,} mined cells hold {expected:,.0f} m3"
-    if abs(volume - expected) > TOLERANCE * expected:
+    if abs(volume - expected) > MESH_VOLUME * expected:
         raise PlanError(f"{stage.name}: {said}: please report this")
     if not smooth:
         return faces, f"{len(faces.faces):,} triangles; {said}"
@@ -331,7 +330,7 @@ def of_pit(name: str, folder: Folder, stage: Stage) -> tuple[Any, str]:
     said = (
         f"{surface.GetNumberOfCells():,} triangles hold {volume:,.0f} m3, and the {blocks:,} blocks {expected:,.0f} m3"
     )
-    if abs(volume - expected) > TOLERANCE * expected:
+    if abs(volume - expected) > MESH_VOLUME * expected:
         raise PlanError(f"{name}: {said}: please report this")
     return surface, said
 

@@ -13,8 +13,9 @@ from matplotlib.patheffects import withStroke
 from numpy.typing import NDArray
 
 from pitplan.blockmodel.grid import Grid, metres, turn_of
-from pitplan.blockmodel.topography import HAIR, surveyed
+from pitplan.blockmodel.topography import surveyed
 from pitplan.core.cell_outlines import edges
+from pitplan.core.tolerances import SUM_ERROR
 from pitplan.plan import Plan
 
 MOST_CONTOURS, MOST_CONTOURS_NAMED = 20, 6
@@ -184,7 +185,7 @@ def topography_of(plan: Plan) -> Topography:
     if file is not None:
         box = (grid.shape, grid.origin, grid.size, grid.azimuth)
         found = surveyed(file, file.state, box)[1]
-        height = np.where(found.covered > HAIR, floor + found.height * grid.size[2], np.nan)
+        height = np.where(found.covered > SUM_ERROR, floor + found.height * grid.size[2], np.nan)
         return Topography(height.reshape(shape), True)
     solid = grid.cube(plan.values.tonnes > 0)
     height = np.where(solid.any(axis=0), top - solid.argmax(axis=0) * grid.size[2], np.nan)

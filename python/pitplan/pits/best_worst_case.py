@@ -26,13 +26,12 @@ from numpy.typing import NDArray
 from pitplan.config.economics import MOST_YEARS
 from pitplan.config.project import Project
 from pitplan.config.shells import ShellRules, SpecifiedCase
+from pitplan.core.tolerances import EQUAL_MONEY, STRICT_SUM_ERROR, SUM_ERROR
 from pitplan.economics.period_costs import MINING_COST, PLAIN, YearlyMoney, is_shown
 from pitplan.errors import PlanError
 
 from .ore_kinds import OreKinds, Wait, with_mining
 
-# Relative tolerance of capacities, since sums of floats differ from them by rounding.
-STRICT_HAIR = 1e-12
 Floats = NDArray[np.float64]
 Ints = NDArray[np.int64]
 
@@ -103,13 +102,17 @@ class Shipments:
     def excess(self) -> Floats:
         """Tonnes above each capacity."""
         over = self.loads - self.limits
-        return np.where(over > STRICT_HAIR * np.where(np.isfinite(self.limits), self.limits, 0.0) + 1e-9, over, 0.0)
+        return np.where(
+            over > STRICT_SUM_ERROR * np.where(np.isfinite(self.limits), self.limits, 0.0) + 1e-9, over, 0.0
+        )
 
     @property
     def room(self) -> Floats:
         """Tonnes below each capacity."""
         free = self.limits - self.loads
-        return np.where(free > STRICT_HAIR * np.where(np.isfinite(self.limits), self.limits, 0.0) + 1e-9, free, 0.0)
+        return np.where(
+            free > STRICT_SUM_ERROR * np.where(np.isfinite(self.limits), self.limits, 0.0) + 1e-9, free, 0.0
+        )
 
     def moves(self) -> tuple[Floats, Ints]:
         """Returns the least loss per tonne of moving ore from one destination to another, and the parcel that moves, both of shape (years,
@@ -134,7 +137,7 @@ class Shipments:
         rows, excess, room = np.arange(len(loss)), self.excess, self.room
         start = (excess > 0).argmax(axis=1)
         scale = np.abs(np.where(np.isfinite(self.rates), self.rates, 0.0)).max(axis=(1, 2))
-        distance, before = shortest(loss, start, STRICT_HAIR * scale[:, None])
+        distance, before = shortest(loss, start, STRICT_SUM_ERROR * scale[:, None])
         end = np.where(room > 0, distance, np.inf).argmin(axis=1)
         pushed = np.minimum(excess[rows, start], room[rows, end])
         steps = paths(before, start, end)
@@ -181,14 +184,8 @@ def paths(before: Ints, start: Ints, end: Ints) -> list[tuple[Ints, Ints]]:
 
 ROCK, ORE, CASH = 0, 1, -1
 BEST, WORST, SPECIFIED = "best", "worst", "specified"
-# Relative tolerance of capacities, since sums of floats differ from them by rounding.
-HAIR = 1e-9
-# NPVs that differ by less than this share, or this amount in the currency, are equal.
-EQUAL, TINY = 1e-9, 1e-3
 # How much of a year, or of a shorter period, lies between a cash flow and its end, if it does not flow continuously.
 BEFORE_THE_END = {"end_of_year": 0.0, "mid_year": 0.5}
-# Years of a period without used time.
-MOMENT = 1e-12
 # A discount rate per year, or rates of shape (rates, 1).
 Rate = Union[float, np.ndarray]
 
@@ -301,7 +298,7 @@ class Course:
         until, first = float(len(self.amounts)), min(int(place), len(self.used) - 2)
         begins = self.used[first] + (place - first) * (self.used[first + 1] - self.used[first])
         for used, target in zip(self.used.T, begins + self.of_year(year)):
-            piece = int(used.searchsorted(target + HAIR, side="right")) - 1
+            piece = int(used.searchsorted(target + SUM_ERROR, side="right")) - 1
             if piece < len(self.amounts):
                 share = (target - used[piece]) / (used[piece + 1] - used[piece])
                 until = min(until, piece + max(share, 0.0))
@@ -313,10 +310,10 @@ class Course:
         before = at(self.used, full[-1:])[0] if len(full) else np.zeros(self.used.shape[1])
         free = self.of_year(len(full))
         part = float(np.divide(self.used[count] - before, free, out=np.zeros_like(free), where=free > 0).max())
-        if part <= HAIR and len(full):
+        if part <= SUM_ERROR and len(full):
             full, part = full[:-1], 1.0
         flowed = at(self.sums, np.concatenate([[0.0], full, [float(count)]]))
-        return Years(len(full) + (1.0 if abs(part - 1) < HAIR else part), np.diff(flowed, axis=0))
+        return Years(len(full) + (1.0 if abs(part - 1) < SUM_ERROR else part), np.diff(flowed, axis=0))
 
 
 def at(sums: np.ndarray, places: np.ndarray) -> np.ndarray:
@@ -356,7 +353,7 @@ def discounts_of(parts: np.ndarray, settings: ShellRules, rate: Optional[Rate] =
     starts, lengths = settings.calendar.starts(len(parts)), settings.calendar.lengths(len(parts))
     if settings.discounting not in BEFORE_THE_END:
         return mean_discount(starts, starts + parts * lengths, rate)
-    used, unit = np.maximum(parts * lengths, MOMENT), np.minimum(lengths, 1.0)
+    used, unit = np.maximum(parts * lengths, STRICT_SUM_ERROR), np.minimum(lengths, 1.0)
     found = np.zeros(len(parts))
     for number in range(int(np.ceil(lengths.max(initial=0.0)))):
         flows = np.clip(used - number * unit, 0.0, unit)
@@ -433,7 +430,7 @@ def sequences(case: str, benches: Benches, settings: ShellRules) -> Iterator[np.
 
 def specified_pieces(benches: Benches, rules: SpecifiedCase) -> Iterator[np.ndarray]:
     """Yields the pieces of each shell: benches of its pushbacks, each `bench_lag` benches behind the one before."""
-    pushback = np.searchsorted(np.array(rules.pushbacks), np.array(benches.factors) - HAIR)
+    pushback = np.searchsorted(np.array(rules.pushbacks), np.array(benches.factors) - SUM_ERROR)
     levels, width = benches.columns.shape[1:]
     by_pushback = np.zeros((int(pushback.max(initial=0)) + 1, levels, width))
     number, level = np.indices(by_pushback.shape[:2]).reshape(2, -1)
@@ -465,7 +462,9 @@ def of_case(case: str, benches: Benches, settings: ShellRules, money: YearlyMone
 def shortest_best(found: Sequence[Years]) -> Years:
     """Returns the years with the highest NPV; of equal ones those with the shortest life."""
     most = max(years.npv for years in found)
-    return min((it for it in found if it.npv >= most - EQUAL * abs(most) - TINY), key=lambda years: years.end)
+    return min(
+        (it for it in found if it.npv >= most - SUM_ERROR * abs(most) - EQUAL_MONEY), key=lambda years: years.end
+    )
 
 
 def bearable(benches: Benches, settings: ShellRules) -> list[Wait]:

@@ -26,6 +26,7 @@ from pitplan.blockmodel import missing_blocks
 from pitplan.blockmodel.grid import metres
 from pitplan.config.pushbacks import PushbackRules
 from pitplan.core.revenue_factors import factor_text
+from pitplan.core.tolerances import SUM_ERROR
 from pitplan.errors import PlanError
 from pitplan.plan import Plan
 from pitplan.slopes import closure
@@ -34,7 +35,6 @@ from pitplan.slopes import closure
 Rectangle = tuple[int, int]
 # Cells that touch by a side, an edge or a corner are of one piece of needs.
 TOUCHING = np.ones((3, 3, 3), dtype=bool)
-HAIR = 1e-9
 # Narrow pieces of up to this share of a pushback's tonnes go to the pushback before.
 SMALL = 0.25
 # A pushback that keeps less than this share of what its shell adds is reported.
@@ -104,7 +104,7 @@ def free_of(plan: Plan) -> np.ndarray:
 
 def rectangle(wide: float, sides: tuple[float, float]) -> Rectangle:
     """Returns the blocks north and east that are at least this many metres wide; `sides` are those of a block."""
-    north, east = (max(1, math.ceil(wide / side - HAIR)) for side in sides)
+    north, east = (max(1, math.ceil(wide / side - SUM_ERROR)) for side in sides)
     return north, east
 
 

@@ -12,13 +12,11 @@ from pitplan.config.periods import Calendar
 from pitplan.config.project import Project
 from pitplan.config.schedule import ScheduleRules
 from pitplan.config.shells import ShellRules
+from pitplan.core.tolerances import SUM_ERROR
 from pitplan.economics.period_costs import PLAIN, YearlyMoney
 from pitplan.errors import PlanError
 from pitplan.pits.best_worst_case import year_discounts
 from pitplan.pushbacks.bench_table import CASH, ORE, ROCK, PushbackBenches
-
-# A share so small is taken as nothing, since sums of fractions miss it by a hair.
-HAIR = 1e-9
 
 
 @dataclass(frozen=True)
@@ -229,12 +227,12 @@ class Digging:
                 continue
             pushback = self.benches.pushback[bench]
             share = self.room(bench, left, depth[pushback])
-            if share > HAIR:
+            if share > SUM_ERROR:
                 shares[bench] = share
                 left = np.maximum(left - share * self.takes[bench], 0.0)
                 depth[pushback] -= share
-                self.done[bench] = 1.0 if self.done[bench] + share > 1 - HAIR else self.done[bench] + share
-            if self.done[bench] < 1 and not sequence.eager and depth[pushback] > HAIR:
+                self.done[bench] = 1.0 if self.done[bench] + share > 1 - SUM_ERROR else self.done[bench] + share
+            if self.done[bench] < 1 and not sequence.eager and depth[pushback] > SUM_ERROR:
                 break
         return shares
 

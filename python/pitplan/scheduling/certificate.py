@@ -15,6 +15,7 @@ from numpy.typing import NDArray
 from pitplan.config.project import Project
 from pitplan.core import layout
 from pitplan.core.atomic_files import hash_of
+from pitplan.core.tolerances import SOLVER_SUM
 from pitplan.economics.period_costs import of_project
 from pitplan.errors import PlanError, ProgramError
 from pitplan.solver.choice import is_proved
@@ -28,8 +29,8 @@ FORM = 2
 # The greatest amount, capacity and price that the program reads, and how many nodes, destinations, columns, terms and capacities.
 MOST_AMOUNT, MOST_CAPACITY, MOST_PRICE = 10**16, 10**18, 10**15
 MOST_NODES, MOST_DESTINATIONS, MOST_COLUMNS, MOST_TERMS, MOST_CAPACITIES = 4_194_304, 64, 1_024, 1_024, 65_536
-# The sum of a minimum may lack this share of all amounts in it, and this part of each block for rounding; the text then has what is used.
-HAIR, ROUNDING = 1e-6, 2e-6
+# The sum of a minimum may lack SOLVER_SUM of all amounts in it, and this part of each block for rounding; the text then has what is used.
+ROUNDING = 2e-6
 # So often shares are rounded down at most, each by a millionth at a time.
 ROUNDS = 50
 WHOLE = "the schedule has no certificate"
@@ -364,7 +365,7 @@ def slack(terms: Sequence[Term], shares: Shares, periods: int) -> NDArray[np.flo
         some = shares.of(term.destination)
         period = some.period + term.lag
         inside = period < periods
-        sizes = np.abs(term.amounts[some.block]) * (HAIR * some.share / UNIT + ROUNDING)
+        sizes = np.abs(term.amounts[some.block]) * (SOLVER_SUM * some.share / UNIT + ROUNDING)
         found += np.bincount(period[inside], sizes[inside], minlength=periods)
     return found
 

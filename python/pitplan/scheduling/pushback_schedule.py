@@ -21,13 +21,13 @@ from pitplan.config.project import Project
 from pitplan.config.schedule import Effort, ScheduleRules
 from pitplan.config.shells import ShellRules
 from pitplan.core.progress import Progress, silent
+from pitplan.core.tolerances import SUM_ERROR
 from pitplan.economics import period_costs
 from pitplan.errors import WARNING, PlanError
 from pitplan.pits.best_worst_case import year_discounts
 from pitplan.pushbacks import bench_table
 from pitplan.pushbacks.bench_table import CASH, ORE, ROCK, PushbackBenches
 from pitplan.pushbacks.nested import Pushbacks
-from pitplan.scheduling.bench_sequencing import HAIR
 from pitplan.scheduling.flow.material import Material, by_choice, by_value, names_of, of_pushbacks, with_grades
 from pitplan.scheduling.flow.opening import balance_at_start
 from pitplan.scheduling.flow.tables import cutoffs
@@ -55,11 +55,11 @@ def years_near(cumulative: NDArray[np.float64], calendar: Calendar) -> NDArray[n
     in which it does so to NEAR years after them."""
     years = cumulative.shape[1]
     ends, lengths = calendar.ends(years), calendar.lengths(years)
-    begun, through = cumulative > HAIR, cumulative > 1 - HAIR
+    begun, through = cumulative > SUM_ERROR, cumulative > 1 - SUM_ERROR
     first = np.where(begun.any(axis=1), begun.argmax(axis=1), years - 1)
     last = np.where(through.any(axis=1), through.argmax(axis=1), years - 1)
-    is_late = ends >= (ends - lengths)[first, None] - NEAR + HAIR
-    return np.asarray(is_late & (ends - lengths <= ends[last, None] + NEAR - HAIR))
+    is_late = ends >= (ends - lengths)[first, None] - NEAR + SUM_ERROR
+    return np.asarray(is_late & (ends - lengths <= ends[last, None] + NEAR - SUM_ERROR))
 
 
 # The linear programme may take this part of the rule's years more.

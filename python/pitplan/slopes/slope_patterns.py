@@ -14,8 +14,8 @@ import numpy as np
 from scipy.spatial import ConvexHull, QhullError
 
 from pitplan.config.slopes import DIP, MOST_LEVELS, WALL, Slopes, Wall
+from pitplan.core.tolerances import SUM_ERROR
 from pitplan.errors import PlanError
-
 
 # Slope cones as boolean templates, and the smallest arc set whose transitive closure is the cone.
 #
@@ -113,8 +113,6 @@ Point = tuple[float, float]
 FIVE: tuple[Offset, ...] = ((0, 0, 1), (-1, 0, 1), (1, 0, 1), (0, -1, 1), (0, 1, 1))
 NINE: tuple[Offset, ...] = tuple((x, y, 1) for y in (-1, 0, 1) for x in (-1, 0, 1))
 PATTERN_OFFSETS = {"1:5": FIVE, "1:9": NINE}
-# Centroids on the cone count as within in spite of rounding errors.
-SLACK = 1e-9
 AZIMUTHS = np.arange(0.0, 360.0, 1.0)
 # Without precedence_benches their number keeps every slope within this slope error, in degrees, unless a block then has more precedences
 # than MOST_CHOSEN. Solver and files take time and memory by precedence: at 40 degrees on blocks of 20 x 20 x 15 m the error takes 717.
@@ -217,11 +215,11 @@ def within(angles: Angles, size: tuple[float, float, float], ups: np.ndarray, wi
     """Returns the cells of a cone at given levels, shape (levels, rows, columns), with the block in the middle."""
     dx, dy, dz = size
     reach = int(ups.max()) * dz * widened * float(cotangents(angles, AZIMUTHS).max())
-    wide, broad = int(reach / dx + SLACK), int(reach / dy + SLACK)
+    wide, broad = int(reach / dx + SUM_ERROR), int(reach / dy + SUM_ERROR)
     east, north = np.meshgrid(np.arange(-wide, wide + 1) * dx, np.arange(-broad, broad + 1) * dy)
     flatness = widened * cotangents(angles, np.degrees(np.arctan2(east, north)))
     distance = np.hypot(east, north)
-    return np.stack([distance <= up * dz * flatness * (1 + SLACK) + SLACK for up in ups])
+    return np.stack([distance <= up * dz * flatness * (1 + SUM_ERROR) + SUM_ERROR for up in ups])
 
 
 def offsets_of(cone: np.ndarray) -> tuple[Offset, ...]:

@@ -9,12 +9,11 @@ from fnmatch import fnmatchcase
 import numpy as np
 
 from pitplan.config.survey import SurveyFile
+from pitplan.core.tolerances import OPEN_LINE
 from pitplan.errors import PlanError
 
 # The largest number of layers that an error names.
 TOLD = 8
-# Metres by which the ends of a closed line may lie apart.
-APART = 1e-3
 
 
 @dataclass(frozen=True)
@@ -38,7 +37,7 @@ class Layer:
 
     def add_line(self, kind: str, line: np.ndarray, is_closed: bool, has_heights: bool) -> None:
         """Corners x, y, z of a line, which is a polygon too where it is closed."""
-        is_closed = len(line) > 2 and (is_closed or np.hypot(*(line[0] - line[-1])[:2]) <= APART)
+        is_closed = len(line) > 2 and (is_closed or np.hypot(*(line[0] - line[-1])[:2]) <= OPEN_LINE)
         self.kinds[f"{kind} ({'closed' if is_closed else 'open'})"] += 1
         if has_heights:
             self.points.append(line)

@@ -14,8 +14,9 @@ from scipy.optimize import linprog
 from scipy.sparse import csr_matrix, eye, kron
 
 import pitshell
+from pitplan.core.tolerances import SOLVER_SUM, SUM_ERROR
 
-from .problem import HAIR, BlockProblem, BlockSchedule, Limit, Needs, nothing, upward
+from .problem import BlockProblem, BlockSchedule, Limit, Needs, nothing, upward
 
 # The bits of a word, and the number of blocks handled at once when the cones that hold them are marked.
 BITS, AT_ONCE = 64, 4096
@@ -122,22 +123,20 @@ def cones_with(needs: Needs, ranks: Ranks, marked: NDArray[np.int64]) -> NDArray
     return held
 
 
-# A gain of a smaller share does not count.
-GAIN_NOISE = 1e-9
-
-
 class Room:
     """What is left of each limit in each year."""
 
     def __init__(self, problem: BlockProblem) -> None:
         # Python's own lists: a block at a time, numpy's arrays are slower.
-        self.left = [(limit.most * (1 + HAIR)).tolist() for limit in problem.limits]
+        self.left = [(limit.most * (1 + SUM_ERROR)).tolist() for limit in problem.limits]
         self.amounts = [limit.amounts.tolist() for limit in problem.limits]
         self.dues = [due.amounts.tolist() for due in problem.dues]
         self.signed = [k for k, limit in enumerate(problem.limits) if limit.signed]
         # Of sums that have a least, by their numbers, what each year holds above it: below 0 where it lacks.
         self.above = {
-            k: (-limit.floor * (1 - HAIR)).tolist() for k, limit in enumerate(problem.limits) if (limit.floor > 0).any()
+            k: (-limit.floor * (1 - SUM_ERROR)).tolist()
+            for k, limit in enumerate(problem.limits)
+            if (limit.floor > 0).any()
         }
 
     def fits(self, block: int, destination: int, year: int) -> bool:
@@ -219,7 +218,7 @@ class Filling:
         while True:
             pruned = paying(self.problem, schedule).shortened(self.problem)
             value = pruned.value(self.problem)
-            if value <= best.value(self.problem) * (1 + GAIN_NOISE):
+            if value <= best.value(self.problem) * (1 + SUM_ERROR):
                 return best
             best = pruned
             order = sequence.order[pruned.year[sequence.order] < self.problem.years]
@@ -276,10 +275,10 @@ def preferences(problem: BlockProblem, prices: NDArray[np.float64]) -> NDArray[n
 PARTS = (0.1, 0.5, 0.9)
 # Years before that in which the relaxation begins a block from which on it may be dug; None: any.
 EARLIER = (0, 1, None)
-# A share that may be the solver's tolerance alone, and one below which the relaxation leaves a block.
-RANK_NOISE, LEFT = 1e-6, 0.5
+# The relaxation leaves a block if it mines less than this share.
+LEFT = 0.5
 # A schedule mines a block if the relaxation mines at least one of these shares of it.
-LEAST, ALL = (LEFT, RANK_NOISE), 0.0
+LEAST, ALL = (LEFT, SOLVER_SUM), 0.0
 
 
 @dataclass(frozen=True)
@@ -303,9 +302,9 @@ def sequences(
     shares      the least share that the relaxation digs of the blocks of an order
     """
     years = problem.years
-    begun = np.where(cumulative[:, -1] > RANK_NOISE, (cumulative > RANK_NOISE).argmax(axis=1), years)
+    begun = np.where(cumulative[:, -1] > SOLVER_SUM, (cumulative > SOLVER_SUM).argmax(axis=1), years)
     expected = years - cumulative.sum(axis=1)
-    keys = (expected, *((cumulative < part - RANK_NOISE).sum(axis=1) for part in PARTS))
+    keys = (expected, *((cumulative < part - SOLVER_SUM).sum(axis=1) for part in PARTS))
     orders = [in_order(problem, ranks, key, expected) for key in keys]
     for order, least, earlier in product(orders, shares, EARLIER):
         earliest = np.zeros_like(begun) if earlier is None else np.maximum(begun - earlier, 0)
@@ -484,7 +483,7 @@ class Divided:
         """Whether each destination of `problem` takes more of a block than any year allows, shape (blocks, destinations of `problem`)."""
         found = np.zeros(self.problem.values.shape[:2], dtype=bool)
         for limit in (it for it in self.problem.limits if not it.signed):
-            found |= limit.amounts > limit.most.max() * (1 + HAIR)
+            found |= limit.amounts > limit.most.max() * (1 + SUM_ERROR)
         return found
 
     def preferences(self, prices: NDArray[np.float64]) -> NDArray[np.int64]:
@@ -542,7 +541,7 @@ def fitting(limits: list[Limit], destination: int, rest: NDArray[np.int64], year
     for limit in limits:
         most = float(limit.most[year])
         amount, other = limit.amounts[:, destination], limit.amounts[np.arange(len(rest)), rest]
-        some = (amount > most * (1 + HAIR)) & (other < amount) & (0 < most)
+        some = (amount > most * (1 + SUM_ERROR)) & (other < amount) & (0 < most)
         part = np.divide(most - other, amount - other, out=np.ones(len(rest)), where=some)
         found = np.minimum(found, part)
     return np.where(found > 0, found, 1.0)

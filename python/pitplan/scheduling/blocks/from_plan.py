@@ -11,6 +11,7 @@ import pitshell
 from pitplan.config.places import MILL, WASTE
 from pitplan.config.project import Project
 from pitplan.config.schedule import FEED, MOST_YEARS, TOTAL, ScheduleRules, Sum
+from pitplan.core.tolerances import SUM_ERROR
 from pitplan.economics.period_costs import MINING_COST, YearlyMoney, of_project
 from pitplan.errors import WARNING, PlanError
 from pitplan.pits.best_worst_case import year_discounts
@@ -137,8 +138,6 @@ def head_grades(plan: Plan) -> list[HeadGrade]:
 
 # A schedule may take this part of the years more that its limits ask for.
 MORE_YEARS = 0.2
-# Sums of floats may be above a limit by a hair.
-HAIR = 1e-9
 # By block and destination.
 Flows = dict[str, NDArray[np.float64]]
 
@@ -221,7 +220,7 @@ def pit_of(cash: NDArray[np.float64], needs: Needs, forced: NDArray[np.bool_]) -
 def demand_small(plan: Plan, cells: NDArray[np.int64], held: dict[str, NDArray[np.float64]], limits: Limits) -> None:
     """Raises PlanError where a cell holds more material than a year may: it is mined in one year, so it never could be."""
     for name, most in [(name, limits.greatest(name)) for name in limits.most if name == ROCK]:
-        if (held[name] > most * (1 + HAIR)).any():
+        if (held[name] > most * (1 + SUM_ERROR)).any():
             row = int(held[name].argmax())
             block = f"{plan.source}: {plan.called(int(cells[row]))} holds {held[name][row]:,.10g} of {name}, and a year takes at most {most:,.10g}"
             why = "by block each block is mined in one year: give smaller blocks or a larger limit, or schedule by pushback"

@@ -18,6 +18,7 @@ from numpy.typing import NDArray
 
 import pitshell
 from pitplan.config.periods import YEAR
+from pitplan.core.tolerances import SUM_ERROR
 from pitplan.errors import PlanError
 
 # Money as the whole numbers that the library of pits takes, always rounded upward.
@@ -376,10 +377,6 @@ def nodes_of(problem: BlockProblem, first: NDArray[np.int64]) -> Nodes:
     return Nodes(problem, first)
 
 
-# By such a share of it a limit may be missed, as sums of floats do.
-HAIR = 1e-9
-
-
 @dataclass(frozen=True)
 class BlockSchedule:
     """When blocks are dug, and where they go.
@@ -422,13 +419,13 @@ class BlockSchedule:
 
     def slack(self, problem: BlockProblem) -> NDArray[np.float64]:
         """By how much each limit may be missed in each year, as sums of floats do: shape (limits, years)."""
-        found = np.full((len(problem.limits), problem.years), HAIR)
+        found = np.full((len(problem.limits), problem.years), SUM_ERROR)
         for number, limit in enumerate(problem.limits):
             if not limit.signed:
-                found[number] += HAIR * limit.most
+                found[number] += SUM_ERROR * limit.most
                 continue
             size = (np.abs(limit.amounts) * self.share).sum(axis=1)
-            found[number] += HAIR * np.bincount(self.year, size, minlength=problem.years + 1)[: problem.years]
+            found[number] += SUM_ERROR * np.bincount(self.year, size, minlength=problem.years + 1)[: problem.years]
         return found
 
     def exceeded(self, problem: BlockProblem) -> NDArray[np.bool_]:
@@ -445,12 +442,12 @@ class BlockSchedule:
             for due in problem.dues
         ]
         shares = np.concatenate([part.ravel() for part in short])
-        return float(shares[shares > HAIR].sum())
+        return float(shares[shares > SUM_ERROR].sum())
 
     def is_better(self, other: BlockSchedule, problem: BlockProblem) -> bool:
         """Whether less lacks than of another, or no more and it earns more."""
         mine, its = self.lacking(problem), other.lacking(problem)
-        return mine < its - HAIR or (mine <= its + HAIR and self.value(problem) > other.value(problem))
+        return mine < its - SUM_ERROR or (mine <= its + SUM_ERROR and self.value(problem) > other.value(problem))
 
     def keeps(self, problem: BlockProblem) -> bool:
         """Whether it is allowed, and nothing lacks."""
@@ -460,7 +457,7 @@ class BlockSchedule:
         """Whether no block is dug before one that it needs, each goes whole to destinations, and no year is above a limit except for a
         hair."""
         is_dug = self.year < problem.years
-        whole = np.abs(self.share.sum(axis=1) - is_dug) <= HAIR
+        whole = np.abs(self.share.sum(axis=1) - is_dug) <= SUM_ERROR
         ordered = self.year[problem.needs.users] >= self.year[problem.needs.needed]
         return bool(whole.all() and (self.share >= 0).all() and ordered.all() and not self.exceeded(problem).any())
 

@@ -19,6 +19,7 @@ from scipy.sparse.csgraph import connected_components
 import pitshell
 from pitplan.config.schedule import Effort
 from pitplan.core.progress import Progress
+from pitplan.core.tolerances import SOLVER_SHARE, SUM_ERROR, ZERO_PRICE
 from pitplan.errors import PlanError
 
 from .filling import Ranks, cone_sums, greatest_needed, ranks_of
@@ -462,10 +463,8 @@ def order_rows(pairs: csr_matrix) -> csr_matrix:
 
 # The first groups lie between the nested pits of this number of revenue factors.
 FIRST_PITS = 40
-# Above FEW_GROUPS groups, equal groups merge after a relative gain of more than SLIGHT_GAIN.
-FEW_GROUPS, SLIGHT_GAIN = 2_000, 1e-9
-# So small a share that lacks of what is due is the solver's tolerance, and so small a price.
-LACKING, SLIGHT = 1e-7, 1e-15
+# Above FEW_GROUPS groups, equal groups merge after a relative gain of more than SUM_ERROR.
+FEW_GROUPS = 2_000
 
 
 @dataclass(frozen=True)
@@ -568,7 +567,7 @@ class Solver:
             inside = np.zeros(divided.count, dtype=bool)
             inside[divided.label] = closure.in_closure
             history = history.after(self.groups.parents(divided), restricted.share, inside)
-            is_gain = restricted.value > value + SLIGHT_GAIN * abs(value)
+            is_gain = restricted.value > value + SUM_ERROR * abs(value)
             if divided.count > max(count, FEW_GROUPS) and is_gain and history.is_full:
                 # The relaxation over these is worth no less, so the rounds end.
                 divided, history = history.coarsened(divided)
@@ -595,7 +594,7 @@ def keeping_dues(nodes: Nodes, groups: Groups) -> Groups:
     master = Master(nothing)
     while True:
         found = master.solve(groups, seeks_dues=True)
-        if found.value >= -LACKING:
+        if found.value >= -SOLVER_SHARE:
             return groups
         closure = priced(nothing, found.prices)
         if closure.bound < 0:
@@ -610,9 +609,9 @@ def owed_by(nodes: Nodes, prices: NDArray[np.float64]) -> str:
     """The sums and years whose least amounts clash, by their prices."""
     problem, told = nodes.problem, []
     for limit, by_year in zip(problem.limits, prices):
-        years = [str(year + 1) for year in np.flatnonzero(by_year < -SLIGHT)]
+        years = [str(year + 1) for year in np.flatnonzero(by_year < -ZERO_PRICE)]
         told += [f"{limit.name} in {problem.word}{'s' * (len(years) > 1)} {', '.join(years)}"] if years else []
-    told += [due.name for due, by_year in zip(problem.dues, prices[len(problem.limits) :]) if by_year[0] < -SLIGHT]
+    told += [due.name for due, by_year in zip(problem.dues, prices[len(problem.limits) :]) if by_year[0] < -ZERO_PRICE]
     return "; ".join(told) or "all limits together"
 
 
@@ -627,10 +626,6 @@ def first_groups(nodes: Nodes) -> Groups:
     steps = problem.destinations * problem.years
     label = nested.first[:, None, None] * steps + np.arange(steps).reshape(problem.destinations, problem.years)
     return renumbered(nodes.spread(label.astype(np.int64)), (len(factors) + 1) * steps)
-
-
-# Sums of floats may be above a limit by a hair.
-HAIR = 1e-9
 
 
 def worth_digging(problem: BlockProblem, required: Optional[NDArray[np.bool_]] = None) -> NDArray[np.bool_]:
@@ -668,7 +663,7 @@ def earliest_years(problem: BlockProblem, ranks: Ranks) -> NDArray[np.int64]:
         return first
     sums = cone_sums(problem.needs, ranks, np.stack([limit.amounts.min(axis=1) for limit in limits], axis=1))
     for limit, sum_of in zip(limits, sums.T):
-        most = np.cumsum(limit.most) * (1 + HAIR)
+        most = np.cumsum(limit.most) * (1 + SUM_ERROR)
         first = np.maximum(first, np.searchsorted(most, sum_of, side="left"))
     return first
 

@@ -13,10 +13,11 @@ from numpy.typing import NDArray
 
 from pitplan.config.schedule import Effort
 from pitplan.core.progress import Progress, silent
+from pitplan.core.tolerances import SUM_ERROR
 from pitplan.errors import PlanError
 
 from .filling import ALL, LEAST, Divided, Filling, Sequence, blended, divided, moved, sequences, with_best_shares
-from .problem import HAIR, BlockProblem, BlockSchedule, demand_room, demand_sound, nothing
+from .problem import BlockProblem, BlockSchedule, demand_room, demand_sound, nothing
 from .relaxation import Reduced, Relaxation, Round, first_required, reduced, relaxed_as_required
 from .window_milp import Window, sizes_of, window_of
 
@@ -195,13 +196,15 @@ class Search:
             return
         problem, sums, told = self.problem, self.best.sums(self.problem), []
         for limit, by_year in zip(problem.limits, sums):
-            short = np.flatnonzero(by_year < limit.floor * (1 - HAIR))
+            short = np.flatnonzero(by_year < limit.floor * (1 - SUM_ERROR))
             told += [
                 f"{problem.word} {year + 1} has {by_year[year]:,.10g} of {limit.name} for {limit.floor[year]:,.10g}"
                 for year in short[:MOST_NAMED]
             ]
         told += [
-            due.name for due in problem.dues if float((due.amounts * self.best.share).sum()) < due.least * (1 - HAIR)
+            due.name
+            for due in problem.dues
+            if float((due.amounts * self.best.share).sum()) < due.least * (1 - SUM_ERROR)
         ]
         why = "no schedule of whole blocks was found that meets the minimums; one with parts of blocks does"
         raise PlanError(f"{why}: {'; '.join(told)}: reduce the minimums, or increase [schedule] milp seconds")

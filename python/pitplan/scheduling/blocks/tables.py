@@ -16,6 +16,7 @@ from pitplan.config.places import PIT, WASTE
 from pitplan.config.schedule import ScheduleRules
 from pitplan.core.progress import Progress, silent
 from pitplan.core.revenue_factors import BASE_PRICE
+from pitplan.core.tolerances import SUM_ERROR
 from pitplan.economics.period_costs import is_shown, of_project
 from pitplan.errors import WARNING, PlanError
 from pitplan.pits import grade_tonnage
@@ -231,10 +232,6 @@ def make(plan: Plan, progress: Progress = silent) -> ScheduledBlocks:
     return scheduled(collected(plan, progress), progress)
 
 
-# A share of a block that the solver's tolerance alone may have left.
-SLIGHT = 1e-9
-
-
 def inventory_table(blocks: ScheduledBlocks) -> pd.DataFrame:
     """Returns the inventory of a schedule by block: that of `scheduling.inventory.summed`, without pushbacks."""
     plan = blocks.planned.plan
@@ -247,7 +244,7 @@ def inventory_rows(blocks: ScheduledBlocks, number: int) -> pd.DataFrame:
     planned, schedule = blocks.planned, blocks.found.schedule
     plan, destination = planned.plan, planned.destinations[number]
     mined = (schedule.year < planned.problem.years) & (plan.values.tonnes[planned.cells] > 0)
-    some = np.flatnonzero(mined & (schedule.share[:, number] > SLIGHT))
+    some = np.flatnonzero(mined & (schedule.share[:, number] > SUM_ERROR))
     cells, share = planned.cells[some], schedule.share[some, number]
     found = {"method": BLOCK, "year": schedule.year[some] + 1, "bench": plan.grid.toes()[level_of(plan, cells)]}
     found |= codes_of(plan, cells) | {"source": PIT, "destination": destination}

@@ -16,17 +16,16 @@ from numpy.typing import NDArray
 from scipy.sparse import bmat, coo_matrix, csr_matrix, eye, hstack, kron, vstack
 
 from pitplan.config.schedule import Effort
+from pitplan.core.tolerances import SOLVER_SUM, SUM_ERROR
 from pitplan.scheduling.highs import Programme
 from pitplan.scheduling.highs_process import solve
 
 from .filling import ranks_of
-from .problem import HAIR, BlockProblem, BlockSchedule, Due, Limit
+from .problem import BlockProblem, BlockSchedule, Due, Limit
 from .relaxation import earliest_years
 
 # A window has about MOST_UNKNOWNS integer unknowns at most, at first FEWER, and at most MOST_YEARS years unless all blocks fit.
 FEWER, MOST_UNKNOWNS, MOST_YEARS = 2_500, 5_000, 4
-# A share that may be the solver's tolerance alone.
-SLIGHT = 1e-6
 # The penalty of a minimum that is missed entirely, as a multiple of what all free blocks earn or cost.
 LACKING = 10.0
 
@@ -137,7 +136,9 @@ class Window:
             for limit, sums in zip(self.problem.limits, taken)
         ]
         owed = [(due, due.least - float((due.amounts * others).sum())) for due in self.problem.dues]
-        dues = tuple(Due(due.name, due.amounts[self.blocks], least) for due, least in owed if least > HAIR * due.least)
+        dues = tuple(
+            Due(due.name, due.amounts[self.blocks], least) for due, least in owed if least > SUM_ERROR * due.least
+        )
         needs = self.problem.needs.within(self.number >= 0)
         return BlockProblem(self.problem.values[self.blocks, :, years], needs, tuple(limits), dues)
 
@@ -210,7 +211,7 @@ def window_of(
     """
     first, last = years
     is_here = (schedule.year >= first) & (schedule.year < last)
-    is_left = (schedule.year == problem.years) & (cumulative[:, last - 1] > SLIGHT)
+    is_left = (schedule.year == problem.years) & (cumulative[:, last - 1] > SOLVER_SUM)
     blocks = np.arange(problem.blocks) if last - first == problem.years else np.flatnonzero(is_here | is_left)
     middle, expected = (first + last - 1) / 2, problem.years - cumulative.sum(axis=1)
     nearest = np.argsort(np.abs(expected[blocks] - middle), kind="stable")[: most // (last - first)]

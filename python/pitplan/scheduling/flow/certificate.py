@@ -16,6 +16,7 @@ from typing import Optional
 import numpy as np
 from numpy.typing import NDArray
 
+from pitplan.core.tolerances import SOLVER_SHARE
 from pitplan.scheduling.certificate import (
     UNIT,
     Certificate,
@@ -31,7 +32,7 @@ from pitplan.scheduling.certificate import (
 from pitplan.scheduling.limits import ADVANCE, MAX, MIN, STOCK, Prices
 
 from .bound import Lagrangian
-from .flows import SLIGHT, Flows
+from .flows import Flows
 from .material import FEED
 from .model import FlowModel
 
@@ -184,7 +185,7 @@ class CertifiedShares:
                 if flows.stocked[stockpile, parcel, year] > 0:
                     lies.append([year, float(flows.stocked[stockpile, parcel, year])])
             rest = self.places[Destination(None, int(stockpile), self.years)]
-            yield from ((parcel, int(since), rest, share) for since, share in lies if share > SLIGHT)
+            yield from ((parcel, int(since), rest, share) for since, share in lies if share > SOLVER_SHARE)
 
     @cached_property
     def of_parcels(self) -> Shares:

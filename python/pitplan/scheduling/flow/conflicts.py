@@ -17,7 +17,8 @@ from numpy.typing import NDArray
 from scipy.sparse import csr_matrix, hstack
 
 from pitplan.config.schedule import Effort
-from pitplan.scheduling.bench_sequencing import HAIR, Limits
+from pitplan.core.tolerances import SOLVER_SUM, SUM_ERROR
+from pitplan.scheduling.bench_sequencing import Limits
 from pitplan.scheduling.highs import Optimum, Programme
 from pitplan.scheduling.highs_process import solve
 from pitplan.scheduling.limits import ADVANCE, DUMP, DUMPED, GRADE, MAX, MIN, STOCK
@@ -155,8 +156,6 @@ def of_mining(model: FlowModel) -> Iterator[Unit]:
         yield Unit(ALL, ADVANCE, MAX)
 
 
-# A share of a limit, or of the greatest dual value, that may be the solver's tolerance alone.
-SLIGHT = 1e-6
 SIDES = {MAX: "maximum", MIN: "minimum"}
 
 
@@ -199,16 +198,16 @@ class Conflict:
         shares = self.found.unknowns[len(self.flow.programme.gain) :].reshape(len(self.elastic), self.flow.years)
         limits = [self.flow.limits[number] for number in self.elastic]
         return [
-            (limit, np.where(share > SLIGHT, share * limit.scale, 0.0))
+            (limit, np.where(share > SOLVER_SUM, share * limit.scale, 0.0))
             for limit, share in zip(limits, shares)
-            if (share > SLIGHT).any()
+            if (share > SOLVER_SUM).any()
         ]
 
     @property
     def priced(self) -> dict[tuple[str, str], NDArray[np.bool_]]:
         """By name and side of a limit whether it has a dual value in each year."""
         assert self.found.prices is not None
-        slight = SLIGHT * float(self.found.prices.max(initial=0.0))
+        slight = SOLVER_SUM * float(self.found.prices.max(initial=0.0))
         found = {
             (it.name, it.side): (self.found.prices[self.rows_of(number)] > slight) & it.holds
             for number, it in enumerate(self.flow.limits)
@@ -222,7 +221,7 @@ class Conflict:
         flow, benches, programme = self.flow, self.flow.model.benches, self.programme
         size = flow.sizes[0]
         reduced = (programme.gain - programme.matrix.T @ self.found.prices)[:size].reshape(len(benches), flow.years)
-        held = (reduced > slight) & (programme.upper[:size].reshape(reduced.shape) < 1 - HAIR)
+        held = (reduced > slight) & (programme.upper[:size].reshape(reduced.shape) < 1 - SUM_ERROR)
         limits, found = flow.model.of_mining, dict[tuple[str, str], NDArray[np.bool_]]()
         for bench, year in np.argwhere(held):
             before = [*np.flatnonzero(benches.before[bench]), bench]

@@ -9,14 +9,13 @@ from typing import Optional
 import numpy as np
 from numpy.typing import NDArray
 
+from pitplan.core.tolerances import SOLVER_SHARE
 from pitplan.pushbacks.bench_table import CASH
 from pitplan.scheduling.limits import Prices
 
 from .model import FlowModel
 from .programme import FlowProgramme
 
-# A share that may be the solver's tolerance alone.
-SLIGHT = 1e-7
 PARTS = ("dug", "direct", "stocked", "reclaimed", "opened", "dumped")
 
 
@@ -217,7 +216,8 @@ def within(flows: Flows) -> Flows:
     """Returns the flows without the solver's tolerance: within what is mined, what is stocked, and the maxima of each year."""
     dug = flows.dug[flows.model.ore.bench]
     direct, stocked, reclaimed, opened = (
-        np.where(part > SLIGHT, part, 0.0) for part in (flows.direct, flows.stocked, flows.reclaimed, flows.opened)
+        np.where(part > SOLVER_SHARE, part, 0.0)
+        for part in (flows.direct, flows.stocked, flows.reclaimed, flows.opened)
     )
     opened *= share_of(np.ones(opened.shape[1]), opened.sum(axis=(0, 2)))[:, None]
     direct *= share_of(dug, direct.sum(axis=0))
@@ -276,7 +276,7 @@ def richest_first(model: FlowModel, dug: NDArray[np.float64], prices: Optional[P
         left, there = np.maximum(free[:, year], 0.0), dug[model.ore.bench, year].copy()
         for pair in order.tolist():
             share = room(takes[:, pair], left, there[parcel[pair]])
-            if share > SLIGHT:
+            if share > SOLVER_SHARE:
                 flows.direct[process[pair], parcel[pair], year] = share
                 there[parcel[pair]] -= share
                 left -= share * takes[:, pair]

@@ -15,6 +15,7 @@ from pitplan.config.dumps import Dump
 from pitplan.config.project import Project
 from pitplan.config.schedule import FEED as OF_FEED, TOTAL, ScheduleRules
 from pitplan.config.stockpiles import Stockpile
+from pitplan.core.tolerances import SOLVER_SHARE
 from pitplan.economics import period_costs
 from pitplan.economics.cutoff_grades import BINS, edges_of
 from pitplan.economics.period_costs import SELLING_COST, SMELTED, YearlyMoney
@@ -131,8 +132,8 @@ Floats = NDArray[np.float64]
 
 # How the names of amounts of the rock of a set begin.
 SET = "rock_set_"
-# What a tonne costs that finds no room, in multiples of the dearest dump and of a unit of money; and a share of waste that may be rounding.
-FAR, SLIGHT = 1e3, 1e-7
+# What a tonne costs that finds no room, in multiples of the dearest dump and of a unit of money.
+FAR = 1e3
 
 
 @dataclass(frozen=True)
@@ -226,7 +227,7 @@ class Waste:
         cheapest = np.zeros_like(tonnes)
         first = np.where(self.accepted, self.costs, np.inf).argmin(axis=1) if self.sets else np.zeros(0, dtype=np.int64)
         cheapest[np.arange(self.sets), first] = 1.0
-        return np.where(whole > SLIGHT, tonnes / np.where(whole > SLIGHT, whole, 1.0), cheapest)
+        return np.where(whole > SOLVER_SHARE, tonnes / np.where(whole > SOLVER_SHARE, whole, 1.0), cheapest)
 
     def placed(self, waste: Floats) -> tuple[Floats, Floats]:
         """Returns the cheapest shares of the waste of each set and year that dumps take, shape (sets, dumps, years), and the tonnes of each year that find

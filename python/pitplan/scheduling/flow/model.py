@@ -13,9 +13,10 @@ from scipy.sparse import coo_matrix, csr_matrix
 
 from pitplan.config.dumps import Dump
 from pitplan.config.stockpiles import Stockpile
+from pitplan.core.tolerances import SUM_ERROR
 from pitplan.pits.best_worst_case import year_discounts
 from pitplan.pushbacks.bench_table import ROCK, PushbackBenches
-from pitplan.scheduling.bench_sequencing import HAIR, Limits, Problem
+from pitplan.scheduling.bench_sequencing import Limits, Problem
 from pitplan.scheduling.highs_process import demand_solved
 
 from .material import FEED, SET, Ore, Waste
@@ -88,7 +89,7 @@ def kept_behind(amounts: NDArray[np.float64], most: NDArray[np.float64]) -> dict
             allowed = most[last - span + 1 : last + 1].sum()
             if not np.isfinite(allowed):
                 continue
-            loose = HAIR * max(allowed, 1.0)
+            loose = SUM_ERROR * max(allowed, 1.0)
             above = np.minimum(
                 np.searchsorted(before, before - allowed + loose, side="right"),
                 np.searchsorted(until, until - allowed + loose, side="right"),
@@ -135,7 +136,7 @@ def furthest(benches: PushbackBenches, limits: Limits, years: int) -> NDArray[np
 
 def left_over(takes: NDArray[np.float64], before: NDArray[np.bool_], most: NDArray[np.float64]) -> NDArray[np.float64]:
     """Returns by bench and year the share of a bench for which a limit leaves room once all before it is mined."""
-    free = most - (before @ takes)[:, None] + HAIR * most
+    free = most - (before @ takes)[:, None] + SUM_ERROR * most
     with np.errstate(divide="ignore", invalid="ignore"):
         share = np.where(takes[:, None] > 0, free / takes[:, None], np.where(free >= 0, 1.0, 0.0))
     return np.clip(share, 0.0, 1.0)

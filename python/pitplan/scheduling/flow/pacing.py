@@ -14,7 +14,7 @@ from typing import Any, Optional
 import numpy as np
 from numpy.typing import NDArray
 
-from pitplan.scheduling.bench_sequencing import HAIR
+from pitplan.core.tolerances import SUM_ERROR
 from pitplan.scheduling.limits import MAX, Prices
 
 from .material import FEED, SET
@@ -23,8 +23,6 @@ from .model import FlowModel
 GAIN = "gain"
 # Points of the grid over an order's tonnes, and of the refined one around the end of each year.
 POINTS, FINER = 160, 15
-# Sums of floats may be above a limit by so much of it.
-LOOSE = 1e-9
 
 
 @dataclass(frozen=True)
@@ -75,7 +73,7 @@ class Pacing:
         if self.most_kinds is None or count <= self.most_kinds:
             return np.arange(count)
         gain = np.stack([np.bincount(ore.bin - 1, row, minlength=count) for row in ore.gain])
-        feed = np.maximum(np.bincount(ore.bin - 1, ore.feed, minlength=count), HAIR)
+        feed = np.maximum(np.bincount(ore.bin - 1, ore.feed, minlength=count), SUM_ERROR)
         best, order = gain.argmax(axis=0), np.lexsort((gain.max(axis=0) / feed, gain.argmax(axis=0)))
         part = np.empty(count, dtype=np.int64)
         part[order] = self.most_kinds * (np.cumsum(feed[order]) - feed[order] / 2) // feed.sum()
@@ -221,11 +219,11 @@ class Moves:
         fits = np.ones(len(first), dtype=bool)
         for name in limits.most:
             most = limits.greatest(name)
-            fits &= self.between(self.model.dug(name), first, last) <= most * (1 + LOOSE)
+            fits &= self.between(self.model.dug(name), first, last) <= most * (1 + SUM_ERROR)
         if np.isfinite(limits.vertical_advance_rate):
             for pushback in np.unique(self.model.benches.pushback):
                 sunk = self.between((self.model.benches.pushback == pushback).astype(float), first, last)
-                fits &= sunk <= limits.sinking(self.model.years).max() * (1 + LOOSE)
+                fits &= sunk <= limits.sinking(self.model.years).max() * (1 + SUM_ERROR)
         return first[fits], last[fits]
 
     @property
@@ -277,7 +275,7 @@ class Moves:
             found[year] = mined[:, year] + regimes[key] * model.discounts[year] - costs[year]
             for name, most in zip(limits.most, amounts):
                 if name in model.of_mining.most:
-                    found[year][dug[name] > most * (1 + LOOSE)] = -np.inf
+                    found[year][dug[name] > most * (1 + SUM_ERROR)] = -np.inf
         return found
 
 
@@ -298,7 +296,7 @@ def gained(ore: dict[str, NDArray[np.float64]], free: dict[str, NDArray[np.float
         How much of limited amounts is free.
     """
     gain, feed = ore[GAIN], ore.get(FEED, np.abs(ore[GAIN]))
-    whole = gain.sum(axis=0) / np.maximum(feed.sum(axis=0), HAIR)
+    whole = gain.sum(axis=0) / np.maximum(feed.sum(axis=0), SUM_ERROR)
     left = {name: np.maximum(amounts, 0.0) for name, amounts in free.items() if name in ore}
     rest, found = np.ones((len(gain), gain.shape[2])), np.zeros(len(gain))
     for process, kind in zip(*np.unravel_index(np.argsort(-whole, axis=None, kind="stable"), whole.shape)):

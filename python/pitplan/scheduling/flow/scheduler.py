@@ -13,9 +13,10 @@ from scipy.sparse import csr_matrix, hstack, vstack
 
 from pitplan.config.dumps import Dump
 from pitplan.config.schedule import Effort
+from pitplan.core.tolerances import MISSED_LIMIT, SOLVER_SHARE, SOLVER_SUM, SUM_ERROR
 from pitplan.errors import PlanError
 from pitplan.pushbacks.bench_table import ORE, PushbackBenches
-from pitplan.scheduling.bench_sequencing import HAIR, Problem, Sequence, by_lead, dig, leads
+from pitplan.scheduling.bench_sequencing import Problem, Sequence, by_lead, dig, leads
 from pitplan.scheduling.highs import Programme
 from pitplan.scheduling.highs_process import at_a_time, solve
 
@@ -35,8 +36,8 @@ from .programme import FlowOptimum, FlowProgramme
 STEPS, MOST_TRIALS = (4, 2, 1), 80
 # Shares of a bench that date it: it counts as mined in the year that completes the share. The expected year is another date.
 PARTS = (0.1, 0.5, 0.9)
-# A bench that the optimum mines less than this share is left; and a share that may be the solver's tolerance alone.
-LEFT, RANK_NOISE = 0.5, 1e-6
+# A bench that the optimum mines less than this share is left.
+LEFT = 0.5
 
 
 @dataclass(frozen=True)
@@ -97,9 +98,9 @@ def of_optimum(cumulative: NDArray[np.float64], benches: PushbackBenches) -> Ite
     `cumulative` is the share of each bench that the optimum mines by the end of each year, shape (benches, years).
     """
     expected = cumulative.shape[1] + 1 - cumulative.sum(axis=1)
-    for key in (expected, *((cumulative < part - RANK_NOISE).sum(axis=1) for part in PARTS)):
+    for key in (expected, *((cumulative < part - SOLVER_SUM).sum(axis=1) for part in PARTS)):
         order = in_order(benches, key, expected)
-        for least in (LEFT, RANK_NOISE):
+        for least in (LEFT, SOLVER_SUM):
             yield order[cumulative[order, -1] >= least]
 
 
@@ -112,16 +113,12 @@ def in_order(benches: PushbackBenches, key: NDArray[np.float64], second: NDArray
     return np.lexsort((np.arange(len(benches)), second, first))
 
 
-# By how much a limit may be missed.
-MISSED_LIMIT = 1e-8
-
-
 def keeps(model: FlowModel, dug: NDArray[np.float64]) -> bool:
     """Returns whether each bench is started when all that it waits for is mined, and no year exceeds a limit of mining, within a tolerance."""
     benches, limits, years = model.benches, model.of_mining, dug.shape[1]
     done = dug.cumsum(axis=1)
     for bench, others in enumerate(benches.waits):
-        if (done[others][:, dug[bench] > 0] < 1 - HAIR).any():
+        if (done[others][:, dug[bench] > 0] < 1 - SUM_ERROR).any():
             return False
     sunk = np.stack([dug[benches.pushback == pushback].sum(axis=0) for pushback in np.unique(benches.pushback)])
     is_within = (limits.amounts(benches).T @ dug).T <= limits.of_years(years) * (1 + MISSED_LIMIT)
@@ -132,7 +129,7 @@ def whole_shares(cumulative: NDArray[np.float64], slight: float) -> NDArray[np.f
     """Returns the shares of benches by year from those by the end of each year; differences up to `slight` are the solver's tolerance."""
     rounded = np.where(cumulative > 1 - slight, 1.0, np.where(cumulative < slight, 0.0, cumulative))
     shares = np.diff(np.maximum.accumulate(rounded, axis=1), axis=1, prepend=0.0)
-    return np.where(shares > HAIR, shares, 0.0)
+    return np.where(shares > SUM_ERROR, shares, 0.0)
 
 
 # Better depths of a schedule of whole benches, by linear programmes around it.
@@ -141,11 +138,8 @@ def whole_shares(cumulative: NDArray[np.float64], slight: float) -> NDArray[np.f
 # them that are mined and all flows are a linear programme, whose optimum is worth no less than the schedule. A share
 # that reaches 0 or 1 in it leaves the bench to the one above or below, with which the next programme goes on.
 
-# This many programmes are solved at most, fewer of large ones. They end when two in turn gain less than this share. What gains less than the other
-# share may be noise.
-PROGRAMMES, OF_LARGE, GAINED, NOISE = 24, 8, 1e-4, 1e-7
-# A share that may be the solver's tolerance alone.
-DEPTH_NOISE = 1e-7
+# This many programmes are solved at most, fewer of large ones. They end when two in turn gain less than this share.
+PROGRAMMES, OF_LARGE, GAINED = 24, 8, 1e-4
 
 
 def improved_depths(model: FlowModel, dug: NDArray[np.float64], value: float) -> Optional[NDArray[np.float64]]:
@@ -166,10 +160,10 @@ def improved_depths(model: FlowModel, dug: NDArray[np.float64], value: float) ->
             optimum = FlowProgramme(model, between=(least, most)).solved()
         except PlanError:
             break
-        shares = whole_shares(np.clip(optimum.cumulative, least, most), DEPTH_NOISE)
+        shares = whole_shares(np.clip(optimum.cumulative, least, most), SOLVER_SHARE)
         gained = optimum.value - value
         idle = 0 if gained > GAINED * abs(value) else idle + 1
-        if gained > NOISE * abs(value) and keeps(model, shares):
+        if gained > SOLVER_SHARE * abs(value) and keeps(model, shares):
             found = dug = shares
             value = optimum.value
         if idle == 2:
@@ -190,7 +184,7 @@ def around(
     deeper : bool
         Whether a pushback without a bench in progress may begin its next one, or leave its last one unfinished.
     """
-    through, begun = done >= 1 - HAIR, done > HAIR
+    through, begun = done >= 1 - SUM_ERROR, done > SUM_ERROR
     least, most = through.astype(float), begun.astype(float)
     count = len(benches)
     waits = np.zeros((count, count), dtype=bool)
@@ -214,8 +208,6 @@ MOST_PACING = 3
 TRIED, TRIED_OF_LARGE, TRIED_WITH_MINIMUMS = 4, 2, 40
 # Orders are compared with about MOST_KINDS kinds of ore at most, and COMPARED times as many of the best as are tried again with all bins.
 MOST_KINDS, COMPARED = 48, 2
-# By so much of it a minimum may be missed; so much of the waste may find no room; and by so much of it a limit of a dump may be exceeded.
-TOLERATED, LACKING, ROOM = 1e-8, 1e-7, 1e-6
 # How often an order is mined more slowly because its waste finds no room.
 SLOWER = 15
 # The shares of benches by year at a pace.
@@ -322,14 +314,14 @@ def slower(flows: Flows, lacking: NDArray[np.float64]) -> NDArray[np.float64]:
 
 def lacks_nothing(flows: Flows, lacking: NDArray[np.float64]) -> bool:
     """Returns whether waste that finds no room is no more than the solver's tolerance."""
-    return float(lacking.sum()) <= LACKING * float(flows.wasted.sum())
+    return float(lacking.sum()) <= SOLVER_SHARE * float(flows.wasted.sum())
 
 
 def keeps_dumps(flows: Flows) -> bool:
     """Returns whether no dump takes or holds more than it may, within a tolerance."""
     waste = flows.model.waste
-    held = flows.placed.cumsum(axis=1) <= waste.capacities[:, None] * (1 + ROOM)
-    return bool(held.all() and (flows.placed <= waste.most[:, : flows.years] * (1 + ROOM)).all())
+    held = flows.placed.cumsum(axis=1) <= waste.capacities[:, None] * (1 + SOLVER_SUM)
+    return bool(held.all() and (flows.placed <= waste.most[:, : flows.years] * (1 + SOLVER_SUM)).all())
 
 
 def from_optimum(model: FlowModel, optimum: FlowOptimum, rule: Optional[Flows] = None) -> Flows:
@@ -442,7 +434,7 @@ def feasible(model: FlowModel, dug: NDArray[np.float64]) -> Optional[Flows]:
     the minimums."""
     least = model.problem.limits.least_of_years(model.years)
     of_mining = {name: amounts for name, amounts in least.items() if not model.is_of_ore(name)}
-    if any((model.dug(name) @ dug < amounts * (1 - TOLERATED)).any() for name, amounts in of_mining.items()):
+    if any((model.dug(name) @ dug < amounts * (1 - MISSED_LIMIT)).any() for name, amounts in of_mining.items()):
         return None
     try:
         return best(model, dug)
@@ -474,8 +466,6 @@ def ended(flows: Flows) -> Flows:
 # To the unknowns of the linear programme come whole ones: whether a bench may be started by the end of a year. It may
 # only when all that it waits for is mined by then, and only then may any of it be mined.
 
-# What the solver's tolerance may add to a share.
-SHARE_NOISE = 1e-6
 # HiGHS may run past its time limit. Its process is ended after TIMES the limit plus LATE seconds, without a result.
 TIMES, LATE = 2.0, 30.0
 
@@ -496,7 +486,7 @@ def integer_programme(flow: FlowProgramme) -> Programme:
         gain=np.concatenate([given.gain, np.zeros(size)]),
         matrix=matrix,
         most=np.concatenate([given.most, np.zeros(started.shape[0])]),
-        upper=np.concatenate([given.upper, (given.upper[:size] > SHARE_NOISE).astype(float)]),
+        upper=np.concatenate([given.upper, (given.upper[:size] > SOLVER_SUM).astype(float)]),
         whole=np.repeat([False, True], [len(given.gain), size]),
     )
 
@@ -513,7 +503,7 @@ def best_schedule(model: FlowModel, effort: Effort) -> tuple[Optional[Flows], fl
         return None, most
     if most < 0 and not model.asks_least:
         most = 0.0
-    dug = whole_shares(found.unknowns[: flow.sizes[0]].reshape(-1, model.years), SHARE_NOISE)
+    dug = whole_shares(found.unknowns[: flow.sizes[0]].reshape(-1, model.years), SOLVER_SUM)
     flows = feasible(model, dug) if keeps(model, dug) else None
     if flows is None:
         return None, most

@@ -15,6 +15,7 @@ from pitplan.config.dumps import Dump
 from pitplan.config.economics import GRADE_UNITS
 from pitplan.config.places import MILL, PIT, WASTE
 from pitplan.config.stockpiles import Stockpile
+from pitplan.core.tolerances import SOLVER_SUM, SUM_ERROR
 from pitplan.economics.cutoff_grades import RockCosts
 from pitplan.economics.period_costs import MINING_COST, PROCESSING_COST, SELLING_COST, SMELTED
 from pitplan.pits import shell_tables
@@ -28,10 +29,6 @@ from .opening import balance_at_start, of_opening
 
 if TYPE_CHECKING:
     from pitplan.scheduling.pushback_schedule import YearlySchedule
-
-
-# A stockpile of less than this share of all that was placed there is empty.
-EMPTY = 1e-9
 
 
 @dataclass(frozen=True)
@@ -287,7 +284,7 @@ def balance_of(schedule: YearlySchedule, method: str, name: str, flows: pd.DataF
     start = balance_at_start(schedule, name)
     lies = (placed - out).cumsum() + start
     # What the sums of floats leave is nothing.
-    lies = lies.where(lies["feed_tonnes"] > EMPTY * (placed["feed_tonnes"].sum() + start["feed_tonnes"]), 0.0)
+    lies = lies.where(lies["feed_tonnes"] > SUM_ERROR * (placed["feed_tonnes"].sum() + start["feed_tonnes"]), 0.0)
     closing = lies["feed_tonnes"]
     columns = {
         "opening_tonnes": closing.shift(1, fill_value=start["feed_tonnes"]),
@@ -466,8 +463,6 @@ def shadow_prices(schedule: YearlySchedule, name: str) -> Floats:
 # Cut-offs of a schedule by process and year: those of the prices of capacities, as Lane has them (The Economic
 # Definition of Ore, 1988), and those that were realised.
 
-# A flow of a smaller share of the feed of a year may be the solver's tolerance alone.
-SLIGHT = 1e-6
 # What a row of feed.csv or cutoffs.csv is of.
 KEYS = ["method", "year", "process"]
 
@@ -491,7 +486,7 @@ def realised(schedule: YearlySchedule) -> pd.Series:
     """Returns the lowest net value per tonne of feed that each process takes, by method, year and process."""
     flows = schedule.material_flows.rename(columns={"destination": "process"})
     fed = flows[flows["process"].isin([name or MILL for name in schedule.names])]
-    some = fed[fed["feed_tonnes"] > SLIGHT * fed.groupby(KEYS)["feed_tonnes"].transform("sum")]
+    some = fed[fed["feed_tonnes"] > SOLVER_SUM * fed.groupby(KEYS)["feed_tonnes"].transform("sum")]
     return (some["cash_flow"] / some["feed_tonnes"]).groupby([some[key] for key in KEYS]).min()
 
 

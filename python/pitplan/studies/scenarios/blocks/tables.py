@@ -11,6 +11,7 @@ from numpy.typing import NDArray
 from scipy.optimize import linprog
 
 from pitplan.config.project import Project
+from pitplan.core.tolerances import SUM_ERROR
 from pitplan.errors import PlanError
 from pitplan.pits.best_worst_case import year_discounts
 from pitplan.pushbacks.bench_table import CASH, ORE, ROCK
@@ -21,8 +22,6 @@ from pitplan.studies.scenarios.worker import plan_of
 from .problem import Weights, limits_of_scenarios, weights_of
 from .worker import Kept, diggable_of, mean_of, read_answer
 
-# Relative tolerance of limits and of planned feed, for sums of floats.
-HAIR = 1e-9
 # The common schedule in each scenario: mill feed and cash flow of its years with the grades of the scenario.
 #
 # Each year mines the blocks of the schedule, with any grades. Then the ore goes to the mill; if it exceeds a
@@ -91,7 +90,7 @@ def best_shares(
         If HiGHS finds no optimum.
     """
     pays = (gain > 0).astype(float)
-    over = np.flatnonzero(takes @ pays > most * (1 + HAIR))
+    over = np.flatnonzero(takes @ pays > most * (1 + SUM_ERROR))
     if len(over) == 0:
         return pays
     if len(over) == 1:
@@ -139,7 +138,7 @@ def years_of_dug(dug: Dug, planned: NDArray[np.float64]) -> pd.DataFrame:
 
 def row_of(years: pd.DataFrame) -> dict[str, float]:
     """Returns the columns of schedules.csv of the common schedule in a scenario, from its years."""
-    short = years[ORE] < years[PLANNED] * (1 - HAIR)
+    short = years[ORE] < years[PLANNED] * (1 - SUM_ERROR)
     return {
         "common_npv": float(years["discounted_cash_flow"].sum()),
         "common_feed_tonnes": float(years[ORE].sum()),
