@@ -8,7 +8,7 @@ from matplotlib.colors import to_rgb
 from matplotlib.figure import Figure
 
 from pitplan import Plan
-from pitplan.figures import geology, map_marks, plans_sections, style
+from pitplan.figures import geology, map_marks, palette, plans_sections
 
 CLASS = ('[table]\nfile = "blocks.csv"\n', '[table]\nfile = "blocks.csv"\nclass = "cls"\n')
 # Columns 0 and 1 are rock S, the others R; measured below, inferred in the middle, nothing on top. One block is rich.
@@ -41,7 +41,7 @@ def test_sections_show_rock_and_class(plan_folder):
     legends = [[text.get_text() for text in ax.get_legend().get_texts()] for ax in axes[2:]]
     assert legends == [["R", "S"], ["measured", "inferred", "unclassified"]]
     patch = axes[3].get_legend().get_patches()[0]
-    assert patch.get_facecolor()[:3] == to_rgb(style.CLASSES[0])
+    assert patch.get_facecolor()[:3] == to_rgb(palette.CLASSES[0])
     assert axes[0].get_title() == "Rock type, west to east (A) at north 25"
 
 

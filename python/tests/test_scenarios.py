@@ -321,7 +321,7 @@ def test_pictures_of_scenarios_are_those_that_the_project_asks_for(plan_folder, 
     monkeypatch.setattr(maps, "write_plans", lambda likely, path: shown.append(likely))
     shared = prepared(plan_folder(pillar(), COLUMNS + '[figures]\nlevels = [5]\nformats = ["svg"]\n', UPRIGHT))
     solved_in_turn(shared)
-    monkeypatch.setattr(scenarios, "write_sections", lambda likely, path: None)
+    monkeypatch.setattr(maps, "write_sections", lambda likely, path: None)
     pitplan.gather(shared.folder)
     assert maps.levels_to_show(shown[0]) == [2]
     assert (

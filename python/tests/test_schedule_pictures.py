@@ -17,7 +17,7 @@ from pitplan import PlanError
 from pitplan.config.project import Metal
 from pitplan.config.stockpiles import Stockpile
 from pitplan.export import xlsx
-from pitplan.figures import schedule as schedule_figures, style
+from pitplan.figures import palette, schedule as schedule_figures
 from pitplan.report import viewer3d
 from pitplan.results.folder import Folder, read_folder
 from pitplan.scheduling import pushback_schedule
@@ -189,12 +189,12 @@ def test_a_process_has_one_colour_in_all_pictures(schedule):
         assert {name: found[name] for name in due} == due
     assert [to_rgb(line.get_color()) for line in figure.axes[1].lines] == list(due.values())
     years = pd.DataFrame({"feed_tonnes": [3.0], "feed_tonnes_mill": [2.0], "feed_tonnes_leach": [1.0]})
-    assert {name: to_rgb(colour) for name, (_, colour) in style.layers_of(years).items()} == due
+    assert {name: to_rgb(colour) for name, (_, colour) in palette.layers_of(years).items()} == due
     columns = ["revenue_mill", "processing_cost_mill", "revenue_leach", "processing_cost_leach"]
     tints = viewer3d.tints_of(
         SimpleNamespace(blocks=pd.DataFrame(columns=columns)), "destination", ["waste", "leach", "mill"]
     )
-    assert [to_rgb(tint) for tint in tints] == [to_rgb(style.WASTE), due["leach"], due["mill"]]
+    assert [to_rgb(tint) for tint in tints] == [to_rgb(palette.WASTE), due["leach"], due["mill"]]
 
 
 @pytest.mark.parametrize("write", [schedule_figures.write_gantt, schedule_figures.write_tonnes])

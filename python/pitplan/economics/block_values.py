@@ -32,7 +32,6 @@ from pitplan.errors import PlanError
 from .smelter_terms import charge, net, payable_share
 from .weighing import HIGH_GRADES, Feed, Hauled, Rows, Way, accepted_by
 
-
 # Several processes: the one that each block is sent to at each revenue factor, as nodes that never count a block
 # twice.
 #

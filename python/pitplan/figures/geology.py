@@ -19,10 +19,11 @@ from pitplan.blockmodel.guesses import Model, least_gap, size_of, turned_grid
 from pitplan.config.economics import GRADE_SIGNS
 from pitplan.plan import Plan
 
-from . import style
+from . import palette
 from .map_marks import draw_line, name_lines, section_titles
+from .palette import ORE
 from .plans_sections import Scene, draw_ground, draw_outline
-from .style import GROUND, MAP, ORE, STYLE, finish, list_of, name_axes, panels
+from .style import GROUND, MAP, STYLE, finish, list_of, name_axes, panels
 
 OTHERS = "others"
 MOST_IN_ROW = 5
@@ -68,11 +69,11 @@ def kind_of(plan: Plan, title: str, column: str) -> Kind:
     order = codes[np.argsort(-count, kind="stable")].tolist()
     is_class = column == plan.project.table.resource_class
     if is_class:
-        colours = style.of_classes(codes.tolist())
-    elif len(order) > len(style.CODES):
-        colours = dict(zip([*order[: len(style.CODES) - 1], OTHERS], style.CODES))
+        colours = palette.of_classes(codes.tolist())
+    elif len(order) > len(palette.CODES):
+        colours = dict(zip([*order[: len(palette.CODES) - 1], OTHERS], palette.CODES))
     else:
-        colours = dict(zip(order, style.CODES))
+        colours = dict(zip(order, palette.CODES))
     place = {code: at for at, code in enumerate(colours)}
     of_codes = np.array([place.get(code, len(colours) - 1) for code in codes], dtype=np.int16)
     none = "unclassified" if is_class else "none"

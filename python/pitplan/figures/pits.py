@@ -16,22 +16,9 @@ from pitplan.core.magnitude import scaled
 from pitplan.core.revenue_factors import factor_text
 from pitplan.pits.grade_tonnage import BREAK_EVEN, MARGINAL, MODEL, PIT
 
-from . import style
-from .style import (
-    BEST,
-    BEST_MARK,
-    CHOSEN,
-    ORE,
-    PLAIN,
-    SPECIFIED,
-    SPECIFIED_MARK,
-    STYLE,
-    WASTE,
-    WORST,
-    WORST_MARK,
-    finish,
-    list_of,
-)
+from . import palette
+from .palette import ORE, WASTE
+from .style import BEST, BEST_MARK, CHOSEN, PLAIN, SPECIFIED, SPECIFIED_MARK, STYLE, WORST, WORST_MARK, finish, list_of
 
 
 def write_pit_by_pit(table: pd.DataFrame, currency: str, chosen: float, path: Path) -> None:
@@ -127,7 +114,7 @@ def write(table: pd.DataFrame, metal: Metal, path: Path) -> None:
 
 def plot(table: pd.DataFrame, metal: Metal, axes: Any) -> list[Axes]:
     """Draws the tonnes of the model and of the pit above each cut-off grade of a metal, and their mean grade, on two axes."""
-    found, colours = list_of(axes, 2), style.of_classes(table["class"].unique().tolist())
+    found, colours = list_of(axes, 2), palette.of_classes(table["class"].unique().tolist())
     for axis, (part, title) in zip(found, TITLES.items()):
         plot_part(axis, table[(table["part"] == part) & (table["metal"] == metal.name)], metal, colours)
         axis.set_title(title)

@@ -13,7 +13,8 @@ from matplotlib.figure import Figure
 from pitplan.core.magnitude import scaled
 from pitplan.scheduling.price_paths import QUANTILES, PriceScenarios
 
-from .style import ORE, PLAIN, STYLE, WORST, finish, list_of
+from .palette import ORE
+from .style import PLAIN, STYLE, WORST, finish, list_of
 
 MOST_METALS, SHOWN_PATHS, BARS = 2, 5, 25
 ABOVE = {"loc": "lower left", "bbox_to_anchor": (0, 1), "ncol": 2, "frameon": False, "fontsize": 8}

@@ -31,8 +31,9 @@ from pitplan.scheduling.flow.tables import feed_table
 from pitplan.scheduling.methods import LP, MILP, NAMES, RULE
 from pitplan.scheduling.pushback_schedule import YearlySchedule
 
-from . import style
-from .style import BEST, BEST_MARK, PLAIN, SPECIFIED, SPECIFIED_MARK, STYLE, WASTE, WORST, WORST_MARK, finish, list_of
+from . import palette
+from .palette import WASTE
+from .style import BEST, BEST_MARK, PLAIN, SPECIFIED, SPECIFIED_MARK, STYLE, WORST, WORST_MARK, finish, list_of
 
 if TYPE_CHECKING:
     from pitplan.scheduling.blocks.tables import ScheduledBlocks
@@ -164,7 +165,7 @@ def draw_tonnes(axis: Axes, years: pd.DataFrame, scale: Scale, settings: ShellRu
     """Draws a bar of mill feed by process and of waste per year, and a horizontal line per capacity."""
     size, sign = scale.tonnes
     below = np.zeros(len(years))
-    for name, (column, colour) in style.layers_of(years).items():
+    for name, (column, colour) in palette.layers_of(years).items():
         axis.bar(years["year"], years[column] / size, 0.8, bottom=below, color=colour, label=name, linewidth=0)
         below = below + years[column].to_numpy() / size
     # With much dilution the feed may exceed the total material.
@@ -222,7 +223,7 @@ def plot_metal(feed: pd.DataFrame, metal: Metal, calendar: Calendar, ax: Axes) -
     Axes
     """
     processes = list(dict.fromkeys(feed["process"]))
-    colours, right = style.of_processes(processes), ax.twinx()
+    colours, right = palette.of_processes(processes), ax.twinx()
     sums = feed.groupby("year")[f"recovered_{metal.name}"].sum()
     size, unit = unit_of(float(sums.max()) if len(sums) else 0.0, metal)
     below = np.zeros(len(sums))
@@ -390,7 +391,7 @@ COLOURS = {
     "worst": WORST,
     "specified": SPECIFIED,
     RULE: "#d08a1d",
-    LP: style.ORE,
+    LP: palette.ORE,
     MILP: "#7b4fa3",
     "best": BEST,
     "relaxed": PLAIN,
@@ -491,23 +492,23 @@ def tonnes_of(schedule: YearlySchedule) -> pd.Series:
 
 def layers_of(schedule: YearlySchedule) -> list[tuple[str, str, str, dict[str, Any]]]:
     """Returns the layers of a year's bar from below: source, destination, label and look."""
-    processes, stockpiles = style.of_processes(schedule.names), schedule.model.stockpiles
+    processes, stockpiles = palette.of_processes(schedule.names), schedule.model.stockpiles
     found: list[tuple[str, str, str, dict[str, Any]]] = [
         (PIT, name, name, {"color": colour}) for name, colour in processes.items()
     ]
-    for name, colour in style.of_stockpiles(it.name for it in stockpiles).items():
+    for name, colour in palette.of_stockpiles(it.name for it in stockpiles).items():
         label = "to the stockpile" if len(stockpiles) == 1 else f"to {name}"
         found.append((PIT, name, label, {"color": colour}))
     dumps = schedule.model.dumps
-    for name, colour in style.of_dumps(it.name for it in dumps).items():
+    for name, colour in palette.of_dumps(it.name for it in dumps).items():
         found.append((PIT, name, f"waste to {name}", {"color": colour}))
-    return found if dumps else [*found, (PIT, AS_WASTE, "waste", {"color": style.WASTE})]
+    return found if dumps else [*found, (PIT, AS_WASTE, "waste", {"color": palette.WASTE})]
 
 
 def reclaimed_layers(schedule: YearlySchedule) -> list[tuple[str, str, str, dict[str, Any]]]:
     """Returns the layers of the ore that is reclaimed in a year, as `layers_of` does."""
     found: list[tuple[str, str, str, dict[str, Any]]] = []
-    for name, colour in style.of_processes(schedule.names).items():
+    for name, colour in palette.of_processes(schedule.names).items():
         look = {"color": colour, "alpha": 0.55, "hatch": "///", "edgecolor": "white"}
         found += [(it.name, name, f"{name}, reclaimed", look) for it in schedule.model.stockpiles]
     return found
@@ -528,7 +529,7 @@ def draw_flows(ax: Axes, schedule: YearlySchedule, way: str, size: float) -> Non
         keys = pd.MultiIndex.from_product([[way], years, [source], [destination]], names=tonnes.index.names)
         return np.asarray(tonnes.reindex(keys, fill_value=0.0).to_numpy() / size)
 
-    fed = np.sum([high(PIT, name) for name in style.of_processes(schedule.names)], axis=0)
+    fed = np.sum([high(PIT, name) for name in palette.of_processes(schedule.names)], axis=0)
     wide = WIDTH - BESIDE if schedule.is_stocked else WIDTH
     bars = (
         (layers_of(schedule), 0.0 * fed, wide, (wide - WIDTH) / 2),
@@ -691,12 +692,12 @@ def draw_bars(ax: Axes, made: ScheduledBlocks, size: float) -> None:
         return
     operation, below = BlockOperation(made), np.zeros(len(years))
     tonnes = operation.plan.values.tonnes
-    for number, (process, colour) in enumerate(style.of_processes(made.planned.destinations[1:]).items()):
+    for number, (process, colour) in enumerate(palette.of_processes(made.planned.destinations[1:]).items()):
         high = operation.fed(tonnes, number) / size
         ax.bar(years["year"], high, 0.8, bottom=below, color=colour, label=process, linewidth=0)
         below = below + high
     waste = (years["total_tonnes"] / size - below).clip(lower=0)
-    ax.bar(years["year"], waste, 0.8, bottom=below, color=style.WASTE, label="waste", linewidth=0)
+    ax.bar(years["year"], waste, 0.8, bottom=below, color=palette.WASTE, label="waste", linewidth=0)
     ax.xaxis.set_major_locator(MaxNLocator(integer=True))
     ax.set_xlim(0.4, float(years["year"].max()) + 0.6)
 
@@ -734,7 +735,7 @@ def plot_value(made: ScheduledBlocks, ax: Axes) -> None:
     earned = np.append(0.0, made.years["discounted_cash_flow"].cumsum())
     size, sign = scaled(max(float(np.abs(earned).max()), made.found.bound))
     currency = made.planned.plan.project.economics.currency
-    marks = {"color": style.ORE, "marker": "o", "markersize": 3, "linewidth": 1.4}
+    marks = {"color": palette.ORE, "marker": "o", "markersize": 3, "linewidth": 1.4}
     ends = np.append(0.0, made.planned.limits.calendar.ends(len(earned) - 1))
     ax.plot(ends, earned / size, label=f"schedule: {earned[-1] / size:,.2f}", **marks)
     ax.axhline(

@@ -14,7 +14,7 @@ from pitplan.config.economics import GRADE_UNITS
 from pitplan.config.project import Project
 from pitplan.core.magnitude import scaled
 from pitplan.core.revenue_factors import factor_text
-from pitplan.figures.style import ranked
+from pitplan.figures.palette import ranked
 from pitplan.plan import shown_name
 from pitplan.results import names
 from pitplan.results.columns import CASH_FLOW

@@ -20,14 +20,14 @@ from pitplan.blockmodel.grid import turn_of
 from pitplan.config.periods import PERIOD, YEAR
 from pitplan.core.libraries import three_scripts
 from pitplan.errors import PlanError
-from pitplan.figures import style
+from pitplan.figures import palette
 from pitplan.results.folder import Folder
 from pitplan.results.names import TABLE
 
 from .columns import TEMPLATES
 
 # Of more categories the last colour stands for the rest.
-PALETTE = style.CODES
+PALETTE = palette.CODES
 DESTINATION, ORE, WASTE, OTHERS = "destination", "ore", "waste", "others"
 NO_CODE = "none"
 
@@ -79,7 +79,7 @@ def tints_of(folder: Folder, name: str, labels: list[str]) -> list[str]:
         return list(PALETTE[: len(labels)])
     before = "processing_cost_"
     processes = [column.removeprefix(before) for column in folder.blocks if str(column).startswith(before)]
-    known = style.of_processes(processes) | {ORE: style.ORE, WASTE: style.WASTE}
+    known = palette.of_processes(processes) | {ORE: palette.ORE, WASTE: palette.WASTE}
     return [known.get(label, PALETTE[-1]) for label in labels]
 
 

@@ -22,7 +22,7 @@ from pitplan.config import project_writer
 from pitplan.config.project import Project, load
 from pitplan.core.numeric_fields import is_numeric
 from pitplan.errors import PlanError
-from pitplan.figures import style
+from pitplan.figures import palette
 from pitplan.results.folder import read_folder
 from pitplan.results.names import RECORD
 from pitplan.results.rounding import unit_in
@@ -33,7 +33,7 @@ from .kept import Kept
 # Whole numbers from 1 that have a colour each, 0 being none; the colour map of each.
 STAGES = {"pushback": "viridis_r", "year": "plasma_r", "period": "plasma_r"}
 # The most cells of a grid that a browser holds by their places, and the most codes of a column.
-MOST_CELLS, MOST_CODES = 32_000_000, len(style.CODES)
+MOST_CELLS, MOST_CODES = 32_000_000, len(palette.CODES)
 GRADIENT = "viridis"
 NO_CODE, OTHERS = "none", "others"
 # How many models are kept.
@@ -195,7 +195,7 @@ def coded(name: str, codes: pd.Series) -> Shown:
         listed = [*listed[: MOST_CODES - 1], OTHERS]
     place = {code: number for number, code in enumerate(listed, 1)}
     numbers = codes.map(place).fillna(len(listed)).to_numpy().astype(np.uint8)
-    return Shown(name, "", numbers, [code or NO_CODE for code in listed], list(style.CODES[: len(listed)]))
+    return Shown(name, "", numbers, [code or NO_CODE for code in listed], list(palette.CODES[: len(listed)]))
 
 
 def hex_of(shade: Any) -> str:

@@ -12,7 +12,7 @@ import pandas as pd
 
 from pitplan.config.project import Project
 from pitplan.core.revenue_factors import factor_text
-from pitplan.figures import style
+from pitplan.figures import palette
 from pitplan.results import names
 
 BAR, LINE = "bar", "line"
@@ -20,7 +20,7 @@ LEFT, RIGHT = "left", "right"
 MILLION = 1e6
 # Colours of lines that lie over bars.
 LINES = ("#d55e00", "#009e73", "#cc79a7", "#0072b2", "#e69f00", "#56b4e9")
-WASTE, ORE = style.WASTE, style.ORE
+WASTE, ORE = palette.WASTE, palette.ORE
 
 
 @dataclass(frozen=True)
@@ -167,11 +167,11 @@ def by_destination(tables: Tables) -> Optional[Chart]:
 def colours_of(project: Project) -> dict[str, str]:
     """Returns the colours of destinations, in the order in which they are stacked."""
     stockpiles = [it.name for it in project.schedule.stockpiles] if project.schedule else []
-    processes = style.of_processes([it.name for it in project.processes] or [""])
+    processes = palette.of_processes([it.name for it in project.processes] or [""])
     return {
         **processes,
-        **style.of_stockpiles(stockpiles),
-        **style.of_dumps(it.name for it in project.dumps),
+        **palette.of_stockpiles(stockpiles),
+        **palette.of_dumps(it.name for it in project.dumps),
         "waste": WASTE,
     }
 
