@@ -101,8 +101,17 @@ def plan_folder(tmp_path):
 def pytest_configure(config):
     """Most tests have small hills at the edge of their models; those of warnings catch them."""
     config.addinivalue_line("filterwarnings", "ignore::pitplan.errors.PlanWarning")
+    config.addinivalue_line("markers", "browser: opens a page in Chromium; `-m 'not browser'` leaves these out")
+    config.addinivalue_line("markers", "slow: takes some seconds; `-m 'not slow'` leaves these out")
     # Each third round of the collector walks all objects of all modules and tests: at Python's own thresholds a sixth of the time.
     gc.set_threshold(20_000, 20, 100)
+
+
+def pytest_collection_modifyitems(items):
+    for item in items:
+        clicks = hasattr(item.module, "chromium") and "driver" in item.fixturenames
+        if clicks or "browser" in item.fixturenames or "Browser" in item.function.__code__.co_names:
+            item.add_marker("browser")
 
 
 def files_in(folder):
