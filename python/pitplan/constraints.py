@@ -17,7 +17,7 @@ from numpy.typing import NDArray
 
 from pitplan.blockmodel.grid import Grid
 from pitplan.blockmodel.reader import called
-from pitplan.config.constraints import Area
+from pitplan.config.geometry import Area
 from pitplan.config.project import Project
 from pitplan.core import byte_lines
 from pitplan.economics.block_values import Values

@@ -7,8 +7,7 @@ import numpy as np
 import pytest
 from helpers.benches import benches_of, problem_of
 
-from pitplan.config.dumps import Dump
-from pitplan.config.stockpiles import Stockpile
+from pitplan.config.material import Dump, Stockpile
 from pitplan.scheduling.bench_sequencing import Limits
 from pitplan.scheduling.flow.conflicts import Conflict, Unit, in_words, smallest
 from pitplan.scheduling.flow.material import SET, Ore

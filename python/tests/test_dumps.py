@@ -17,7 +17,7 @@ from scipy.optimize import Bounds, LinearConstraint, milp
 
 import pitplan
 from pitplan import PlanError, load
-from pitplan.config.dumps import Dump
+from pitplan.config.material import Dump
 from pitplan.report import assumptions
 from pitplan.scheduling.bench_sequencing import Limits
 from pitplan.scheduling.flow import scheduler

@@ -7,7 +7,7 @@ import pytest
 from helpers.benches import benches_of
 
 from pitplan import PlanError
-from pitplan.config.dumps import Dump
+from pitplan.config.material import Dump
 from pitplan.scheduling.flow import material, model
 
 FAILED = SimpleNamespace(status=4, message="Numerical difficulties encountered.", x=None, fun=None)

@@ -17,7 +17,7 @@ from hypothesis import given, strategies as st
 import pitplan
 from pitplan import Plan, constraints, load
 from pitplan.cli import main
-from pitplan.config.constraints import ConstraintRules
+from pitplan.config.geometry import ConstraintRules
 from pitplan.core.progress import Progress, silent
 from pitplan.errors import PlanError
 from pitplan.results.folder import read_record

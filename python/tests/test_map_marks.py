@@ -12,7 +12,7 @@ from matplotlib.figure import Figure
 import pitplan
 from pitplan import PlanError
 from pitplan.blockmodel.grid import Grid
-from pitplan.config.figures import FigureRules
+from pitplan.config.project import FigureRules
 from pitplan.figures import map_marks, plans_sections, pushbacks, scenarios
 from pitplan.figures.style import ALSO, also_as, finish, panels
 

@@ -14,7 +14,7 @@ from conftest import PROJECT, files_in, rows
 import pitplan
 from pitplan import BlockModel, InputWarning, Plan, PlanError, PlanWarning, Project, ResultWarning, Writing
 from pitplan.cli import main
-from pitplan.config.python_values import as_toml
+from pitplan.config.toml_text import as_toml
 
 GRADES = {(4, 4, 1): 6, (6, 4, 1): 2.5, (4, 7, 2): 0.8, (5, 3, 0): 9}
 ORE = {"cu": lambda i, j, k: GRADES.get((i, j, k), 0)}

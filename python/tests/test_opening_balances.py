@@ -10,8 +10,8 @@ from helpers.verified import UNVERIFIED
 
 import pitplan
 from pitplan import PlanError, load, verify
+from pitplan.config.material import Opening
 from pitplan.config.project import Project
-from pitplan.config.stockpiles import Opening
 
 # 100 t of ore of 0.8 % earn 3200 - 1000 for processing - 200 for mining; the mill takes 40 t a year.
 SCHEDULE = "[pushbacks]\ncount = 1\nultimate_pit = 1.0\n[schedule]\nyears = 5\n"

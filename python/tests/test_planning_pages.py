@@ -11,9 +11,9 @@ from conftest import ROOT
 
 import pitplan
 from pitplan.cli import main
-from pitplan.config.pushbacks import PushbackRules
-from pitplan.config.sensitivity import SensitivityRules
-from pitplan.config.stockpiles import Stockpile
+from pitplan.config.material import Stockpile
+from pitplan.config.shells import PushbackRules
+from pitplan.config.studies import SensitivityRules
 from pitplan.scheduling import pushback_schedule
 from pitplan.scheduling.flow.tables import cutoffs
 from pitplan.solver import mine_files

@@ -17,7 +17,7 @@ from matplotlib.figure import Figure
 
 import pitplan
 from pitplan import PlanError, load
-from pitplan.config.price_paths import PricePath
+from pitplan.config.studies import PricePath
 from pitplan.figures import price_paths as figure
 from pitplan.report import statements
 from pitplan.scheduling import price_paths

@@ -17,10 +17,10 @@ from helpers.project_page import PAGE, entry, several, whole
 from pitplan import PlanError
 from pitplan.blockmodel import wizard
 from pitplan.cli.completions import script
-from pitplan.config import keys, kinds, project
+from pitplan.config import keys, project
 from pitplan.config.economics import Economics
 from pitplan.config.project import SECTIONS, Project, schema, settable
-from pitplan.config.toml_section import Section
+from pitplan.config.toml_text import Section
 from pitplan.report import assumptions
 from pitplan.web.values_form import fields_of
 
@@ -147,7 +147,7 @@ def test_a_new_key_reaches_everything(monkeypatch):
 
     @dataclass(frozen=True, kw_only=True)
     class More(Economics):
-        levy: Decimal = keys.key(kinds.number(0, below=1), "levy of the state", Decimal(0), "share of gross revenue")
+        levy: Decimal = keys.key(keys.number(0, below=1), "levy of the state", Decimal(0), "share of gross revenue")
 
     known = SECTIONS["economics"]
     monkeypatch.setitem(project.SECTIONS, "economics", replace(known, kind=keys.table(More)))

@@ -10,8 +10,7 @@ import tomllib
 from conftest import ROOT
 from helpers.project_page import entry, several, whole
 
-from pitplan.config.keys import keys_of
-from pitplan.config.kinds import GREATEST
+from pitplan.config.keys import GREATEST, keys_of
 from pitplan.config.project import SECTIONS, Project
 from pitplan.errors import PlanError
 

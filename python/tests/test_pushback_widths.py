@@ -12,7 +12,7 @@ from hypothesis import given, strategies as st
 
 import pitplan
 from pitplan import Plan, PlanError, load
-from pitplan.config.pushbacks import PushbackRules
+from pitplan.config.shells import PushbackRules
 from pitplan.pushbacks import mining_width, nested
 from pitplan.results.folder import read_record
 from pitplan.slopes import closure

@@ -14,7 +14,7 @@ from hypothesis import given, strategies as st
 import pitplan
 from pitplan import PlanError, load
 from pitplan.cli import main
-from pitplan.config.pushbacks import PushbackRules
+from pitplan.config.shells import PushbackRules
 from pitplan.pushbacks import nested
 from pitplan.results.folder import read_record
 

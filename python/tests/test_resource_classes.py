@@ -16,7 +16,7 @@ from helpers.verified import UNVERIFIED
 import pitplan
 from pitplan import PlanError, verify
 from pitplan.blockmodel import resource_classes
-from pitplan.config.classes import ClassRules
+from pitplan.config.material import ClassRules
 from pitplan.economics.block_values import Values
 from planaudit import AuditError
 from planaudit.inputs import answer as answers, block_table, classes as audited, project_file

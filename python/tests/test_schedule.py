@@ -19,7 +19,7 @@ from pitplan import PlanError
 from pitplan.config import keys
 from pitplan.config.project import of_data
 from pitplan.config.shells import ShellRules
-from pitplan.config.toml_section import Section
+from pitplan.config.toml_text import Section
 from pitplan.pits import shell_tables
 from pitplan.results.folder import read_folder
 from pitplan.results.rounding import shown

@@ -14,8 +14,8 @@ from matplotlib.colors import to_rgb
 from matplotlib.figure import Figure
 
 from pitplan import PlanError
+from pitplan.config.material import Stockpile
 from pitplan.config.project import Metal
-from pitplan.config.stockpiles import Stockpile
 from pitplan.export import xlsx
 from pitplan.figures import palette, schedule as schedule_figures
 from pitplan.report import viewer3d

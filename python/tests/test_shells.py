@@ -13,8 +13,8 @@ from hypothesis import given, strategies as st
 
 import pitplan
 from pitplan.config import keys
-from pitplan.config.slopes import Slopes
-from pitplan.config.toml_section import Section
+from pitplan.config.geometry import Slopes
+from pitplan.config.toml_text import Section
 from pitplan.pits import shell_tables
 
 

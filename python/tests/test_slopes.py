@@ -13,7 +13,7 @@ from hypothesis import given, strategies as st
 
 import pitplan
 from pitplan import PlanError
-from pitplan.config.slopes import Slopes, Wall
+from pitplan.config.geometry import Slopes, Wall
 from pitplan.slopes import slope_patterns
 from pitplan.solver import mine_files
 from planaudit.ground import slopes as audited

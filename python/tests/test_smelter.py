@@ -14,8 +14,7 @@ from helpers.verified import UNVERIFIED, differing
 
 import pitplan
 from pitplan import PlanError, load, verify
-from pitplan.config.economics import Metal
-from pitplan.config.smelter import Participation, Smelter
+from pitplan.config.economics import Metal, Participation, Smelter
 from pitplan.economics import smelter_terms
 from pitplan.report import assumptions
 from pitplan.scheduling import price_paths

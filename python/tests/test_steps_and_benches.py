@@ -11,7 +11,7 @@ from helpers.verified import UNVERIFIED
 
 import pitplan
 from pitplan import PlanError, verify
-from pitplan.config.slopes import Bench
+from pitplan.config.geometry import Bench
 from pitplan.pits import shell_tables
 from pitplan.slopes import slope_patterns
 

@@ -11,7 +11,7 @@ from helpers.surveys import AROUND, HOLED, gis, tiff
 
 import pitplan
 from pitplan import PlanError
-from pitplan.config.survey import SurveyFile
+from pitplan.config.table import SurveyFile
 from pitplan.survey import readers
 from planaudit.errors import AuditError
 

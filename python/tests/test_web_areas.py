@@ -9,9 +9,9 @@ from conftest import PROJECT, rows
 from helpers.browser_application import OWN, PORT, entered
 
 import pitplan
-from pitplan.config.constraints import Area
+from pitplan.config.geometry import Area
 from pitplan.config.project import load
-from pitplan.config.survey import SurveyFile
+from pitplan.config.table import SurveyFile
 from pitplan.web.area_pages import corners_of, with_area
 from pitplan.web.grids import changed, grids_of
 from pitplan.web.run_form import WrongForm

@@ -12,7 +12,7 @@ from helpers.pushbacks import UPRIGHT, pillars
 
 from pitplan import PlanError
 from pitplan.cli import main
-from pitplan.config import toml_lines, toml_text
+from pitplan.config import toml_text
 from pitplan.config.project import of_data
 from pitplan.web import project_text
 from pitplan.web.security import Access
@@ -241,7 +241,7 @@ def is_part(name, entries):
 def test_the_values_of_all_keys_are_found_as_tomllib_reads_them(file):
     text = (ROOT / file).read_text()
     # Keys that are commented out are keys too: all of them are tried that make a text which can be read.
-    found = {it.name: it for it in toml_lines.entries(text) if it.end}
+    found = {it.name: it for it in toml_text.entries(text) if it.end}
     data = dict(values_of(tomllib.loads(text)))
     assert {name for name in data if not is_part(name, found)} <= set(found)
     for name, entry in found.items():
@@ -279,7 +279,7 @@ x = '''
 
 
 def test_headers_and_keys_of_lists_have_numbers():
-    names = {it.name: it.line for it in toml_lines.entries(TRICKY)}
+    names = {it.name: it.line for it in toml_text.entries(TRICKY)}
     assert names == {
         "a b.c.d": 2,
         "list": 3,
@@ -297,7 +297,7 @@ def test_headers_and_keys_of_lists_have_numbers():
         "rows 2.list 1": 23,
         "rows 2.list 1.x": 24,
     }
-    values = {it.name: TRICKY[it.start : it.end] for it in toml_lines.entries(TRICKY) if it.end}
+    values = {it.name: TRICKY[it.start : it.end] for it in toml_text.entries(TRICKY) if it.end}
     assert values["one.two.x"] == '{ y = "#", z = [1] }' and values["rows 2.list 1.x"] == "'''\n4'''"
     assert tomllib.loads(f"key = {values['long']}")["key"] == tomllib.loads(TRICKY)["long"]
 
@@ -314,7 +314,7 @@ def test_headers_and_keys_of_lists_have_numbers():
     ],
 )
 def test_the_line_of_a_key_is_that_of_the_nearest_that_there_is(name, number):
-    assert toml_lines.line_of(TRICKY, name) == number
+    assert toml_text.line_of(TRICKY, name) == number
 
 
 # A project, changes of it that are errors across sections, and how the line begins that the error names.

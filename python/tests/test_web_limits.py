@@ -286,7 +286,7 @@ def test_a_folder_of_inputs_is_allowed(root, monkeypatch):
 
 
 def test_a_table_of_periods_has_a_limit(root, monkeypatch):
-    monkeypatch.setattr("pitplan.config.period_table.MOST_LETTERS", 100)
+    monkeypatch.setattr("pitplan.config.periods.MOST_LETTERS", 100)
     (root / "hill/periods.csv").write_text("years\n" + "1\n" * 100)
     with pytest.raises(PlanError, match="has more than 100 letters"):
         load(with_keys(root, ("[table]", 'periods = "periods.csv"\n[table]')))

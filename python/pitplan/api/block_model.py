@@ -10,10 +10,8 @@ import pandas as pd
 
 from pitplan.config.agreement import demand_table
 from pitplan.config.keys import read
-from pitplan.config.python_values import as_toml
 from pitplan.config.table import GridRules, TableColumns
-from pitplan.config.toml_section import Section
-from pitplan.config.toml_text import Source
+from pitplan.config.toml_text import Section, Source, as_toml
 
 # The keys that belong to the grid; all others belong to the table.
 OF_GRID = ("size", "tolerance", "azimuth")

@@ -12,8 +12,7 @@ import numpy as np
 import pandas as pd
 
 from pitplan.config.project import Project
-from pitplan.config.table import Reblock
-from pitplan.config.table_rules import Share
+from pitplan.config.table import Reblock, Share
 from pitplan.core.decimals import Exact
 from pitplan.core.numeric_fields import at_row
 from pitplan.errors import WARNING

@@ -9,8 +9,7 @@ from typing import Any, Optional
 import numpy as np
 import pandas as pd
 
-from pitplan.config.figures import FigureRules
-from pitplan.config.project import Project
+from pitplan.config.project import FigureRules, Project
 from pitplan.config.table import GridRules, TableColumns
 from pitplan.core.libraries import load
 from pitplan.core.numeric_fields import at_row, row_of

@@ -11,7 +11,7 @@ from typing import Optional
 import numpy as np
 import pandas as pd
 
-from pitplan.config.classes import ORE, ORE_NAMES, REFUSE, WASTE, WASTE_NAMES
+from pitplan.config.material import ORE, ORE_NAMES, REFUSE, WASTE, WASTE_NAMES
 from pitplan.config.project import Project
 from pitplan.core.numeric_fields import at_row
 from pitplan.errors import WARNING

@@ -10,7 +10,7 @@ import numpy as np
 import pandas as pd
 
 from pitplan.config.project import Project
-from pitplan.config.table_rules import MISSING, OTHERS, REFUSE, ZERO
+from pitplan.config.table import MISSING, OTHERS, REFUSE, ZERO
 from pitplan.core.expressions import Expression, ExpressionError
 from pitplan.core.numeric_fields import Source, at_row, is_numeric, numbers_of
 from pitplan.errors import PlanError

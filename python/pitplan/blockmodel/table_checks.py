@@ -8,7 +8,7 @@ import numpy as np
 import pandas as pd
 
 from pitplan.config.economics import GRADE_SIGNS, GRADE_UNITS, Metal
-from pitplan.config.kinds import FARTHEST
+from pitplan.config.keys import FARTHEST
 from pitplan.config.project import Project
 from pitplan.core.numeric_fields import at_row, row_of
 from pitplan.errors import PlanError

@@ -11,7 +11,7 @@ import numpy as np
 import pandas as pd
 
 from pitplan.config.project import Project
-from pitplan.config.survey import SurveyFile
+from pitplan.config.table import SurveyFile
 from pitplan.core.libraries import load
 from pitplan.core.tolerances import SUM_ERROR
 from pitplan.errors import PlanError

@@ -14,7 +14,7 @@ import numpy as np
 from pitplan.config.keys import is_empty, keys_of, sentence
 from pitplan.config.project import record_at
 from pitplan.config.project_writer import shown
-from pitplan.config.table_rules import MISSING, ZERO
+from pitplan.config.table import MISSING, ZERO
 from pitplan.core.atomic_files import staged_file
 from pitplan.core.layout import figure_of_model
 from pitplan.errors import PlanError

@@ -9,7 +9,7 @@ import numpy as np
 import pandas as pd
 
 import planaudit
-from pitplan.config.figures import FigureRules
+from pitplan.config.project import FigureRules
 from pitplan.core import csv_writer, layout, staging
 from pitplan.core.atomic_files import staged, write_json
 from pitplan.core.layout import FIGURES

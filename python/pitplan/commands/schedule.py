@@ -10,7 +10,7 @@ from typing import TYPE_CHECKING, Optional
 
 import pandas as pd
 
-from pitplan.config.places import WASTE
+from pitplan.config.material import WASTE
 from pitplan.core import paths
 from pitplan.core.libraries import load_library
 from pitplan.errors import WARNING, PlanError

@@ -14,8 +14,7 @@ import pandas as pd
 
 from pitplan.blockmodel.grid import demand_within
 from pitplan.config import project_writer
-from pitplan.config.figures import FORMATS
-from pitplan.config.project import Project, inputs_beside, load, validated
+from pitplan.config.project import FORMATS, Project, inputs_beside, load, validated
 from pitplan.core import csv_writer, layout, staging
 from pitplan.core.atomic_files import demand_no_folders, hashes, hashes_of, staged, write_json
 from pitplan.core.progress import Progress, silent, warn

@@ -1,1 +1,1 @@
-"""The project: `project.toml` as checked records, a module for each section."""
+"""The project: `project.toml` as checked records."""

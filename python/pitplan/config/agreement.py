@@ -10,22 +10,15 @@ from typing import TYPE_CHECKING, Any, Optional
 from pitplan.core.revenue_factors import factor_text
 
 from . import toml_text
-from .acceptance import Accepts
-from .classes import ORE, REFUSE
-from .codes import CLASS, DOMAIN, ROCK_TYPE
-from .economics import MOST_YEARS, ByDomain, Metal
-from .hill import AXES, EXAMPLE, HillAxis
+from .economics import ALL, MOST_YEARS, OF_CONCENTRATE, PURE, ByDomain, Metal, Smelter
+from .material import MILL, ORE, PIT, REFUSE, WASTE, Accepts, Opening, Stockpile
 from .overrides import assigned, scaled
 from .periods import MONTHS, Period
-from .places import MILL, PIT, WASTE
-from .pushbacks import WAYS
 from .schedule import FEED, TOTAL, ScheduleRules
-from .shells import MOST_FACTORS
-from .smelter import ALL, OF_CONCENTRATE, PURE, Smelter
-from .stockpiles import Opening, Stockpile
-from .table import PARENTS, MissingRock, TableColumns
-from .toml_section import Section
-from .toml_text import Source
+from .shells import MOST_FACTORS, WAYS
+from .studies import AXES, EXAMPLE, HillAxis
+from .table import CLASS, DOMAIN, PARENTS, ROCK_TYPE, MissingRock, TableColumns
+from .toml_text import Section, Source
 
 if TYPE_CHECKING:
     from .project import Project

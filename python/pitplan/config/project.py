@@ -11,32 +11,60 @@ from typing import Any, Iterable, Iterator, Mapping, Optional, Union
 from pitplan.core.revenue_factors import BASE_PRICE
 from pitplan.errors import PlanError
 
-from . import keys, kinds, period_table, toml_text
+from . import keys, toml_text
 from .agreement import demand_agreement, demand_calendar
-from .cash_flow import CashFlowRules
-from .classes import CLASSES, ClassRules
-from .constraints import ConstraintRules
-from .dumps import Dump
-from .economics import Economics, Metal, Process
-from .feed_grades import FeedGrade
-from .figures import FigureRules
-from .haulage import Haulage
-from .keys import Key, key, tables
-from .kinds import Kind
+from .economics import ALL, CashFlowRules, Economics, Metal, Process
+from .geometry import ConstraintRules, Haulage, Slopes
+from .keys import Key, Kind, amount, codes, key, listed, tables, text
+from .material import CLASSES, ClassRules, Dump, FeedGrade
 from .overrides import LISTS, overridden
-from .periods import Calendar, Period
-from .price_paths import PricePaths
-from .pushbacks import PushbackRules
-from .python_values import as_toml
-from .scenarios import Scenarios
+from .periods import Calendar, Period, sections_of
 from .schedule import ScheduleRules
-from .sensitivity import SensitivityRules
-from .shells import ShellRules
-from .slopes import Slopes
-from .smelter import ALL
+from .shells import PushbackRules, ShellRules
+from .studies import PricePaths, Scenarios, SensitivityRules
 from .table import GridRules, TableColumns
-from .toml_section import Section
-from .toml_text import Source
+from .toml_text import Section, Source, as_toml
+
+MOST_LEVELS_SHOWN = 7
+FORMATS = ("pdf", "svg")
+
+
+def read_metal(section: Section, name: str, value: Any) -> str:
+    """One of the project's metals."""
+    found: str = text.read(section, name, value)
+    if found not in section.source.metals:
+        raise section.wrong(name, f'found "{found}", expected one of {", ".join(section.source.metals)}')
+    return found
+
+
+def read_formats(section: Section, name: str, value: Any) -> tuple[str, ...]:
+    found: tuple[str, ...] = codes.read(section, name, value)
+    for it in found:
+        if it not in FORMATS:
+            raise section.wrong(name, f'found "{it}", expected one of {", ".join(FORMATS)}')
+    return found
+
+
+@dataclass(frozen=True)
+class FigureRules:
+    """What plans and sections show; what is left out is chosen by the pit."""
+
+    levels: tuple[float, ...] = key(
+        listed(amount(None), f"of one to {MOST_LEVELS_SHOWN} elevations in metres", MOST_LEVELS_SHOWN),
+        f"elevations within the levels that are drawn, 1 to {MOST_LEVELS_SHOWN}",
+        (),
+        "m",
+        otherwise="by the pit",
+    )
+    north: Optional[float] = key(amount(None), "northing of section A", None, "m", otherwise="by the pit")
+    east: Optional[float] = key(amount(None), "easting of section B", None, "m", otherwise="by the pit")
+    metal: Optional[str] = key(Kind(read_metal, text.schema), "whose grades sections show", None, otherwise="the first")
+    formats: tuple[str, ...] = key(
+        Kind(read_formats, {"anyOf": [{"enum": [*FORMATS]}, {"type": "array", "items": {"enum": [*FORMATS]}}]}),
+        '`"pdf"`, `"svg"`, besides PNG',
+        (),
+    )
+
 
 # The folder of results if the project names none.
 OUTPUT = "plan"
@@ -46,7 +74,7 @@ OUTPUT = "plan"
 class Output:
     """`[output]`."""
 
-    folder: str = key(kinds.text, "output folder of commands without `--out`", OUTPUT)
+    folder: str = key(keys.text, "output folder of commands without `--out`", OUTPUT)
 
 
 def read_output(section: Section, name: str, _: Any) -> Path:
@@ -61,7 +89,7 @@ def write_shells(shells: ShellRules, folder: Path) -> dict[str, Any]:
 
 
 OF_OUTPUT = Kind(
-    read_output, keys.schema(Output), write=lambda path, folder: {"folder": kinds.place(path, folder)}, record=Output
+    read_output, keys.schema(Output), write=lambda path, folder: {"folder": keys.place(path, folder)}, record=Output
 )
 OF_SHELLS = replace(keys.table(ShellRules), write=write_shells)
 
@@ -81,7 +109,7 @@ class Project:
     """
 
     path: Path
-    title: str = key(kinds.line, "one line of plain text, for reports", "", otherwise="the folder's name")
+    title: str = key(keys.line, "one line of plain text, for reports", "", otherwise="the folder's name")
     folder: Path = key(OF_OUTPUT, "results", Path(OUTPUT), name="output")
     table: TableColumns = key(keys.table(TableColumns), "the block model", in_python=None)
     grid: GridRules = key(keys.table(GridRules), "the grid of its blocks", GridRules())
@@ -231,7 +259,7 @@ class Project:
 
 
 PERIODS = Key(
-    Kind(kinds.path_of, {"anyOf": [kinds.TEXT, {"type": "array", "items": keys.schema(Period)}]}, record=Period),
+    Kind(keys.path_of, {"anyOf": [keys.TEXT, {"type": "array", "items": keys.schema(Period)}]}, record=Period),
     "a [table of periods](#periods-in-a-table), in place of `[[periods]]`",
     None,
     since="0.2.0",
@@ -350,8 +378,8 @@ def read_calendar(top: Section) -> Calendar:
         return Calendar()
     path = None
     if isinstance(top.get("periods"), str):
-        path = kinds.path_of(top, "periods", top.get("periods"))
-    sections = top.sections("periods") if path is None else period_table.sections_of(path)
+        path = keys.path_of(top, "periods", top.get("periods"))
+    sections = top.sections("periods") if path is None else sections_of(path)
     periods = tuple(keys.read(Period, it) for it in sections)
     demand_calendar(periods, sections)
     return Calendar(periods, path)

@@ -11,7 +11,7 @@ from pitplan.config.project import Project, load
 from pitplan.core.atomic_files import hash_of
 
 from . import keys
-from .kinds import place
+from .keys import place
 
 __all__ = ["AS_RUN", "as_run", "as_run_or_edited", "lines_of", "of_project", "place", "shown", "write"]
 

@@ -5,11 +5,9 @@ from __future__ import annotations
 from dataclasses import dataclass
 from typing import Any, Optional
 
-from .feed_grades import FEED as HEAD_GRADES, FeedGrade
-from .keys import key, table, tables
-from .kinds import Kind, amount, by_name, listed, text, truth, whole, word
-from .stockpiles import Stockpile
-from .toml_section import Section
+from .keys import Kind, amount, by_name, key, listed, table, tables, text, truth, whole, word
+from .material import FEED as HEAD_GRADES, FeedGrade, Stockpile
+from .toml_text import Section
 
 MOST_YEARS, MOST_BENCHES = 200, 1_000
 MOST_BINS = 50

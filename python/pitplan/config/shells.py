@@ -1,13 +1,13 @@
-"""`[shells]`: revenue factors, yearly capacities and discounting."""
+"""`[shells]` and `[pushbacks]`: revenue factors, yearly capacities, discounting, and the division of the pit into pushbacks."""
 
 from __future__ import annotations
 
 import math
 from dataclasses import dataclass
+from decimal import Decimal
 from typing import Optional
 
-from .keys import key, table
-from .kinds import amount, choice, factor, factors, whole
+from .keys import amount, choice, factor, factors, key, listed, number, table, whole
 from .periods import Calendar
 
 MOST_FACTORS, MOST_LAG = 1_000, 1_000
@@ -102,3 +102,56 @@ class ShellRules:
         """The mining capacity of each year, infinite without one; the last continues."""
         base = math.inf if self.mining_capacity is None else self.mining_capacity
         return self.calendar.by_year(lambda it: it.mining_capacity, base)
+
+
+MOST_PUSHBACKS = 100
+LEAST_FACTOR = 0.001
+WAYS = ("count", "tonnes", "revenue_factors")
+
+
+@dataclass(frozen=True)
+class PushbackRules:
+    """How a pit is divided into pushbacks: by one of count, tonnes and revenue_factors; the other two are None."""
+
+    count: Optional[int] = key(
+        whole(1, MOST_PUSHBACKS),
+        "number of pushbacks with even tonnage",
+        None,
+        "pushbacks",
+        otherwise="",
+        label="Number of pushbacks",
+    )
+    tonnes: Optional[float] = key(amount(above=0), "about the tonnage of each", None, "t mined", otherwise="")
+    revenue_factors: Optional[tuple[float, ...]] = key(
+        factors(LEAST_FACTOR, MOST_PUSHBACKS), "those of the pushbacks' shells", None, otherwise=""
+    )
+    ultimate_pit: Optional[float] = key(
+        factor(LEAST_FACTOR),
+        "revenue factor of the last shell; not with `revenue_factors`",
+        None,
+        "revenue factor",
+        otherwise="the selected shell",
+    )
+    min_mining_width: Optional[float] = key(
+        amount(above=0),
+        "minimum width of a pushback on each bench",
+        None,
+        "m",
+        otherwise="any",
+        label="Minimum mining width",
+    )
+    min_bottom_width: Optional[float] = key(
+        amount(above=0),
+        "minimum width of the pit up to each pushback on each bench",
+        None,
+        "m",
+        otherwise="any",
+        label="Minimum bottom width",
+    )
+    mining_cost_added: tuple[Decimal, ...] = key(
+        listed(number(0), "of the added cost per tonne of each pushback, such as [0, 0.15]"),
+        "added mining cost, a list by pushback",
+        (),
+        "{currency}/t mined",
+        since="0.2.0",
+    )

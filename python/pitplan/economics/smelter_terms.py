@@ -8,8 +8,7 @@ from __future__ import annotations
 
 from decimal import ROUND_HALF_EVEN, Context, Decimal
 
-from pitplan.config.economics import GRADE_UNITS, PRICE_PLACES, Metal
-from pitplan.config.smelter import ABOVE, BOTH, Participation, Penalty, Smelter
+from pitplan.config.economics import ABOVE, BOTH, GRADE_UNITS, PRICE_PLACES, Metal, Participation, Penalty, Smelter
 from pitplan.errors import PlanError
 
 SELLING, TREATMENT, REFINING, PARTICIPATION, FREIGHT = "selling", "treatment", "refining", "participation", "freight"

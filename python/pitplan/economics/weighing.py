@@ -13,11 +13,11 @@ import pandas as pd
 from numpy.typing import NDArray
 
 from pitplan.blockmodel.grid import Grid
-from pitplan.config.acceptance import Accepts
-from pitplan.config.codes import CLASS, DOMAIN, ROCK_TYPE
 from pitplan.config.economics import GRADE_UNITS, ByCode, ByDomain, Curve, Economics, Metal, Recovery
-from pitplan.config.haulage import Haulage, Road
+from pitplan.config.geometry import Haulage, Road
+from pitplan.config.material import Accepts
 from pitplan.config.project import Project
+from pitplan.config.table import CLASS, DOMAIN, ROCK_TYPE
 from pitplan.core.decimals import Exact, Rounding, nearest, whole_and_places
 from pitplan.core.numeric_fields import at_row
 

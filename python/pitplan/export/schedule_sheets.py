@@ -10,10 +10,9 @@ from typing import Any, Optional, Union
 import numpy as np
 import pandas as pd
 
-from pitplan.config.classes import ORE_NAMES
-from pitplan.config.economics import GRADE_UNITS, GRAMS, Metal
+from pitplan.config.economics import BOTH, GRADE_UNITS, GRAMS, Metal
+from pitplan.config.material import ORE_NAMES
 from pitplan.config.project import Project
-from pitplan.config.smelter import BOTH
 from pitplan.core.libraries import load
 from pitplan.economics.smelter_terms import concentrate, payable_share
 from pitplan.plan import shown_name

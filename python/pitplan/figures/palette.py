@@ -6,8 +6,7 @@ from collections.abc import Iterable, Sequence
 
 import pandas as pd
 
-from pitplan.config.classes import ORE_NAMES
-from pitplan.config.places import MILL
+from pitplan.config.material import MILL, ORE_NAMES
 
 ORE, WASTE = "#3b6ea5", "#cfc9bd"
 # How the columns of the mill feed of a process begin.

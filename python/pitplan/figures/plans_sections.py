@@ -21,7 +21,7 @@ from matplotlib.image import AxesImage
 
 from pitplan.blockmodel.grid import Grid, metres
 from pitplan.config.economics import Metal
-from pitplan.config.figures import FigureRules
+from pitplan.config.project import FigureRules
 from pitplan.core.cell_outlines import edges
 from pitplan.core.revenue_factors import factor_text
 from pitplan.pits import shell_tables

@@ -15,7 +15,7 @@ from matplotlib.colors import BoundaryNorm, ListedColormap
 from matplotlib.figure import Figure
 
 from pitplan.blockmodel.grid import Grid, metres
-from pitplan.config.figures import FigureRules
+from pitplan.config.project import FigureRules
 from pitplan.core.cell_outlines import edges
 from pitplan.figures.plans_sections import section_column, section_levels, section_row
 from pitplan.pushbacks.nested import Pushbacks

@@ -18,8 +18,8 @@ from matplotlib.ticker import MaxNLocator
 
 from pitplan.blockmodel.grid import metres
 from pitplan.config.economics import GRADE_UNITS, Metal
+from pitplan.config.material import PIT, WASTE as AS_WASTE
 from pitplan.config.periods import Calendar
-from pitplan.config.places import PIT, WASTE as AS_WASTE
 from pitplan.config.project import Project
 from pitplan.config.shells import ShellRules
 from pitplan.core.magnitude import scaled

@@ -11,7 +11,7 @@ import pandas as pd
 from numpy.typing import NDArray
 
 from pitplan.config.economics import GRADE_UNITS, Metal
-from pitplan.config.places import MILL
+from pitplan.config.material import MILL
 from pitplan.economics.cutoff_grades import RockCosts
 from pitplan.plan import Plan
 

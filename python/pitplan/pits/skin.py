@@ -9,7 +9,7 @@ from decimal import Decimal
 import numpy as np
 
 from pitplan.config.project import Project
-from pitplan.config.pushbacks import LEAST_FACTOR
+from pitplan.config.shells import LEAST_FACTOR
 from pitplan.core.revenue_factors import of_per_mille, per_mille
 from pitplan.plan import Plan
 from pitplan.solver import problem

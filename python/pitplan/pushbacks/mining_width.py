@@ -24,7 +24,7 @@ from scipy import ndimage
 
 from pitplan.blockmodel import missing_blocks
 from pitplan.blockmodel.grid import metres
-from pitplan.config.pushbacks import PushbackRules
+from pitplan.config.shells import PushbackRules
 from pitplan.core.revenue_factors import factor_text
 from pitplan.core.tolerances import SUM_ERROR
 from pitplan.errors import PlanError

@@ -17,7 +17,7 @@ import pandas as pd
 from scipy import ndimage
 
 from pitplan.config.project import Project
-from pitplan.config.pushbacks import LEAST_FACTOR, MOST_PUSHBACKS, PushbackRules
+from pitplan.config.shells import LEAST_FACTOR, MOST_PUSHBACKS, PushbackRules
 from pitplan.core.progress import Progress, silent
 from pitplan.core.revenue_factors import BASE_PRICE, factor_text, factor_texts
 from pitplan.errors import WARNING, PlanError

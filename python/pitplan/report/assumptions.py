@@ -7,16 +7,13 @@ from dataclasses import dataclass
 from decimal import Decimal
 from typing import Any, Optional
 
-from pitplan.config.classes import TREATMENTS
-from pitplan.config.economics import ByDomain, Curve, Metal
-from pitplan.config.feed_grades import FeedGrade
+from pitplan.config.economics import BOTH, ByDomain, Curve, Metal, Smelter
+from pitplan.config.geometry import DIP, Wall
 from pitplan.config.keys import declared
+from pitplan.config.material import STOCKPILE, TREATMENTS, FeedGrade
 from pitplan.config.periods import MONTHS, Period
 from pitplan.config.project import Project
 from pitplan.config.shells import IN_WORDS
-from pitplan.config.slopes import DIP, Wall
-from pitplan.config.smelter import BOTH, Smelter
-from pitplan.config.stockpiles import STOCKPILE
 from pitplan.core.revenue_factors import factor_text
 
 # Keys of sections that topics of their own state.

@@ -14,8 +14,8 @@ import pandas as pd
 
 from pitplan.config import project_writer
 from pitplan.config.project import Project
-from pitplan.config.sensitivity import SensitivityRules
 from pitplan.config.shells import IN_WORDS
+from pitplan.config.studies import SensitivityRules
 from pitplan.core.atomic_files import hash_of, read_json
 from pitplan.core.revenue_factors import BASE_PRICE
 from pitplan.errors import PlanError

@@ -15,7 +15,7 @@ import pandas as pd
 from numpy.typing import NDArray
 
 from pitplan.blockmodel.grid import Grid, grid_of
-from pitplan.config.kinds import FARTHEST, cut
+from pitplan.config.keys import FARTHEST, cut
 from pitplan.core.atomic_files import hash_of
 from pitplan.core.revenue_factors import is_factor, with_exact_factors
 from pitplan.errors import PlanError

@@ -9,7 +9,7 @@ import pandas as pd
 from numpy.typing import NDArray
 
 from pitplan.config.economics import GRADE_UNITS
-from pitplan.config.places import MILL, WASTE
+from pitplan.config.material import MILL, WASTE
 from pitplan.config.project import Project
 from pitplan.economics.smelter_terms import payable_share
 from pitplan.pits import shell_tables

@@ -9,11 +9,11 @@ from typing import Optional
 import numpy as np
 from numpy.typing import NDArray
 
-from pitplan.config.codes import CLASS, DOMAIN, ROCK_TYPE
-from pitplan.config.feed_grades import FeedGrade
+from pitplan.config.material import FeedGrade
 from pitplan.config.periods import Period
 from pitplan.config.project import Project
 from pitplan.config.schedule import FEED, TOTAL, ScheduleRules
+from pitplan.config.table import CLASS, DOMAIN, ROCK_TYPE
 from pitplan.pushbacks.bench_table import ORE, ROCK
 
 from .bench_sequencing import Limits, limits_of

@@ -18,10 +18,9 @@ import numpy as np
 import pandas as pd
 from numpy.typing import NDArray
 
-from pitplan.config.economics import Metal
-from pitplan.config.price_paths import PricePath, PricePaths
+from pitplan.config.economics import BOTH, Metal
 from pitplan.config.project import Project
-from pitplan.config.smelter import BOTH
+from pitplan.config.studies import PricePath, PricePaths
 from pitplan.economics.smelter_terms import PARTICIPATION, charges, net
 from pitplan.scheduling.cash_flow.lines import Operation
 from pitplan.scheduling.cash_flow.tables import Finance

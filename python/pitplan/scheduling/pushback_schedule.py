@@ -15,8 +15,8 @@ import scipy
 from numpy.typing import NDArray
 
 from pitplan.config.economics import GRADE_UNITS
+from pitplan.config.material import MILL
 from pitplan.config.periods import Calendar
-from pitplan.config.places import MILL
 from pitplan.config.project import Project
 from pitplan.config.schedule import Effort, ScheduleRules
 from pitplan.config.shells import ShellRules

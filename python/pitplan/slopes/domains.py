@@ -13,7 +13,7 @@ import numpy as np
 import pandas as pd
 
 from pitplan.blockmodel.grid import Grid
-from pitplan.config.slopes import Slopes
+from pitplan.config.geometry import Slopes
 from pitplan.errors import PlanError
 
 from . import slope_patterns

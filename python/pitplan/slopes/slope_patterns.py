@@ -13,7 +13,7 @@ from typing import Iterator, Optional
 import numpy as np
 from scipy.spatial import ConvexHull, QhullError
 
-from pitplan.config.slopes import DIP, MOST_LEVELS, WALL, Slopes, Wall
+from pitplan.config.geometry import DIP, MOST_LEVELS, WALL, Slopes, Wall
 from pitplan.core.tolerances import SUM_ERROR
 from pitplan.errors import PlanError
 

@@ -17,13 +17,11 @@ import pandas as pd
 from pitplan.blockmodel import reader
 from pitplan.blockmodel.reader import Table
 from pitplan.config import toml_text
-from pitplan.config.economics import ByRock, Curve, Metal, Process, Recovery
-from pitplan.config.hill import Setting
+from pitplan.config.economics import CHARGES, ByRock, Curve, Metal, Process, Recovery, Smelter
 from pitplan.config.overrides import assigned, scaled
 from pitplan.config.periods import Calendar, Period
 from pitplan.config.project import Project, of_data
-from pitplan.config.sensitivity import SensitivityRules
-from pitplan.config.smelter import CHARGES, Smelter
+from pitplan.config.studies import SensitivityRules, Setting
 from pitplan.core import keyed_arrays
 from pitplan.core.atomic_files import hashes_of, staged_file
 from pitplan.core.libraries import load

@@ -7,7 +7,7 @@ from typing import Any, Optional
 
 import numpy as np
 
-from pitplan.config.survey import SurveyFile
+from pitplan.config.table import SurveyFile
 from pitplan.core.libraries import load
 from pitplan.errors import PlanError
 

@@ -8,7 +8,7 @@ from fnmatch import fnmatchcase
 
 import numpy as np
 
-from pitplan.config.survey import SurveyFile
+from pitplan.config.table import SurveyFile
 from pitplan.core.tolerances import OPEN_LINE
 from pitplan.errors import PlanError
 

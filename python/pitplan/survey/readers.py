@@ -13,8 +13,8 @@ from pathlib import Path
 
 import numpy as np
 
-from pitplan.config.kinds import FARTHEST
-from pitplan.config.survey import SurveyFile
+from pitplan.config.keys import FARTHEST
+from pitplan.config.table import SurveyFile
 from pitplan.core.numeric_fields import at_row, numbers_of
 from pitplan.core.text_tables import Fields, TableFormat, demand_columns, guessed_separator, read_columns
 from pitplan.errors import PlanError

@@ -16,8 +16,8 @@ from starlette.responses import JSONResponse, Response
 from starlette.routing import Route
 from tomlkit.items import AoT
 
-from pitplan.config.constraints import SIDES, Area
-from pitplan.config.survey import SurveyFile
+from pitplan.config.geometry import SIDES, Area
+from pitplan.config.table import SurveyFile
 from pitplan.core.atomic_files import staged_file
 from pitplan.errors import PlanError
 

@@ -5,7 +5,7 @@ from __future__ import annotations
 from collections.abc import Mapping, Sequence
 from typing import Any
 
-from pitplan.config.classes import TREATMENTS
+from pitplan.config.material import TREATMENTS
 
 from .draft import Draft
 from .grid_columns import CLASSES

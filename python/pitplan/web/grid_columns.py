@@ -6,10 +6,10 @@ from collections.abc import Iterator, Mapping, Sequence
 from dataclasses import dataclass, replace
 from typing import Any
 
-from pitplan.config.classes import TREATMENTS
-from pitplan.config.codes import CLASS, CODES, DOMAIN, ROCK_TYPE
 from pitplan.config.keys import Key, keys_of
+from pitplan.config.material import TREATMENTS
 from pitplan.config.project import Project, record_at
+from pitplan.config.table import CLASS, CODES, DOMAIN, ROCK_TYPE
 
 # A number, a text, codes with commas between, one of some words, or anything that TOML has.
 NUMBER, TEXT, LIST, CHOICE, VALUE = "number", "text", "codes", "choice", "value"

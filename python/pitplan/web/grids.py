@@ -12,7 +12,7 @@ from typing import Any, Optional
 from pitplan.config import toml_text
 from pitplan.config.project import Project
 from pitplan.config.project_writer import key_of
-from pitplan.config.toml_lines import entries
+from pitplan.config.toml_text import entries
 from pitplan.errors import PlanError
 
 from . import class_rules

@@ -10,7 +10,7 @@ from typing import Any
 from pitplan.config import toml_text
 from pitplan.config.keys import Key, keys_of
 from pitplan.config.project import Project, record_at
-from pitplan.config.toml_lines import Entry, entries
+from pitplan.config.toml_text import Entry, entries
 
 from .draft import Draft, path_of
 from .grid_columns import at

@@ -4,7 +4,7 @@ from dataclasses import replace
 
 import numpy as np
 
-from pitplan.config.stockpiles import Stockpile
+from pitplan.config.material import Stockpile
 from pitplan.scheduling.bench_sequencing import Limits
 from pitplan.scheduling.flow.material import Ore
 from pitplan.scheduling.flow.model import FlowModel, OpeningOre

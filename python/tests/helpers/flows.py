@@ -9,7 +9,7 @@ from helpers.benches import benches_of, problem_of
 from hypothesis import strategies as st
 from scipy.optimize import Bounds, LinearConstraint, linprog, milp
 
-from pitplan.config.stockpiles import Opening, Stockpile
+from pitplan.config.material import Opening, Stockpile
 from pitplan.economics.period_costs import MINING_COST, PROCESSING_COST, SELLING_COST, YearlyMoney
 from pitplan.scheduling.bench_sequencing import Limits
 from pitplan.scheduling.flow.material import Ore, joined

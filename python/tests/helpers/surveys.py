@@ -4,7 +4,7 @@ import ezdxf
 import numpy as np
 from osgeo import gdal, ogr, osr
 
-from pitplan.config.survey import SurveyFile
+from pitplan.config.table import SurveyFile
 from pitplan.survey import readers
 
 # Least and greatest x and y of what a raster is read for.

@@ -8,7 +8,7 @@ import numpy as np
 from numpy.typing import NDArray
 
 import pitshell
-from pitplan.config.places import MILL, WASTE
+from pitplan.config.material import MILL, WASTE
 from pitplan.config.project import Project
 from pitplan.config.schedule import FEED, MOST_YEARS, TOTAL, ScheduleRules, Sum
 from pitplan.core.tolerances import SUM_ERROR

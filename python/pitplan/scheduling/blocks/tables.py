@@ -12,7 +12,7 @@ import scipy
 from numpy.typing import NDArray
 
 from pitplan.config.economics import GRADE_UNITS
-from pitplan.config.places import PIT, WASTE
+from pitplan.config.material import PIT, WASTE
 from pitplan.config.schedule import ScheduleRules
 from pitplan.core.progress import Progress, silent
 from pitplan.core.revenue_factors import BASE_PRICE

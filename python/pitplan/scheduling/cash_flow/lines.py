@@ -14,7 +14,7 @@ import pandas as pd
 from numpy.typing import NDArray
 
 from pitplan.config.economics import GRADE_UNITS, GRAMS, Metal
-from pitplan.config.places import MILL
+from pitplan.config.material import MILL
 from pitplan.config.project import Project
 from pitplan.economics import period_costs, smelter_terms
 from pitplan.economics.cost_lines import PROCESSING, ROYALTY, CostLines, cost_lines

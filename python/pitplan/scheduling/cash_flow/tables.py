@@ -11,7 +11,7 @@ import pandas as pd
 from numpy.typing import NDArray
 from scipy.optimize import brentq
 
-from pitplan.config.cash_flow import CashFlowRules
+from pitplan.config.economics import CashFlowRules
 from pitplan.config.project import Project
 from pitplan.economics import period_costs
 from pitplan.pits import shell_tables

@@ -11,10 +11,9 @@ from numpy.typing import NDArray
 from scipy.optimize import linprog
 from scipy.sparse import csr_matrix, eye, hstack, kron, vstack
 
-from pitplan.config.dumps import Dump
+from pitplan.config.material import Dump, Stockpile
 from pitplan.config.project import Project
 from pitplan.config.schedule import FEED as OF_FEED, TOTAL, ScheduleRules
-from pitplan.config.stockpiles import Stockpile
 from pitplan.core.tolerances import SOLVER_SHARE
 from pitplan.economics import period_costs
 from pitplan.economics.cutoff_grades import BINS, edges_of

@@ -11,8 +11,7 @@ from numpy.typing import NDArray
 from scipy.optimize import linprog
 from scipy.sparse import coo_matrix, csr_matrix
 
-from pitplan.config.dumps import Dump
-from pitplan.config.stockpiles import Stockpile
+from pitplan.config.material import Dump, Stockpile
 from pitplan.core.tolerances import SUM_ERROR
 from pitplan.pits.best_worst_case import year_discounts
 from pitplan.pushbacks.bench_table import ROCK, PushbackBenches

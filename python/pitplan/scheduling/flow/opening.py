@@ -12,10 +12,9 @@ from numpy.typing import NDArray
 
 from pitplan.blockmodel.grid import Grid
 from pitplan.config.economics import GRADE_UNITS
-from pitplan.config.places import MILL
+from pitplan.config.material import MILL, Opening
 from pitplan.config.project import Project
 from pitplan.config.schedule import ScheduleRules
-from pitplan.config.stockpiles import Opening
 from pitplan.economics import block_values
 from pitplan.economics.period_costs import YearlyMoney
 from pitplan.plan import Plan, shown_name

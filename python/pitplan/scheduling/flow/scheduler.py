@@ -11,7 +11,7 @@ import numpy as np
 from numpy.typing import NDArray
 from scipy.sparse import csr_matrix, hstack, vstack
 
-from pitplan.config.dumps import Dump
+from pitplan.config.material import Dump
 from pitplan.config.schedule import Effort
 from pitplan.core.tolerances import MISSED_LIMIT, SOLVER_SHARE, SOLVER_SUM, SUM_ERROR
 from pitplan.errors import PlanError

@@ -11,10 +11,8 @@ import numpy as np
 import pandas as pd
 from numpy.typing import NDArray
 
-from pitplan.config.dumps import Dump
 from pitplan.config.economics import GRADE_UNITS
-from pitplan.config.places import MILL, PIT, WASTE
-from pitplan.config.stockpiles import Stockpile
+from pitplan.config.material import MILL, PIT, WASTE, Dump, Stockpile
 from pitplan.core.tolerances import SOLVER_SUM, SUM_ERROR
 from pitplan.economics.cutoff_grades import RockCosts
 from pitplan.economics.period_costs import MINING_COST, PROCESSING_COST, SELLING_COST, SMELTED

@@ -9,7 +9,7 @@ import numpy as np
 import pandas as pd
 
 from pitplan.blockmodel.grid import Grid
-from pitplan.config.figures import FigureRules
+from pitplan.config.project import FigureRules
 from pitplan.core import keyed_arrays
 from pitplan.core.revenue_factors import factor_text
 from pitplan.errors import PlanError

@@ -20,8 +20,8 @@ from pitplan.blockmodel.row_rules import numbers_without
 from pitplan.blockmodel.table_checks import demand_no_more_than_whole, demand_none_below_0
 from pitplan.config.economics import Metal
 from pitplan.config.project import Project
-from pitplan.config.scenarios import Scenarios
-from pitplan.config.table_rules import ZERO
+from pitplan.config.studies import Scenarios
+from pitplan.config.table import ZERO
 from pitplan.core.numeric_fields import Source, at_row, numbers_of, row_of
 from pitplan.core.progress import Progress, silent
 from pitplan.core.text_tables import demand_columns, demand_text, read_header

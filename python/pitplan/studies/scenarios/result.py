@@ -11,8 +11,7 @@ from typing import Any, Optional
 import pandas as pd
 
 from pitplan.blockmodel.grid import grid_of
-from pitplan.config.figures import FigureRules
-from pitplan.config.project import load
+from pitplan.config.project import FigureRules, load
 from pitplan.core.layout import TABLES
 from pitplan.core.revenue_factors import BASE_PRICE, factor_text
 from pitplan.errors import PlanError

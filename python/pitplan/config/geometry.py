@@ -1,14 +1,31 @@
-"""What `[slopes]` of a project says: walls by region, and how far the needs of blocks reach."""
+"""What the shape of the pit follows: `[slopes]`, `[haulage]` and `[constraints]`."""
 
 from __future__ import annotations
 
 import math
 from dataclasses import dataclass, replace
-from typing import Any, Optional
+from decimal import Decimal
+from pathlib import Path
+from typing import Any, Optional, Union
 
-from .keys import key, table, tables
-from .kinds import Kind, amount, choice, codes, pairs, truth, whole
-from .toml_section import Section
+from .keys import (
+    Kind,
+    amount,
+    choice,
+    codes,
+    coordinate,
+    key,
+    number,
+    numbers,
+    pairs,
+    table,
+    tables,
+    text,
+    truth,
+    whole,
+)
+from .table import SurveyFile, read_survey, survey, write_survey
+from .toml_text import Section
 
 PATTERNS = ("1:5", "1:9")
 MOST_LEVELS, MOST_STEPS = 40, 200
@@ -135,3 +152,120 @@ class Slopes:
     )
     never_steeper: bool = key(truth, "flatten the slopes until none is steeper than its angle", False)
     domains: tuple[Wall, ...] = key(tables(Wall), "list of slope domains, below", in_python=())
+
+
+KINDS = ("ore", "waste")
+STEEPEST = Decimal("0.5")
+ZERO = Decimal(0)
+
+
+def read_kinds(section: Section, name: str, value: Any) -> dict[str, Decimal]:
+    """A number for ore and waste: one, or `{ ore = .., waste = .. }`."""
+    one = number(0).read
+    if not isinstance(value, dict):
+        cost: Decimal = one(section, name, value)
+        return dict.fromkeys(KINDS, cost)
+    inner = section.section(name)
+    found: dict[str, Decimal] = {kind: one(inner, kind, inner.get(kind)) for kind in KINDS}
+    inner.finish()
+    return found
+
+
+OF_KIND = {
+    "type": "object",
+    "properties": dict.fromkeys(KINDS, number(0).schema),
+    "required": [*KINDS],
+    "additionalProperties": False,
+}
+BY_KIND = Kind(read_kinds, {"anyOf": [number(0).schema, OF_KIND]})
+
+
+@dataclass(frozen=True)
+class Road:
+    """What one of ore and waste is hauled for: the cost of a tonne and kilometre, one way, and metres of road from the exit on."""
+
+    cost: Decimal
+    ex_pit_distance: Decimal
+
+
+@dataclass(frozen=True)
+class Haulage:
+    """Roads to one exit of the pit."""
+
+    pit_exit: tuple[Decimal, Decimal, Decimal] = key(
+        numbers(3, coordinate, "numbers, x, y and z"), "x, y and z of the place where the road leaves the pit", unit="m"
+    )
+    ramp_gradient: Decimal = key(number(above=0, most=STEEPEST, example="0.1 for 10 %"), "rise per metre in plan")
+    cost: dict[str, Decimal] = key(
+        BY_KIND, "cost of haulage, one way; or `{ ore = .., waste = .. }`", unit="{currency}/t and km"
+    )
+    ex_pit_distance: dict[str, Decimal] = key(
+        BY_KIND, "road beyond the exit; or `{ ore = .., waste = .. }`", dict.fromkeys(KINDS, ZERO), "m", otherwise="0"
+    )
+
+    @property
+    def ore(self) -> Road:
+        """From the exit to the mill."""
+        return Road(self.cost["ore"], self.ex_pit_distance["ore"])
+
+    @property
+    def waste(self) -> Road:
+        """From the exit to the dump."""
+        return Road(self.cost["waste"], self.ex_pit_distance["waste"])
+
+
+# The original ground is the tops of the blocks.
+BLOCKS = "blocks"
+# The sides of an area that may be excluded.
+SIDES = ("inside", "outside")
+
+
+def read_ground(section: Section, name: str, value: Any) -> Union[str, SurveyFile]:
+    return BLOCKS if value == BLOCKS else read_survey(section, name, value)
+
+
+def write_ground(ground: Union[str, SurveyFile], folder: Path) -> Any:
+    if isinstance(ground, str):
+        return ground
+    written = write_survey(ground, folder)
+    # A file of that name, which is not the word.
+    return f"./{BLOCKS}" if written == BLOCKS else written
+
+
+@dataclass(frozen=True)
+class Area:
+    """Polygons on the map, by a table of the corners x and y of one in order, or of a drawing or a map, of which the inside or the outside
+    may not be mined."""
+
+    polygon: SurveyFile = key(survey(has_heights=False), "survey file of the polygons")
+    exclude: str = key(choice(*SIDES), "side of the polygons that may not be mined", label="May not be mined")
+
+
+@dataclass(frozen=True)
+class ConstraintRules:
+    """What must be mined, and what may not be."""
+
+    must_mine: Optional[str] = key(text, "column: blocks with a number above 0 are in every shell", None)
+    exclude: Optional[str] = key(text, "column: blocks with a number above 0 are in no shell", None)
+    as_mined: Optional[SurveyFile] = key(survey(), "survey file: tonnes above it are gone", None)
+    original: Union[None, str, SurveyFile] = key(
+        Kind(read_ground, survey().schema, write=write_ground),
+        'original ground: survey file or `"blocks"`; requires `as_mined`',
+        None,
+        otherwise="that of `[table]`",
+        name="topography",
+        since="0.2.0",
+    )
+    areas: tuple[Area, ...] = key(
+        tables(Area), 'list of `{ polygon = .., exclude = .. }`: survey file, and `"inside"` or `"outside"`', ()
+    )
+
+    @property
+    def topography(self) -> Optional[SurveyFile]:
+        """Heights of the original ground, by which the table's tonnes are cut already; None: [table] topography, or the blocks' tops."""
+        return self.original if isinstance(self.original, SurveyFile) else None
+
+    @property
+    def by_blocks(self) -> bool:
+        """Whether the original ground of the as-mined surface is the blocks' tops, since they are whole."""
+        return self.original == BLOCKS
