@@ -56,8 +56,8 @@ def test_a_run_records_the_project_with_the_set_keys(path):
             r"--set economics.mining_cost: expected KEY=VALUE, such as economics.mining_cost=2.6",
         ),
         ("=3", r"--set =3: expected KEY=VALUE"),
-        ("metals.gold.price=1", r"--set metals.gold.price=1: no entry gold: expected one of copper$"),
-        ("metals.2.price=1", r"no entry 2: expected one of copper$"),
+        ("metals.gold.price=1", r"--set metals.gold.price=1: found gold, expected one of copper$"),
+        ("metals.2.price=1", r"found 2, expected one of copper$"),
         ("title.more=1", r"title is 'Test hill', and no section"),
         (
             "economics.minning_cost=3",

@@ -8,7 +8,7 @@ from typing import Any, Mapping, Optional, Union
 
 import pandas as pd
 
-from pitplan.config.agreement import demand_table
+from pitplan.config.agreement import demand, of_table
 from pitplan.config.keys import read
 from pitplan.config.table import GridRules, TableColumns
 from pitplan.config.toml_text import Section, Source, as_toml
@@ -84,6 +84,6 @@ def of_keys(frame: Optional[pd.DataFrame], file: str, keys: Mapping[str, Any]) -
     table = {"file": file} | {key: value for key, value in given.items() if key not in OF_GRID}
     grid = {key: value for key, value in given.items() if key in OF_GRID}
     source = Source(SOURCE, {"table": table, "grid": grid})
-    demand_table(read(TableColumns, Section(source, "table", table)), source)
+    demand(of_table(read(TableColumns, Section(source, "table", table)), source.data), source)
     read(GridRules, Section(source, "grid", grid))
     return BlockModel(frame, table, grid)

@@ -2,7 +2,7 @@
 
 from __future__ import annotations
 
-from collections.abc import Callable, Iterator, Mapping, Sequence
+from collections.abc import Callable, Iterable, Iterator, Mapping, Sequence
 from dataclasses import dataclass
 from decimal import Decimal
 from typing import TYPE_CHECKING, Any, Optional
@@ -11,13 +11,13 @@ from pitplan.core.revenue_factors import factor_text
 
 from . import toml_text
 from .economics import ALL, MOST_YEARS, OF_CONCENTRATE, PURE, ByDomain, Metal, Smelter
-from .material import MILL, ORE, PIT, REFUSE, WASTE, Accepts, Opening, Stockpile
+from .material import MILL, ORE, PIT, REFUSE, WASTE, Accepts, Opening
 from .overrides import assigned, scaled
 from .periods import MONTHS, Period
 from .schedule import FEED, TOTAL, ScheduleRules
 from .shells import MOST_FACTORS, WAYS
 from .studies import AXES, EXAMPLE, HillAxis
-from .table import CLASS, DOMAIN, PARENTS, ROCK_TYPE, MissingRock, TableColumns
+from .table import CLASS, DOMAIN, PARENTS, ROCK_TYPE, ZERO, MissingRock, TableColumns
 from .toml_text import Section, Source
 
 if TYPE_CHECKING:
@@ -41,17 +41,15 @@ def wrong(section: str, key: str, why: str) -> Fault:
     return Fault(f"[{section}] {key}: {why}", f"{section}.{key}")
 
 
-def demand_agreement(project: Project, source: Source) -> None:
-    """Raises PlanError if keys that are valid each do not fit together."""
-    for check in (*WITHIN, *BETWEEN):
-        for fault in check(project, source.data):
-            raise source.error(fault.why, fault.place)
-
-
-def demand_table(columns: TableColumns, source: Source) -> None:
-    """Raises PlanError if the keys of `[table]` do not fit together."""
-    for fault in of_table(columns, source.data):
+def demand(faults: Iterable[Fault], source: Source) -> None:
+    for fault in faults:
         raise source.error(fault.why, fault.place)
+
+
+def faults_of(project: Project, data: Mapping[str, Any]) -> Iterator[Fault]:
+    """Yields what is wrong between keys that are valid each: within sections first, then between them."""
+    for check in (*WITHIN, *BETWEEN):
+        yield from check(project, data)
 
 
 def demand_calendar(periods: Sequence[Period], sections: Sequence[Section]) -> None:
@@ -79,29 +77,28 @@ def twice(names: Sequence[str]) -> Optional[int]:
     return next((number for number, name in enumerate(names, 1) if name in names[: number - 1]), None)
 
 
+def unknown_metals(names: Iterable[str], project: Project, where: str, place: str) -> Iterator[Fault]:
+    known = [metal.name for metal in project.metals]
+    for name in names:
+        if name not in known:
+            yield Fault(f"{where}: found {name}, expected one of the [[metals]]: {', '.join(known)}", place)
+
+
 # Within a section.
-
-
-def table(project: Project, data: Mapping[str, Any]) -> Iterator[Fault]:
-    yield from of_table(project.table, data)
 
 
 def of_table(columns: TableColumns, data: Mapping[str, Any]) -> Iterator[Fault]:
     rules = columns.rules
     if columns.header_row and columns.first_row and columns.first_row <= columns.header_row:
-        why = f"must be below the names, which header_row puts in row {columns.header_row}"
-        yield wrong("table", "first_row", why)
+        yield wrong("table", "first_row", f"must be below the names, which header_row puts in row {columns.header_row}")
     if rules.cell_size and columns.volume:
         yield wrong("table", "cell_size", "give it or volume, not both: both give the volume of a cell")
     if columns.reblock and columns.reblock.of_parents and not rules.cell_size:
         yield wrong("table", "reblock", f'"{PARENTS}" requires cell_size, which is missing')
-    for name in rules.mapped:
-        if name in rules.calculated:
-            why = f"the column {name} is calculated: map the columns that it is calculated from"
-            yield wrong("table", "map", why)
+    for name in [it for it in rules.mapped if it in rules.calculated]:
+        yield wrong("table", "map", f"the column {name} is calculated: map the columns that it is calculated from")
     for name in (columns.x, columns.y, columns.z):
-        meaning = rules.nulls.meaning(name, columns.empty)
-        if meaning != columns.empty and meaning == "zero":
+        if rules.nulls.meaning(name, columns.empty) == ZERO != columns.empty:
             why = f'the centroids in {name} may not be read as 0: expected "refuse" or "missing"'
             yield wrong("table", "nulls", why)
     if columns.density and "tonnes" in data.get("table", {}):
@@ -109,8 +106,8 @@ def of_table(columns: TableColumns, data: Mapping[str, Any]) -> Iterator[Fault]:
     if columns.volume and not columns.density:
         yield wrong("table", "volume", "is multiplied by a density, which is missing")
     missing = columns.missing_blocks
-    for name, code in ((ROCK_TYPE, columns.rock_type), (DOMAIN, columns.domain)):
-        if isinstance(missing, MissingRock) and bool(getattr(missing, name)) != bool(code):
+    for name in (ROCK_TYPE, DOMAIN):
+        if isinstance(missing, MissingRock) and bool(missing.by_code[name]) != bool(columns.by_code[name]):
             why = f"needs a {name} if, and only if, [table] {name} names a column"
             yield wrong("table", "missing_blocks", why)
 
@@ -118,8 +115,7 @@ def of_table(columns: TableColumns, data: Mapping[str, Any]) -> Iterator[Fault]:
 def economics(project: Project, data: Mapping[str, Any]) -> Iterator[Fault]:
     money, has_bench = project.economics, "mining_cost_per_bench" in data["economics"]
     if money.mining_cost_reference is not None and not has_bench:
-        why = "requires mining_cost_per_bench, which is missing"
-        yield wrong("economics", "mining_cost_reference", why)
+        yield wrong("economics", "mining_cost_reference", "requires mining_cost_per_bench, which is missing")
     if money.mining_cost_by_elevation and has_bench:
         yield wrong("economics", "mining_cost_by_elevation", "give it or mining_cost_per_bench, not both")
 
@@ -133,14 +129,17 @@ def metals(project: Project, data: Mapping[str, Any]) -> Iterator[Fault]:
         if not metal.price and any(metal.prices):
             why = "must be above 0: it sets the cut-off; yearly prices affect only the cash flow"
             yield wrong(f"metals {number}", "price", why)
+    if again := twice([metal.name for metal in project.metals]):
+        yield Fault("two [[metals]] have one name", f"metals {again}.name")
 
 
 def smelter(metal: Metal, terms: Smelter, section: str) -> Iterator[Fault]:
     grade, purest = terms.concentrate_grade, PURE[metal.unit]
     needs = [key for key in OF_CONCENTRATE if getattr(terms, key)]
     if grade is not None and grade > purest:
-        why = f"found {grade}, expected above 0 and at most {purest:,} ({metal.unit})"
-        yield wrong(section, "concentrate_grade", why)
+        yield wrong(
+            section, "concentrate_grade", f"found {grade}, expected above 0 and at most {purest:,} ({metal.unit})"
+        )
     if grade is None and needs:
         yield wrong(section, "concentrate_grade", f"is missing: {needs[0]} depends on the grade of the concentrate")
     if grade is not None and terms.minimum_deduction >= grade:
@@ -220,23 +219,9 @@ def schedule(project: Project, data: Mapping[str, Any]) -> Iterator[Fault]:
             yield wrong(section, "opening", f"found {pile.opening.tonnes:.10g} tonnes, {most}")
 
 
-def dumps_by_name(project: Project, data: Mapping[str, Any]) -> Iterator[Fault]:
-    names = [it.name for it in project.dumps]
-    if number := twice(names):
-        why = f"found {names[number - 1]} twice, expected a name of its own for each"
-        yield wrong(f"dumps {number}", "name", why)
-
-
 def scenarios(project: Project, data: Mapping[str, Any]) -> Iterator[Fault]:
     if project.scenarios and (project.scenarios.folder is None) == (not project.scenarios.columns):
-        why = "give exactly one of realisations, a folder, and columns, by metal"
-        yield wrong("scenarios", "realisations", why)
-
-
-def constraints(project: Project, data: Mapping[str, Any]) -> Iterator[Fault]:
-    rules = project.constraints
-    if rules and rules.original and not rules.as_mined:
-        yield wrong("constraints", "topography", "requires as_mined, whose original ground it is")
+        yield wrong("scenarios", "realisations", "give exactly one of realisations, a folder, and columns, by metal")
 
 
 def hill(project: Project, data: Mapping[str, Any]) -> Iterator[Fault]:
@@ -271,25 +256,18 @@ def codes(project: Project, data: Mapping[str, Any]) -> Iterator[Fault]:
     money = project.economics
     priced: list[Any] = [money.mining_cost, money.mining_recovery, money.dilution]
     for way in project.by_process:
-        priced += [
-            way.economics.processing_cost,
-            *(share for metal in way.metals for share in (metal.recovery, metal.tail_grade)),
-        ]
+        priced += [way.economics.processing_cost]
+        priced += [share for metal in way.metals for share in (metal.recovery, metal.tail_grade)]
     if project.table.rock_type is None and any(isinstance(price, dict) for price in priced):
         yield wrong("table", "rock_type", "is missing, and prices or recoveries are given by rock type")
     if project.table.domain is None and any(isinstance(price, ByDomain) for price in priced):
         yield wrong("table", "domain", "is missing, and mining recovery or dilution is given by domain")
 
 
-def columns_of_codes(project: Project) -> dict[str, Optional[str]]:
-    table = project.table
-    return {ROCK_TYPE: table.rock_type, DOMAIN: table.domain, CLASS: table.resource_class}
-
-
 def shares(project: Project, data: Mapping[str, Any]) -> Iterator[Fault]:
     """Shares of codes in feed need the column of the codes."""
     for it in project.feed_grades:
-        if it.code is not None and columns_of_codes(project)[it.column] is None:
+        if it.code is not None and project.table.by_code[it.column] is None:
             why = f"limits the share of {it.code}, and [table] {it.column} names no column: name it"
             yield Fault(f"feed {it.column}: {why}", f"table.{it.column}")
 
@@ -319,6 +297,8 @@ def volume(project: Project, data: Mapping[str, Any]) -> Iterator[Fault]:
 def ground(project: Project, data: Mapping[str, Any]) -> Iterator[Fault]:
     """An as-mined surface needs one original ground."""
     rules, given = project.constraints, project.table.topography
+    if rules and rules.original and not rules.as_mined:
+        yield wrong("constraints", "topography", "requires as_mined, whose original ground it is")
     if rules is None or rules.as_mined is None:
         return
     if rules.original and given:
@@ -332,29 +312,25 @@ def ground(project: Project, data: Mapping[str, Any]) -> Iterator[Fault]:
 
 def accepted(project: Project, accepts: Accepts, where: str, place: str) -> Iterator[Fault]:
     """Codes need the column of the codes, and grades a column that is read."""
-    columns = columns_of_codes(project)
-    for key, values in accepts.codes.items():
+    columns = project.table.by_code
+    for key, values in accepts.by_code.items():
         if values and columns[key] is None:
             yield Fault(f"{where} accepts: has {key}, and [table] {key} names no column: name it", f"{place}.accepts")
     known = [*(metal.column for metal in project.metals), *project.limited_columns, *project.dump_columns]
     for grade in accepts.grades:
-        if grade.column not in known:
+        if grade.name not in known:
             expected = ", ".join(dict.fromkeys([*columns, *known]))
-            yield Fault(f"{where} accepts: found {grade.column}, expected one of {expected}", f"{place}.accepts")
+            yield Fault(f"{where} accepts: found {grade.name}, expected one of {expected}", f"{place}.accepts")
 
 
 def processes(project: Project, data: Mapping[str, Any]) -> Iterator[Fault]:
     """Processes have names of their own and recover metals of the project."""
-    metals_named = [metal.name for metal in project.metals]
     if number := twice([it.name for it in project.processes]):
         yield Fault("two [[processes]] have one name", f"processes {number}.name")
     for number, process in enumerate(project.processes, 1):
         where, place = f"[[processes]] {process.name}", f"processes {number}"
         yield from accepted(project, process.accepts, where, place)
-        for name in process.recovery:
-            if name not in metals_named:
-                expected = f"expected one of the [[metals]]: {', '.join(metals_named)}"
-                yield Fault(f"{where} recovery: found {name}, {expected}", f"{place}.recovery")
+        yield from unknown_metals(process.recovery, project, f"{where} recovery", f"{place}.recovery")
     rules = project.schedule
     if project.processes and rules and rules.processing_capacity is not None:
         why = "is of one process: set the capacity of each of the [[processes]]"
@@ -362,11 +338,6 @@ def processes(project: Project, data: Mapping[str, Any]) -> Iterator[Fault]:
     if project.processes and rules and rules.feed:
         why = "is of one process: set [processes.feed] below each of the [[processes]]"
         yield Fault(f"[schedule.feed] {why}", "schedule.feed")
-
-
-def names_of_metals(project: Project, data: Mapping[str, Any]) -> Iterator[Fault]:
-    if number := twice([metal.name for metal in project.metals]):
-        yield Fault("two [[metals]] have one name", f"metals {number}.name")
 
 
 def smelters(project: Project, data: Mapping[str, Any]) -> Iterator[Fault]:
@@ -377,7 +348,6 @@ def smelters(project: Project, data: Mapping[str, Any]) -> Iterator[Fault]:
 
 
 def wrong_processes(metal: Metal, terms: Smelter, project: Project) -> Iterator[str]:
-    """Yields what is wrong with the processes of a metal's terms, and the remedy."""
     names = [it.name for it in project.processes]
     recovering = [it.name for it in project.processes if it.recovery.get(metal.name)]
     if not terms.processes:
@@ -453,23 +423,17 @@ def taken_names(project: Project) -> set[str]:
 
 def stockpiles(project: Project, data: Mapping[str, Any]) -> Iterator[Fault]:
     """Stockpiles have names of their own and recover metals of the project."""
-    metals_named = [metal.name for metal in project.metals]
     for number, pile in enumerate(project.schedule.stockpiles if project.schedule else (), 1):
         where, place = (f"[schedule.stockpiles] {pile.name}", f"schedule.stockpiles {number}")
         if pile.name in taken_names(project):
             yield Fault(f"{where}: is the name of another source or destination: rename it", f"{place}.name")
-        for name in pile.recovery:
-            if name not in metals_named:
-                expected = f"expected one of the [[metals]]: {', '.join(metals_named)}"
-                yield Fault(f"{where} recovery: found {name}, {expected}", f"{place}.recovery")
+        yield from unknown_metals(pile.recovery, project, f"{where} recovery", f"{place}.recovery")
         yield from accepted(project, pile.accepts, where, place)
-        if pile.opening:
-            yield from (
-                Fault(f"{where} {why}", f"{place}.opening") for why in opening_faults(project, pile, pile.opening)
-            )
+        for why in opening_faults(project, pile.opening) if pile.opening else ():
+            yield Fault(f"{where} {why}", f"{place}.opening")
 
 
-def opening_faults(project: Project, pile: Stockpile, opening: Opening) -> Iterator[str]:
+def opening_faults(project: Project, opening: Opening) -> Iterator[str]:
     """Yields what is wrong with a code or a grade by which the ore is valued or limited."""
     yield from opening_codes(project, opening)
     needed, known = needed_columns(project), [*needed_columns(project), *project.limited_columns]
@@ -487,11 +451,11 @@ def opening_faults(project: Project, pile: Stockpile, opening: Opening) -> Itera
 
 def opening_codes(project: Project, opening: Opening) -> Iterator[str]:
     """Yields codes that are missing, have no column, or are of a class that is no ore."""
-    table, columns = project.table, columns_of_codes(project)
+    table, columns = project.table, project.table.by_code
     by_domain = any(it.accepts.domain for it in project.processes)
     by_domain = by_domain or any(it.column == DOMAIN and it.code is not None for it in project.feed_grades)
     needed = {ROCK_TYPE: bool(table.rock_type), DOMAIN: by_domain, CLASS: bool(table.resource_class)}
-    for key, code in opening.codes.items():
+    for key, code in opening.by_code.items():
         if code and columns[key] is None:
             yield f"opening: has {key}, and [table] {key} names no column: remove it"
         if needed[key] and not code:
@@ -508,12 +472,15 @@ def needed_columns(project: Project) -> list[str]:
     limits = project.schedule.limits if project.schedule else ()
     found = [*(metal.column for metal in project.metals), *project.penalty_columns]
     found += [*project.graded_columns] + [it.column for it in limits if it.of != TOTAL]
-    found += [it.column for process in project.processes for it in process.accepts.grades]
+    found += [it.name for process in project.processes for it in process.accepts.grades]
     return list(dict.fromkeys(found))
 
 
 def dumps(project: Project, data: Mapping[str, Any]) -> Iterator[Fault]:
     """Dumps have names of their own and accept by columns that are read."""
+    names = [it.name for it in project.dumps]
+    if number := twice(names):
+        yield wrong(f"dumps {number}", "name", f"found {names[number - 1]} twice, expected a name of its own for each")
     taken = taken_names(project) | {it.name for it in (project.schedule.stockpiles if project.schedule else ())}
     for number, dump in enumerate(project.dumps, 1):
         where = f"[[dumps]] {dump.name}"
@@ -628,7 +595,6 @@ def unknown(period: Period, project: Project) -> Iterator[tuple[str, str]]:
 
 
 def minimums(project: Project, number: int, period: Period) -> Iterator[Fault]:
-    """No minimum of a period is above its maximum."""
     rules, shells = project.schedule, project.shells
     if rules is None:
         return
@@ -650,22 +616,17 @@ def minimums(project: Project, number: int, period: Period) -> Iterator[Fault]:
 
 def named_metals(project: Project, data: Mapping[str, Any]) -> Iterator[Fault]:
     """Limits of metals and scenarios are of metals of the project."""
-    names = [metal.name for metal in project.metals]
-    expected = f"expected one of the [[metals]]: {', '.join(names)}"
-    for name in project.schedule.max_metal_per_year if project.schedule else ():
-        if name not in names:
-            yield wrong("schedule", "max_metal_per_year", f"found {name}, {expected}")
+    rules, names = project.schedule, [metal.name for metal in project.metals]
+    most = rules.max_metal_per_year if rules else {}
+    yield from unknown_metals(most, project, "[schedule] max_metal_per_year", "schedule.max_metal_per_year")
+    if project.figures and project.figures.metal not in (None, *names):
+        yield wrong("figures", "metal", f'found "{project.figures.metal}", expected one of {", ".join(names)}')
     models = project.scenarios
     given = [*models.columns, *(name for prices in models.prices for name in prices)] if models else []
-    for name in given:
-        if name not in names:
-            yield Fault(f"[scenarios]: found {name}, {expected}", "scenarios")
+    yield from unknown_metals(given, project, "[scenarios]", "scenarios")
 
 
 def varied_keys(project: Project, data: Mapping[str, Any]) -> Iterator[Fault]:
-    """Keys of a sensitivity are keys of the project, and hold numbers."""
-    from .project_writer import of_project
-
     varied = project.sensitivity
     if varied is None:
         return
@@ -675,7 +636,7 @@ def varied_keys(project: Project, data: Mapping[str, Any]) -> Iterator[Fault]:
         yield Fault("[sensitivity] varies haulage, and there is no section [haulage]", "sensitivity")
     paths = sorted(name for name in names if "." in name)
     if paths or varied.hill:
-        written = toml_text.parsed(of_project(project, project.path.parent), str(project.path))
+        written = toml_text.parsed(project.to_toml(), str(project.path))
         for path in paths:
             scaled(written, path, Decimal(1), f"{project.path}: [sensitivity]")
         for path, value in (setting for axis in varied.hill for setting in axis.settings(0)):
@@ -695,7 +656,7 @@ def grades_of_files(project: Project, data: Mapping[str, Any]) -> Iterator[Fault
 
 
 Check = Callable[["Project", Mapping[str, Any]], Iterator[Fault]]
-WITHIN: list[Check] = [table, economics, metals, slopes, shells, pushbacks, schedule, dumps_by_name]
-WITHIN += [scenarios, constraints, hill]
-BETWEEN: list[Check] = [codes, shares, resource_classes, volume, ground, processes, names_of_metals, smelters, sums]
-BETWEEN += [stockpiles, dumps, periods, named_metals, varied_keys, grades_of_files]
+WITHIN: list[Check] = [lambda project, data: of_table(project.table, data), economics, metals, slopes, shells]
+WITHIN += [pushbacks, schedule, scenarios, hill]
+BETWEEN: list[Check] = [codes, shares, resource_classes, volume, ground, processes, smelters, sums, stockpiles, dumps]
+BETWEEN += [periods, named_metals, varied_keys, grades_of_files]

@@ -12,13 +12,18 @@ from .keys import (
     TEXT,
     Kind,
     amount,
+    array,
     by_name,
     by_rock,
     choice,
     coordinate,
+    either,
+    exactly,
+    inline,
     key,
     line,
     listed,
+    new,
     number,
     pairs,
     shown,
@@ -28,7 +33,7 @@ from .keys import (
     whole,
     word,
 )
-from .material import ACCEPTED, ACCEPTS, FEED, Accepts, FeedGrade
+from .material import FEED, Accepts, FeedGrade
 from .toml_text import Section
 
 # By unit of the metal's column: the grade of a concentrate that is nothing but metal.
@@ -41,30 +46,39 @@ OF_CONCENTRATE = ("treatment_charge", "freight", "minimum_deduction", "penalties
 ALL = "all"
 # Whether price participation also credits the seller below the base.
 BOTH, ABOVE = "both", "above"
+UNITS_OF_PRODUCTION = "units_of_production"
+DEPRECIATED = f'expected "{UNITS_OF_PRODUCTION}" or straight line over years, as {{ years = 8 }}'
+MOST_RATES = 20
+# A price or a cost: one for every rock, or one for each rock by its code.
+ByRock = Union[Decimal, dict[str, Decimal]]
+# When ore is told from waste: again at each revenue factor, or once at the base price.
+PER_REVENUE_FACTOR, AT_BASE_PRICE = "per_revenue_factor", "base_price"
+# The largest number of years of a project.
+MOST_YEARS = 1_000
+GRADE_UNITS = {"percent": Decimal("0.01"), "fraction": Decimal(1), "gram_per_tonne": Decimal(1)}
+METAL_UNITS = {"percent": "t", "fraction": "t", "gram_per_tonne": "g"}
+GRADE_SIGNS = {"percent": "%", "fraction": "t/t", "gram_per_tonne": "g/t"}
+# Grams of the units of prices: the avoirdupois pound and the troy ounce are exact by definition.
+GRAMS = {
+    "t": Decimal(10**6),
+    "kg": Decimal(1000),
+    "g": Decimal(1),
+    "lb": Decimal("453.59237"),
+    "oz": Decimal("31.1034768"),
+}
+# A price that is converted from one unit to another is rounded half to even, to this number of decimals.
+PRICE_PLACES = Decimal(1).scaleb(-12)
+ZERO, ONE = Decimal(0), Decimal(1)
 
-
-PAID_SHARE = number(above=0, most=1, example="0.965 for 96.5 %")
-
-
-def read_steps(section: Section, name: str, value: Any) -> tuple[tuple[Decimal, Decimal], ...]:
-    steps: tuple[tuple[Decimal, Decimal], ...] = STEPS.read(section, name, value)
-    grades = [grade for grade, _ in steps]
-    if grades != sorted(set(grades)):
-        raise section.wrong(name, "the grades must rise")
-    return steps
+SHARE, PAID_SHARE = number(0, 1), number(above=0, most=1, example="0.965 for 96.5 %")
 
 
 def read_processes(section: Section, name: str, value: Any) -> Union[str, tuple[str, ...]]:
-    """The names of processes, or "all". Raises PlanError if they are neither."""
     if value == ALL:
         return ALL
     if not isinstance(value, list) or not value or not all(isinstance(it, str) for it in value):
         raise section.wrong(name, f'found {shown(value)}, expected "{ALL}" or names, such as ["mill"]')
     return tuple(value)
-
-
-STEPS = pairs(number(0), number(0), "grade of the concentrate, charge per dry tonne")
-PROCESSES = Kind(read_processes, {"anyOf": [{"const": ALL}, {"type": "array", "items": TEXT, "minItems": 1}]})
 
 
 @dataclass(frozen=True)
@@ -83,7 +97,9 @@ class Penalty:
     column: str = key(text, "column of the element by its grade in the ground")
     recovery: Decimal = key(PAID_SHARE, "share of the element that comes into the concentrate", Decimal(1))
     steps: tuple[tuple[Decimal, Decimal], ...] = key(
-        Kind(read_steps, STEPS.schema),
+        pairs(number(0), number(0), "[grade of the concentrate, charge per dry tonne]").where(
+            lambda it: all(one < other for (one, _), (other, _) in zip(it, it[1:])), "the grades must rise"
+        ),
         "pairs of a grade of the concentrate, and the charge from there on for each `per`; above its grade a step replaces the one before",
         unit="{currency}/t of dry concentrate",
     )
@@ -92,8 +108,6 @@ class Penalty:
 
 @dataclass(frozen=True, kw_only=True)
 class Smelter:
-    """The terms of a metal."""
-
     payable: Decimal = key(PAID_SHARE, "share that is paid", Decimal(1))
     concentrate_grade: Optional[Decimal] = key(number(above=0), "grade of the dry concentrate", None, "{grade}")
     minimum_deduction: Decimal = key(number(0), "least deduction; below `concentrate_grade`", Decimal(0), "{grade}")
@@ -110,7 +124,7 @@ class Smelter:
     )
     penalties: tuple[Penalty, ...] = key(tables(Penalty), "list of penalties, below", ())
     processes: Union[str, tuple[str, ...]] = key(
-        PROCESSES,
+        Kind(read_processes, {"anyOf": [{"const": ALL}, array(TEXT)]}),
         'names whose metal the smelter buys, or `"all"`, which is also meant if each that recovers it is named; then without `selling_cost`',
         "",
         otherwise="the one that recovers the metal",
@@ -134,29 +148,6 @@ class Smelter:
     def has_charges(self) -> bool:
         """Whether there are charges besides a share of the price."""
         return bool(any(getattr(self, name) for name in CHARGES) or self.penalties)
-
-
-# A price or a cost: one for every rock, or one for each rock by its code.
-ByRock = Union[Decimal, dict[str, Decimal]]
-
-# When ore is told from waste: again at each revenue factor, or once at the base price.
-PER_REVENUE_FACTOR, AT_BASE_PRICE = "per_revenue_factor", "base_price"
-# The largest number of years of a project.
-MOST_YEARS = 1_000
-GRADE_UNITS = {"percent": Decimal("0.01"), "fraction": Decimal(1), "gram_per_tonne": Decimal(1)}
-METAL_UNITS = {"percent": "t", "fraction": "t", "gram_per_tonne": "g"}
-GRADE_SIGNS = {"percent": "%", "fraction": "t/t", "gram_per_tonne": "g/t"}
-# Grams of the units of prices: the avoirdupois pound and the troy ounce are exact by definition.
-GRAMS = {
-    "t": Decimal(10**6),
-    "kg": Decimal(1000),
-    "g": Decimal(1),
-    "lb": Decimal("453.59237"),
-    "oz": Decimal("31.1034768"),
-}
-# A price that is converted from one unit to another is rounded half to even, to this number of decimals.
-PRICE_PLACES = Decimal(1).scaleb(-12)
-ZERO, ONE = Decimal(0), Decimal(1)
 
 
 @dataclass(frozen=True)
@@ -185,9 +176,9 @@ def by_code(item: Kind) -> Kind:
     """A number for all blocks, by rock type, or as `{ domain = { CODE = number } }` by domain."""
     of_rock, of_domain = by_rock(item), by_name(item)
 
-    def read(section: Section, name: str, value: Any) -> ByCode:
+    def read(section: Section, name: str, value: Any) -> Any:
         if not isinstance(value, dict) or not any(isinstance(it, dict) for it in value.values()):
-            return of_rock.read(section, name, value)  # type: ignore[no-any-return]
+            return of_rock.read(section, name, value)
         inner = section.section(name)
         by_domain = inner.get("domain", RENAMED)
         inner.finish()
@@ -200,43 +191,24 @@ def by_code(item: Kind) -> Kind:
     return Kind(read, {"anyOf": [*of_rock.schema["anyOf"], domains]}, f"{of_rock.range} or domain", write)
 
 
-def read_recovery(section: Section, name: str, value: Any) -> Recovery:
-    """A share, or pairs of grade and share."""
-    if not isinstance(value, list):
-        return SHARE.read(section, name, value)  # type: ignore[no-any-return]
-    points = tuple(sorted(GRADES_AND_SHARES.read(section, name, value)))
-    grades, recoveries = zip(*points)
-    if len(set(grades)) < len(grades):
-        raise section.wrong(name, "a grade occurs twice")
-    if list(recoveries) != sorted(recoveries):
-        raise section.wrong(name, "falls as the grade rises")
+def curve(points: tuple[tuple[Decimal, Decimal], ...]) -> Curve:
+    recoveries = [it for _, it in points]
+    if recoveries != sorted(recoveries):
+        raise ValueError("falls as the grade rises")
     return Curve(points)
 
 
-def read_elevations(section: Section, name: str, value: Any) -> tuple[tuple[Decimal, Decimal], ...]:
-    """Pairs of an elevation and an added cost, by rising elevation."""
-    found = tuple(sorted(ELEVATIONS.read(section, name, value)))
-    if len({elevation for elevation, _ in found}) < len(found):
-        raise section.wrong(name, "an elevation occurs twice")
-    return found
-
-
-SHARE = number(0, 1)
-GRADES_AND_SHARES = pairs(number(0), SHARE, "grade, recovery")
+CURVE = pairs(number(0), SHARE, "[grade, recovery]", "a grade occurs twice").then(curve)
 RECOVERY = Kind(
-    read_recovery,
-    {"anyOf": [SHARE.schema, GRADES_AND_SHARES.schema]},
+    lambda section, name, value: (CURVE if isinstance(value, list) else SHARE).read(section, name, value),
+    {"anyOf": [SHARE.schema, CURVE.schema]},
     SHARE.range,
     lambda value, _: value.points if isinstance(value, Curve) else value,
 )
-ELEVATIONS = pairs(number(None), number(0), "elevation, cost a tonne")
-CAPEX = pairs(whole(1, MOST_YEARS), number(0), "year, amount")
 
 
 @dataclass(frozen=True, kw_only=True)
 class Metal:
-    """A metal that is sold."""
-
     name: str = key(text, "name of the metal", label="Metal")
     column: str = key(text, "column of its grades", label="Grade column")
     unit: str = key(choice(*GRADE_UNITS), "unit of the column", label="Unit of grade")
@@ -271,16 +243,15 @@ class Metal:
         otherwise="`price`",
         label="Prices by year",
     )
-    price_per: Optional[str] = key(
+    price_per: Optional[str] = new(
         choice(*GRAMS),
         "unit of the metal in prices and selling costs",
         None,
         otherwise="`t`; `g` for grades in g/t",
         label="Unit of price",
-        since="0.2.0",
     )
-    smelter: Optional[Smelter] = key(
-        table(Smelter), "[smelter terms](#metalssmelter), in place of `selling_cost`", None, since="0.2.0"
+    smelter: Optional[Smelter] = new(
+        table(Smelter), "[smelter terms](#metalssmelter), in place of `selling_cost`", None
     )
 
     def sold_by(self, process: str) -> Metal:
@@ -289,7 +260,6 @@ class Metal:
 
     @property
     def price_unit(self) -> str:
-        """The unit of the prices, for example lb."""
         return self.price_per or self.quantity
 
     def by_quantity(self, price: Decimal) -> Decimal:
@@ -319,10 +289,13 @@ class Process:
         by_name(by_rock(RECOVERY)), "by metal, each as in `[[metals]]`", unit="share"
     )
     capacity: float = key(amount(1), "capacity", unit="t of mill feed/year")
-    feed: tuple[FeedGrade, ...] = key(
-        FEED, "limits of the feed in schedules, [below](#limits-of-the-feed)", (), since="0.2.0"
+    feed: tuple[FeedGrade, ...] = new(FEED, "limits of the feed in schedules, [below](#limits-of-the-feed)", ())
+    accepts: Accepts = new(
+        inline(Accepts),
+        "blocks by `rock_type`, `domain`, `class` (code or list) and by in-situ grade `{ min = .., max = .. }`",
+        Accepts(),
+        otherwise="all",
     )
-    accepts: Accepts = key(ACCEPTS, ACCEPTED, Accepts(), otherwise="all", since="0.2.0")
 
     def __post_init__(self) -> None:
         object.__setattr__(self, "feed", tuple(replace(it, process=self.name) for it in self.feed))
@@ -351,7 +324,9 @@ class Economics:
         is_seldom=True,
     )
     mining_cost_by_elevation: tuple[tuple[Decimal, Decimal], ...] = key(
-        Kind(read_elevations, ELEVATIONS.schema), "pairs [elevation, added cost], in place of these two", ()
+        pairs(number(), number(0), "[elevation, cost a tonne]", "an elevation occurs twice"),
+        "pairs [elevation, added cost], in place of these two",
+        (),
     )
     processing_cost: ByRock = key(
         by_rock(number(0)), "processing cost", of_processes="the cost", in_python=ZERO, unit="{currency}/t of mill feed"
@@ -374,13 +349,15 @@ class Economics:
         label="Fixed cost",
     )
     capex: tuple[tuple[int, Decimal], ...] = key(
-        Kind(lambda *it: tuple(sorted(CAPEX.read(*it))), CAPEX.schema, f"year 1 to {MOST_YEARS:,}"),
+        pairs(whole(1, MOST_YEARS), number(0), "[year, amount]").then(
+            lambda it: tuple(sorted(it)), range=f"year 1 to {MOST_YEARS:,}"
+        ),
         "pairs [year, amount at its start]; likewise",
         (),
         "{currency}",
     )
-    mcaf: Optional[str] = key(text, "column of mining cost adjustment factors", None, since="0.2.0")
-    pcaf: Optional[str] = key(text, "column of processing cost adjustment factors", None, since="0.2.0")
+    mcaf: Optional[str] = new(text, "column of mining cost adjustment factors", None)
+    pcaf: Optional[str] = new(text, "column of processing cost adjustment factors", None)
 
     @property
     def factor_columns(self) -> tuple[str, ...]:
@@ -388,37 +365,9 @@ class Economics:
         return tuple(dict.fromkeys(name for name in (self.mcaf, self.pcaf) if name))
 
 
-UNITS_OF_PRODUCTION = "units_of_production"
-MOST_RATES = 20
-RATES = listed(number(0, 1, example="0.08 for 8 %"), "of rates per year, such as [0.05, 0.08, 0.10]", MOST_RATES)
-
-
-def read_rates(section: Section, name: str, value: Any) -> tuple[Decimal, ...]:
-    """Rates that rise."""
-    rates = tuple(sorted(RATES.read(section, name, value)))
-    if len(set(rates)) < len(rates):
-        raise section.wrong(name, "found a rate twice, expected each once")
-    return rates
-
-
-def read_depreciation(section: Section, name: str, value: Any) -> Optional[Decimal]:
-    """The years of straight-line depreciation; None for units of production."""
-    if value == UNITS_OF_PRODUCTION:
-        return None
-    if not isinstance(value, dict):
-        raise section.wrong(name, f'expected "{UNITS_OF_PRODUCTION}" or straight line over years, as {{ years = 8 }}')
-    inner = section.section(name)
-    years: Decimal = number(above=0).read(inner, "years", inner.get("years"))
-    inner.finish()
-    return years
-
-
-STRAIGHT_LINE = {
-    "type": "object",
-    "properties": {"years": number(above=0).schema},
-    "required": ["years"],
-    "additionalProperties": False,
-}
+@dataclass(frozen=True)
+class StraightLine:
+    years: Decimal = key(number(above=0), "years of depreciation")
 
 
 @dataclass(frozen=True)
@@ -426,7 +375,9 @@ class CashFlowRules:
     """What the cash flow by line has beyond the money of schedules."""
 
     discount_rates: tuple[Decimal, ...] = key(
-        Kind(read_rates, RATES.schema, f"{RATES.range}, {MOST_RATES} at most"),
+        listed(number(0, 1, example="0.08 for 8 %"), "of rates per year, such as [0.05, 0.08, 0.10]", MOST_RATES)
+        .then(lambda it: tuple(sorted(it)), range=f"0 to 1, {MOST_RATES} at most")
+        .where(lambda it: len(set(it)) == len(it), "found a rate twice, expected each once"),
         "list of rates next to that of `[shells]`",
         (),
         "share per year",
@@ -436,10 +387,8 @@ class CashFlowRules:
         number(0, below=1, example="0.25 for 25 %"), "tax rate", Decimal(0), "share of taxable income", is_quiet=True
     )
     depreciation_years: Optional[Decimal] = key(
-        Kind(
-            read_depreciation,
-            {"anyOf": [{"const": UNITS_OF_PRODUCTION}, STRAIGHT_LINE]},
-            write=lambda years, _: {"years": years},
+        either(exactly(UNITS_OF_PRODUCTION, DEPRECIATED, None), StraightLine).then(
+            lambda it: it and it.years, write=lambda years, _: {"years": years}
         ),
         'of capex: `"units_of_production"` (by mill feed), or `{ years = 8 }` (straight line; above 0)',
         None,

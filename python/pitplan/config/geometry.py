@@ -11,10 +11,13 @@ from typing import Any, Optional, Union
 from .keys import (
     Kind,
     amount,
+    array,
     choice,
     codes,
     coordinate,
+    either,
     key,
+    new,
     number,
     numbers,
     pairs,
@@ -24,23 +27,18 @@ from .keys import (
     truth,
     whole,
 )
-from .table import SurveyFile, read_survey, survey, write_survey
+from .table import AreaFile, SurveyFile, survey
 from .toml_text import Section
 
 PATTERNS = ("1:5", "1:9")
 MOST_LEVELS, MOST_STEPS = 40, 200
 WALL, DIP = "wall", "dip"
-
-
+STEEPEST = Decimal("0.5")
+# The original ground is the tops of the blocks.
+BLOCKS = "blocks"
+# The sides of an area that may be excluded.
+SIDES = ("inside", "outside")
 Angles = tuple[tuple[float, float], ...]
-
-
-def read_azimuths(section: Section, name: str, value: Any) -> Angles:
-    """Pairs of an azimuth and an angle, by rising azimuth."""
-    found: Angles = tuple(sorted(AZIMUTHS.read(section, name, value)))
-    if len({azimuth for azimuth, _ in found}) < len(found):
-        raise section.wrong(name, "an azimuth occurs twice")
-    return found
 
 
 def read_offsets(section: Section, name: str, value: Any) -> tuple[tuple[int, int, int], ...]:
@@ -55,18 +53,10 @@ def read_offsets(section: Section, name: str, value: Any) -> tuple[tuple[int, in
 
 
 ANGLE = amount(1, 90)
-AZIMUTHS = pairs(amount(0, below=360), ANGLE, "azimuth, angle")
-OFFSETS = {
-    "type": "array",
-    "minItems": 1,
-    "items": {"type": "array", "items": {"type": "integer"}, "minItems": 3, "maxItems": 3},
-}
 
 
 @dataclass(frozen=True)
 class Bench:
-    """Benches with berms."""
-
     height: float = key(amount(above=0), "height of a bench", unit="m", label="Bench height")
     face_angle: float = key(amount(1, 90), "angle of its face", unit="degrees")
     berm_width: float = key(amount(), "width of the berm below it", unit="m")
@@ -74,9 +64,8 @@ class Bench:
     @property
     def angle(self) -> float:
         """Degrees of the wall from toe to toe."""
-        return math.degrees(
-            math.atan2(self.height, self.height / math.tan(math.radians(self.face_angle)) + self.berm_width)
-        )
+        face = self.height / math.tan(math.radians(self.face_angle))
+        return math.degrees(math.atan2(self.height, face + self.berm_width))
 
 
 @dataclass(frozen=True, kw_only=True)
@@ -90,18 +79,14 @@ class Wall:
         ANGLE, "overall slope angle", None, "degrees", label="Overall slope angle", otherwise=""
     )
     azimuths: Angles = key(
-        Kind(read_azimuths, AZIMUTHS.schema),
+        pairs(amount(0, below=360), ANGLE, "[azimuth, angle]", "an azimuth occurs twice"),
         "pairs [bearing from the pit to the wall, angle]: 0 to below 360 degrees (north 0, east 90), and 1 to 90 degrees",
         (),
         label="Angles by azimuth",
         otherwise="",
     )
-    azimuth_of: str = key(
-        choice(WALL, DIP),
-        'what azimuths are; with `"dip"` they are dip directions of the face',
-        WALL,
-        is_quiet=True,
-        since="0.2.0",
+    azimuth_of: str = new(
+        choice(WALL, DIP), 'what azimuths are; with `"dip"` they are dip directions of the face', WALL, is_quiet=True
     )
     bench: Optional[Bench] = key(
         table(Bench),
@@ -111,7 +96,7 @@ class Wall:
     )
     pattern: Optional[str] = key(choice(*PATTERNS), "pattern of precedences", None, is_seldom=True, otherwise="")
     offsets: tuple[tuple[int, int, int], ...] = key(
-        Kind(read_offsets, OFFSETS),
+        Kind(read_offsets, array(array({"type": "integer"}, 3, 3))),
         f"precedences of your own: blocks east, north (up to {MOST_STEPS}) and up (1 to {MOST_LEVELS})",
         (),
         otherwise="",
@@ -141,8 +126,6 @@ class Wall:
 
 @dataclass(frozen=True)
 class Slopes:
-    """The slopes of all domains."""
-
     precedence_benches: Optional[int] = key(
         whole(1, MOST_LEVELS),
         "benches up that precedences reach",
@@ -154,32 +137,6 @@ class Slopes:
     domains: tuple[Wall, ...] = key(tables(Wall), "list of slope domains, below", in_python=())
 
 
-KINDS = ("ore", "waste")
-STEEPEST = Decimal("0.5")
-ZERO = Decimal(0)
-
-
-def read_kinds(section: Section, name: str, value: Any) -> dict[str, Decimal]:
-    """A number for ore and waste: one, or `{ ore = .., waste = .. }`."""
-    one = number(0).read
-    if not isinstance(value, dict):
-        cost: Decimal = one(section, name, value)
-        return dict.fromkeys(KINDS, cost)
-    inner = section.section(name)
-    found: dict[str, Decimal] = {kind: one(inner, kind, inner.get(kind)) for kind in KINDS}
-    inner.finish()
-    return found
-
-
-OF_KIND = {
-    "type": "object",
-    "properties": dict.fromkeys(KINDS, number(0).schema),
-    "required": [*KINDS],
-    "additionalProperties": False,
-}
-BY_KIND = Kind(read_kinds, {"anyOf": [number(0).schema, OF_KIND]})
-
-
 @dataclass(frozen=True)
 class Road:
     """What one of ore and waste is hauled for: the cost of a tonne and kilometre, one way, and metres of road from the exit on."""
@@ -189,45 +146,54 @@ class Road:
 
 
 @dataclass(frozen=True)
+class OreAndWaste:
+    ore: Decimal = key(number(0), "of ore")
+    waste: Decimal = key(number(0), "of waste")
+
+
+BY_KIND = either(number(0), OreAndWaste, "ore", "waste")
+
+
+@dataclass(frozen=True)
 class Haulage:
     """Roads to one exit of the pit."""
 
     pit_exit: tuple[Decimal, Decimal, Decimal] = key(
-        numbers(3, coordinate, "numbers, x, y and z"), "x, y and z of the place where the road leaves the pit", unit="m"
+        numbers(3, coordinate, "must be a list of 3 numbers, x, y and z"),
+        "x, y and z of the place where the road leaves the pit",
+        unit="m",
     )
     ramp_gradient: Decimal = key(number(above=0, most=STEEPEST, example="0.1 for 10 %"), "rise per metre in plan")
-    cost: dict[str, Decimal] = key(
+    cost: OreAndWaste = key(
         BY_KIND, "cost of haulage, one way; or `{ ore = .., waste = .. }`", unit="{currency}/t and km"
     )
-    ex_pit_distance: dict[str, Decimal] = key(
-        BY_KIND, "road beyond the exit; or `{ ore = .., waste = .. }`", dict.fromkeys(KINDS, ZERO), "m", otherwise="0"
+    ex_pit_distance: OreAndWaste = key(
+        BY_KIND,
+        "road beyond the exit; or `{ ore = .., waste = .. }`",
+        OreAndWaste(Decimal(0), Decimal(0)),
+        "m",
+        otherwise="0",
     )
 
     @property
     def ore(self) -> Road:
         """From the exit to the mill."""
-        return Road(self.cost["ore"], self.ex_pit_distance["ore"])
+        return Road(self.cost.ore, self.ex_pit_distance.ore)
 
     @property
     def waste(self) -> Road:
         """From the exit to the dump."""
-        return Road(self.cost["waste"], self.ex_pit_distance["waste"])
-
-
-# The original ground is the tops of the blocks.
-BLOCKS = "blocks"
-# The sides of an area that may be excluded.
-SIDES = ("inside", "outside")
+        return Road(self.cost.waste, self.ex_pit_distance.waste)
 
 
 def read_ground(section: Section, name: str, value: Any) -> Union[str, SurveyFile]:
-    return BLOCKS if value == BLOCKS else read_survey(section, name, value)
+    return BLOCKS if value == BLOCKS else survey().read(section, name, value)
 
 
 def write_ground(ground: Union[str, SurveyFile], folder: Path) -> Any:
     if isinstance(ground, str):
         return ground
-    written = write_survey(ground, folder)
+    written = survey().write(ground, folder)
     # A file of that name, which is not the word.
     return f"./{BLOCKS}" if written == BLOCKS else written
 
@@ -237,7 +203,7 @@ class Area:
     """Polygons on the map, by a table of the corners x and y of one in order, or of a drawing or a map, of which the inside or the outside
     may not be mined."""
 
-    polygon: SurveyFile = key(survey(has_heights=False), "survey file of the polygons")
+    polygon: SurveyFile = key(survey(AreaFile), "survey file of the polygons")
     exclude: str = key(choice(*SIDES), "side of the polygons that may not be mined", label="May not be mined")
 
 
@@ -248,13 +214,12 @@ class ConstraintRules:
     must_mine: Optional[str] = key(text, "column: blocks with a number above 0 are in every shell", None)
     exclude: Optional[str] = key(text, "column: blocks with a number above 0 are in no shell", None)
     as_mined: Optional[SurveyFile] = key(survey(), "survey file: tonnes above it are gone", None)
-    original: Union[None, str, SurveyFile] = key(
+    original: Union[None, str, SurveyFile] = new(
         Kind(read_ground, survey().schema, write=write_ground),
         'original ground: survey file or `"blocks"`; requires `as_mined`',
         None,
         otherwise="that of `[table]`",
         name="topography",
-        since="0.2.0",
     )
     areas: tuple[Area, ...] = key(
         tables(Area), 'list of `{ polygon = .., exclude = .. }`: survey file, and `"inside"` or `"outside"`', ()

@@ -4,10 +4,10 @@ from __future__ import annotations
 
 import os
 import re
-from collections.abc import Callable, Iterator, Mapping, Sequence
+from collections.abc import Callable, Iterator, Mapping
 from dataclasses import MISSING, dataclass, field, fields, replace
 from decimal import Decimal
-from functools import lru_cache
+from functools import lru_cache, partial
 from pathlib import Path
 from types import MappingProxyType
 from typing import Any, Optional, TypeVar, Union, cast
@@ -17,10 +17,10 @@ from pitplan.core.revenue_factors import GREATEST_FACTOR, PER_MILLE, factor_text
 
 from .toml_text import LEAST_POWER, Absurd, Section
 
+Record = TypeVar("Record")
 Real = Union[int, Decimal]
 Schema = Mapping[str, Any]
-Read = Callable[[Section, str, Any], Any]
-Write = Callable[[Any, Path], Any]
+DECLARED = "key"
 # Greater than any amount that a mine has.
 GREATEST = 10**18
 # Farther than any place on the ground, in metres along an axis of any system of coordinates.
@@ -30,6 +30,18 @@ MOST_SHOWN = 80
 ONE_WORD = re.compile(r"\w[\w-]*")
 TEXT: Schema = {"type": "string", "minLength": 1}
 CODE: Schema = {"type": ["string", "integer"]}
+# What release 0.1.0 called keys and sections, and the names in their place. Errors name them; release 0.3.0 knows only the new ones.
+RENAMED = {
+    **{"money": "economics", "fixed": "constraints", "forced": "must_mine", "barred": "exclude", "surface": "as_mined"},
+    **{"pictures": "figures", "walls": "domains", "steps": "offsets", "face": "face_angle", "berm": "berm_width"},
+    **{"levels": "precedence_benches", "rock": "rock_type", "region": "domain", "absent": "missing_blocks"},
+    **{"factors": "revenue_factors", "rate": "discount_rate", "ore_per_year": "processing_capacity"},
+    **{"rock_per_year": "mining_capacity", "per_year": "capacity", "fixed_tail": "tail_grade", "capital": "capex"},
+    **{"mining_cost_per_level": "mining_cost_per_bench", "width": "min_mining_width", "bottom": "min_bottom_width"},
+    **{"sinking_rate": "vertical_advance_rate", "lag": "bench_lag", "metal_per_year": "max_metal_per_year"},
+    **{"rehandling_cost": "reclaim_cost", "least": "minimum", "sums": "limits", "chosen": "selected"},
+    **{"last": "ultimate_pit", "vary": "parameters", "by": "changes", "models": "realisations"},
+}
 
 
 @dataclass(frozen=True)
@@ -39,21 +51,22 @@ class Kind:
     Attributes
     ----------
     read : callable
-        Of a section, the name of a key in it and its value in TOML the value that the planner computes with. Raises PlanError with the key.
+        Takes a section, the name of a key in it and its value in TOML; returns the value that the planner computes with. Raises PlanError with
+        the key.
     schema : mapping
         The JSON Schema of what TOML may have.
     range : str
         What values are allowed, in words; empty if it is any, or any from 0 on.
     write : callable
-        Of a value, and of the folder to which paths are relative, what TOML has.
+        Takes a value, and the folder to which paths are relative; returns what TOML has.
     record : type, optional
-        Of a section or a list of sections their record.
+        The record of a section or of a list of sections.
     """
 
-    read: Read
+    read: Callable[[Section, str, Any], Any]
     schema: Schema
     range: str = ""
-    write: Write = lambda value, _: value
+    write: Callable[[Any, Path], Any] = lambda value, _: value
     record: Optional[type] = None
 
     @property
@@ -69,54 +82,29 @@ class Kind:
 
     @property
     def options(self) -> tuple[str, ...]:
-        """The words of a choice."""
         return tuple(self.schema.get("enum", ()))
 
+    def then(self, make: Callable[[Any], Any], **others: Any) -> Kind:
+        """The kind whose values `make` turns into others. A ValueError of it says what is wrong with the key; `others` are fields of the kind."""
 
-@dataclass(frozen=True)
-class Range:
-    """The numbers between two ends: `least` and `most` belong to them, `above` and `below` do not."""
+        def read(section: Section, key: str, value: Any) -> Any:
+            found = self.read(section, key, value)
+            try:
+                return make(found)
+            except ValueError as error:
+                raise section.wrong(key, str(error)) from error
 
-    least: Optional[Real] = None
-    most: Optional[Real] = None
-    above: Optional[Real] = None
-    below: Optional[Real] = None
+        return replace(self, read=read, **others)
 
-    def __contains__(self, value: Real) -> bool:
-        return (
-            (self.least is None or value >= self.least)
-            and (self.most is None or value <= self.most)
-            and (self.above is None or value > self.above)
-            and (self.below is None or value < self.below)
-        )
+    def where(self, holds: Callable[[Any], Any], why: str, **others: Any) -> Kind:
+        """The kind of those values alone for which `holds` is true. `why` is the error of others, with the value in place of {}."""
 
-    @property
-    def words(self) -> str:
-        """The range in words, as `above 0 to 1`."""
-        first = (
-            in_words(self.least)
-            if self.least is not None
-            else f"above {in_words(self.above)}"
-            if self.above is not None
-            else ""
-        )
-        if self.below is not None:
-            last = f"below {in_words(self.below)}"
-            return f"{first} {'to' if self.above is None else 'and'} {last}" if first else last
-        if self.most is not None:
-            return f"{first} to {in_words(self.most)}" if first else f"at most {in_words(self.most)}"
-        return f"{first} or more" if self.least is not None else first
+        def demanded(found: Any) -> Any:
+            if not holds(found):
+                raise ValueError(why.replace("{}", cut(str(found))))
+            return found
 
-    @property
-    def schema(self) -> dict[str, Real]:
-        """The range as JSON Schema has it."""
-        ends = {
-            "minimum": self.least,
-            "maximum": self.most,
-            "exclusiveMinimum": self.above,
-            "exclusiveMaximum": self.below,
-        }
-        return {key: end for key, end in ends.items() if end is not None}
+        return self.then(demanded, **others)
 
 
 def in_words(value: Optional[Real]) -> str:
@@ -142,14 +130,46 @@ def cut(text: str) -> str:
     return text if len(text) <= MOST_SHOWN else f"{text[:MOST_SHOWN]}.."
 
 
+@dataclass(frozen=True)
+class Range:
+    """The numbers between two ends: `least` and `most` belong to them, `above` and `below` do not. Only the lower end may be the only one."""
+
+    least: Optional[Real] = None
+    most: Optional[Real] = None
+    above: Optional[Real] = None
+    below: Optional[Real] = None
+
+    def __contains__(self, value: Real) -> bool:
+        return (
+            (self.least is None or value >= self.least)
+            and (self.most is None or value <= self.most)
+            and (self.above is None or value > self.above)
+            and (self.below is None or value < self.below)
+        )
+
+    @property
+    def words(self) -> str:
+        if self == Range():
+            return ""
+        first = f"above {in_words(self.above)}" if self.least is None else in_words(self.least)
+        if self.below is not None:
+            return f"{first} {'and' if self.least is None else 'to'} below {in_words(self.below)}"
+        if self.most is not None:
+            return f"{first} to {in_words(self.most)}"
+        return first if self.least is None else f"{first} or more"
+
+    @property
+    def schema(self) -> dict[str, Real]:
+        names = {"least": "minimum", "most": "maximum", "above": "exclusiveMinimum", "below": "exclusiveMaximum"}
+        return {name: end for it, name in names.items() if (end := getattr(self, it)) is not None}
+
+
 def as_number(section: Section, key: str, value: Any) -> Decimal:
     """A value as a decimal. Raises PlanError if it is no number, or beyond all amounts."""
     if isinstance(value, Absurd):
         raise section.wrong(key, f"{value!r} is not an amount: expected at most 10^18 and {-LEAST_POWER} decimals")
-    is_number = (
-        value.is_finite() if isinstance(value, Decimal) else isinstance(value, int) and not isinstance(value, bool)
-    )
-    if not is_number:
+    is_decimal = isinstance(value, Decimal) and value.is_finite()
+    if not is_decimal and (not isinstance(value, int) or isinstance(value, bool)):
         raise section.wrong(key, f"{shown(value)} is not a number")
     if not -GREATEST <= value <= GREATEST:
         raise section.wrong(key, f"{shown(value)} is beyond 10^18")
@@ -163,46 +183,34 @@ def number(
     above: Optional[Real] = None,
     below: Optional[Real] = None,
     example: str = "",
-    plain: Callable[[Decimal], Any] = Decimal,
 ) -> Kind:
-    """A number in a range; errors end with the example, and the planner computes with what `plain` makes of it."""
+    """A number in a range; errors end with the example."""
     span = Range(least, most, above, below)
-
-    def read(section: Section, key: str, value: Any) -> Any:
-        found = as_number(section, key, value)
-        if found not in span:
-            such = f", such as {example}" if example else ""
-            raise section.wrong(key, f"found {found}, expected {span.words}{such}")
-        return plain(found)
-
-    return Kind(read, {"type": "number", **span.schema}, "" if span == Range(0) else span.words)
+    such = f", such as {example}" if example else ""
+    read = Kind(as_number, {"type": "number", **span.schema}, "" if span == Range(0) else span.words)
+    return read.where(span.__contains__, f"found {{}}, expected {span.words}{such}")
 
 
 def amount(least: Optional[Real] = 0, most: Optional[Real] = None, **others: Any) -> Kind:
     """A number with which is computed in floating point."""
-    return number(None if "above" in others else least, most, plain=float, **others)
+    return number(None if "above" in others else least, most, **others).then(float)
 
 
 def whole(least: int, most: int) -> Kind:
-    """A whole number in a range."""
     span = Range(least, most)
 
     def read(section: Section, key: str, value: Any) -> int:
         if isinstance(value, bool) or not isinstance(value, int) or value not in span:
-            raise section.wrong(
-                key, f"found {shown(value)}, expected a whole number from {least:,} to {in_words(most)}"
-            )
+            expected = f"expected a whole number from {least:,} to {in_words(most)}"
+            raise section.wrong(key, f"found {shown(value)}, {expected}")
         return value
 
     return Kind(read, {"type": "integer", **span.schema}, span.words)
 
 
-def read_coordinate(section: Section, key: str, value: Any) -> Decimal:
-    """A place along an axis, in metres."""
-    metres = as_number(section, key, value)
-    if abs(metres) > FARTHEST:
-        raise section.wrong(key, f"found {metres}, expected a coordinate in metres, at most {FARTHEST:,}")
-    return metres
+coordinate = Kind(as_number, {"type": "number", "minimum": -FARTHEST, "maximum": FARTHEST}).where(
+    lambda it: abs(it) <= FARTHEST, f"found {{}}, expected a coordinate in metres, at most {FARTHEST:,}"
+)
 
 
 def read_text(section: Section, key: str, value: Any) -> str:
@@ -213,198 +221,196 @@ def read_text(section: Section, key: str, value: Any) -> str:
     return value
 
 
-def read_line(section: Section, key: str, value: Any) -> str:
-    """A text of one line."""
-    found = read_text(section, key, value)
-    if not found.isprintable():
-        raise section.wrong(key, "must be one line of plain text")
-    return found
-
-
-def read_word(section: Section, key: str, value: Any) -> str:
-    """A name by which columns of tables are named."""
-    found = read_text(section, key, value)
-    if not ONE_WORD.fullmatch(found):
-        raise section.wrong(key, f'found "{cut(found)}", expected one word of letters, digits, _ and -')
-    return found
-
-
 def read_truth(section: Section, key: str, value: Any) -> bool:
     if not isinstance(value, bool):
         raise section.wrong(key, "must be true or false")
     return value
 
 
-coordinate = Kind(read_coordinate, {"type": "number", "minimum": -FARTHEST, "maximum": FARTHEST})
-text = Kind(read_text, TEXT)
-line = Kind(read_line, TEXT)
-word = Kind(
-    read_word, {"type": "string", "pattern": f"^{ONE_WORD.pattern}$"}, "one word of letters, digits, `_` and `-`"
-)
 truth = Kind(read_truth, {"type": "boolean"})
+text = Kind(read_text, TEXT)
+line = text.where(str.isprintable, "must be one line of plain text")
+# Columns of tables are named by it.
+word = text.where(
+    ONE_WORD.fullmatch,
+    'found "{}", expected one word of letters, digits, _ and -',
+    schema={"type": "string", "pattern": f"^{ONE_WORD.pattern}$"},
+    range="one word of letters, digits, `_` and `-`",
+)
 
 
 def choice(*options: str) -> Kind:
-    """One of some words."""
-
-    def read(section: Section, key: str, value: Any) -> str:
-        found = read_text(section, key, value)
-        if found not in options:
-            raise section.wrong(key, f'found "{cut(found)}", expected one of {", ".join(options)}')
-        return found
-
     words = [f'`"{it}"`' for it in options]
-    return Kind(read, {"enum": [*options]}, f"{', '.join(words[:-1])} or {words[-1]}")
+    allowed = f"{', '.join(words[:-1])} or {words[-1]}"
+    why = f'found "{{}}", expected one of {", ".join(options)}'
+    return text.where(options.__contains__, why, schema={"enum": [*options]}, range=allowed)
 
 
-def items_of(section: Section, key: str, value: Any, of: str) -> Sequence[Any]:
-    """The items of a list. Raises PlanError if the value is no list, or empty; `of` says what it has, with an example."""
-    if not isinstance(value, list) or not value:
-        raise section.wrong(key, f"must be a list {of}")
-    return value
+def exactly(words: str, why: str, meant: Any) -> Kind:
+    """One text, and the value that it stands for. `why` is the error of anything else, with this in place of {}."""
+
+    def read(section: Section, key: str, value: Any) -> Any:
+        if value != words:
+            raise section.wrong(key, why.replace("{}", shown(value)))
+        return meant
+
+    return Kind(read, {"const": words}, write=lambda value, _: words)
+
+
+def array(item: Schema, least: int = 1, most: int = 0) -> dict[str, Any]:
+    """The JSON Schema of a list with at least and at most so many items; 0: any number."""
+    return {"type": "array", "items": item} | {key: n for key, n in (("minItems", least), ("maxItems", most)) if n}
 
 
 def listed(item: Kind, of: str, most: int = 0) -> Kind:
-    """A list; `of` says in errors what it has."""
+    """A list; `of` says in errors what it has, with an example."""
 
     def read(section: Section, key: str, value: Any) -> tuple[Any, ...]:
-        found = tuple(item.read(section, key, it) for it in items_of(section, key, value, of))
+        if not isinstance(value, list) or not value:
+            raise section.wrong(key, f"must be a list {of}")
+        found = tuple(item.read(section, key, it) for it in value)
         if most and len(found) > most:
             raise section.wrong(key, f"found {len(found):,}, expected {most:,} at most")
         return found
 
-    schema = {"type": "array", "items": item.schema, "minItems": 1} | ({"maxItems": most} if most else {})
-    return Kind(read, schema, item.range)
+    return Kind(read, array(item.schema, 1, most), item.range)
 
 
-def pairs(first: Kind, second: Kind, of: str) -> Kind:
-    """A list of pairs; `of` names the two."""
+def one_or_more(item: Kind, of: str) -> Kind:
+    """A value, or a list of such; `of` says in errors what is expected in place of an empty list."""
 
-    def read(section: Section, key: str, value: Any) -> tuple[tuple[Any, Any], ...]:
-        if not isinstance(value, list) or not value or any(not isinstance(it, list) or len(it) != 2 for it in value):
-            raise section.wrong(key, f"must be a list of pairs [{of}]")
-        return tuple((first.read(section, key, a), second.read(section, key, b)) for a, b in value)
+    def read(section: Section, key: str, value: Any) -> tuple[Any, ...]:
+        if value == []:
+            raise section.wrong(key, of)
+        return tuple(item.read(section, key, it) for it in (value if isinstance(value, list) else [value]))
 
-    schema = {
-        "type": "array",
-        "minItems": 1,
-        "items": {"type": "array", "items": [first.schema, second.schema], "minItems": 2, "maxItems": 2},
-    }
-    return Kind(read, schema)
+    return Kind(read, {"anyOf": [item.schema, array(item.schema)]}, item.range)
 
 
-def numbers(count: int, item: Kind, of: str = "numbers") -> Kind:
-    """A list of `count` numbers."""
+def numbers(count: int, item: Kind, why: str = "") -> Kind:
+    """A list of `count` values, by default numbers; `why` is the error of anything else."""
 
     def read(section: Section, key: str, value: Any) -> tuple[Any, ...]:
         if not isinstance(value, list) or len(value) != count:
-            raise section.wrong(key, f"must be a list of {count} {of}")
+            raise section.wrong(key, why or f"must be a list of {count} numbers")
         return tuple(item.read(section, key, it) for it in value)
 
-    return Kind(read, {"type": "array", "items": item.schema, "minItems": count, "maxItems": count}, item.range)
+    return Kind(read, array(item.schema, count, count), item.range)
+
+
+def pairs(first: Kind, second: Kind, of: str, twice: str = "", least: int = 1) -> Kind:
+    """A list of pairs; `of` names the two. If `twice` is given, they rise by their first values, each of which occurs once, or it is the error."""
+
+    def read(section: Section, key: str, value: Any) -> tuple[tuple[Any, Any], ...]:
+        if (
+            not isinstance(value, list)
+            or len(value) < least
+            or any(not isinstance(it, list) or len(it) != 2 for it in value)
+        ):
+            raise section.wrong(key, f"must be a list of pairs {of}")
+        found = tuple((first.read(section, key, a), second.read(section, key, b)) for a, b in value)
+        if twice and len({one for one, _ in found}) < len(found):
+            raise section.wrong(key, twice)
+        return tuple(sorted(found)) if twice else found
+
+    pair = {"type": "array", "items": [first.schema, second.schema], "minItems": 2, "maxItems": 2}
+    return Kind(read, array(pair, least))
 
 
 def by_rock(item: Kind) -> Kind:
     """A value for all blocks, or by the code of their rock type."""
 
-    def read(section: Section, key: str, value: Any) -> Any:
-        if isinstance(value, dict):
-            return {rock: item.read(section, key, it) for rock, it in value.items()}
-        return item.read(section, key, value)
+    def each(value: Any, make: Callable[[Any], Any]) -> Any:
+        return {rock: make(it) for rock, it in value.items()} if isinstance(value, dict) else make(value)
 
-    def write(value: Any, folder: Path) -> Any:
-        if isinstance(value, dict):
-            return {rock: item.write(it, folder) for rock, it in value.items()}
-        return item.write(value, folder)
-
-    either = [item.schema, {"type": "object", "additionalProperties": item.schema}]
-    return Kind(read, {"anyOf": either}, "; ".join(filter(None, [item.range, "by rock type"])), write)
+    return Kind(
+        lambda section, key, value: each(value, partial(item.read, section, key)),
+        {"anyOf": [item.schema, {"type": "object", "additionalProperties": item.schema}]},
+        "; ".join(filter(None, [item.range, "by rock type"])),
+        lambda value, folder: each(value, lambda it: item.write(it, folder)),
+    )
 
 
-def by_name(item: Kind) -> Kind:
-    """A table by names that the project gives."""
+def by_name(item: Kind, empty: str = "", of_metals: bool = False) -> Kind:
+    """A table by names that the project gives, or of its metals; `empty` is the error of one without any, if there must be one."""
 
     def read(section: Section, key: str, value: Any) -> dict[str, Any]:
-        inner = section.section(key)
+        inner, metals = section.section(key), section.source.metals
+        if empty and not inner.data:
+            raise section.wrong(key, empty)
+        for name in inner.data if of_metals else ():
+            if name not in metals:
+                raise section.wrong(key, f"found {name}, expected one of the [[metals]]: {', '.join(metals)}")
         return {name: item.read(inner, name, it) for name, it in inner.data.items()}
 
     def write(value: Mapping[str, Any], folder: Path) -> dict[str, Any]:
         return {name: item.write(it, folder) for name, it in value.items()}
 
-    return Kind(read, {"type": "object", "additionalProperties": item.schema}, item.range, write)
+    schema = {"type": "object", "additionalProperties": item.schema} | ({"minProperties": 1} if empty else {})
+    return Kind(read, schema, item.range, write, item.record)
 
 
-def read_codes(section: Section, key: str, value: Any, may_be_empty: bool = False) -> tuple[str, ...]:
-    items = value if isinstance(value, list) else [value]
-    if not items or any(isinstance(item, bool) or not isinstance(item, (str, int)) for item in items):
+def read_code(section: Section, key: str, value: Any, may_be_empty: bool = False) -> str:
+    if isinstance(value, bool) or not isinstance(value, (str, int)):
         raise section.wrong(key, "must be a code or a list of codes")
-    if any(item == "" and not may_be_empty or "\0" in str(item) for item in items):
+    if value == "" and not may_be_empty or "\0" in str(value):
         raise section.wrong(key, "codes may not be empty or contain a NUL byte")
-    return tuple(str(item) for item in items)
+    return str(value)
 
 
-codes = Kind(read_codes, {"anyOf": [CODE, {"type": "array", "items": CODE, "minItems": 1}]})
+codes = one_or_more(Kind(read_code, CODE), "must be a code or a list of codes")
+# A block without a resource class has the code "".
+codes_or_none = one_or_more(Kind(partial(read_code, may_be_empty=True), CODE), "must be a code or a list of codes")
 
 
 def factor(least: float = 0.0) -> Kind:
-    """A revenue factor, with at most three decimals."""
+    def made(found: Decimal) -> float:
+        if not 0 <= found <= GREATEST_FACTOR or found * PER_MILLE % 1:
+            raise ValueError(no_factor(found))
+        if of_decimal(found) < least:
+            raise ValueError(f"found {found}, expected {least} or more")
+        return of_decimal(found)
 
-    def read(section: Section, key: str, value: Any) -> float:
-        found = as_number(section, key, value)
-        try:
-            it = of_decimal(found)
-        except ValueError:
-            raise section.wrong(key, no_factor(found)) from None
-        if it < least:
-            raise section.wrong(key, f"found {found}, expected {least} or more")
-        return it
-
-    return Kind(read, {"type": "number", "minimum": least, "maximum": 100}, f"{least} or more" if least else "")
+    schema = {"type": "number", "minimum": least, "maximum": 100}
+    return Kind(as_number, schema, f"{least} or more" if least else "").then(made)
 
 
 def factors(least: float = 0.0, most: int = 0) -> Kind:
     """Revenue factors that rise: a list, or `{ from, to, step }`."""
     one = factor(least)
+    several = listed(one, "of revenue factors, or { from, to, step }")
 
     def read(section: Section, key: str, value: Any) -> tuple[float, ...]:
-        if isinstance(value, dict):
-            found = span_of(section, key, value)
-        elif not isinstance(value, list) or not value:
-            raise section.wrong(key, "must be a list of revenue factors, or { from, to, step }")
-        else:
-            found = [one.read(section, key, item) for item in value]
+        found = span_of(section, key, one) if isinstance(value, dict) else several.read(section, key, value)
         rising = tuple(sorted(set(found)))
-        if rising[0] < least:
-            raise section.wrong(key, f"found {factor_text(rising[0])}, expected {least} or more for each")
         if most and len(rising) > most:
             raise section.wrong(key, f"found {len(rising):,}, expected {most:,} at most")
         return rising
 
     ends = {"type": "object", "required": ["from", "to"], "additionalProperties": False}
     ends["properties"] = {name: factor().schema for name in ("from", "to", "step")}
-    either = {"anyOf": [{"type": "array", "items": one.schema, "minItems": 1}, ends]}
-    return Kind(read, either, ", ".join(filter(None, [one.range, f"{most:,} at most" if most else ""])))
+    allowed = ", ".join(filter(None, [one.range, f"{most:,} at most" if most else ""]))
+    return Kind(read, {"anyOf": [several.schema, ends]}, allowed)
 
 
-def span_of(section: Section, key: str, value: dict[str, Any]) -> list[float]:
-    """The revenue factors of `{ from, to, step }`."""
-    inner, one = Section(section.source, section.inner(key), value), factor()
+def span_of(section: Section, key: str, one: Kind) -> list[float]:
+    """The revenue factors of `{ from, to, step }`, with ends of a kind."""
+    inner = section.section(key)
     first, last = (one.read(inner, name, inner.get(name)) for name in ("from", "to"))
     step = factor(of_per_mille(1)).read(inner, "step", inner.get("step"))
     inner.finish()
     if first > last:
-        raise section.wrong(
-            key, f"found none from {factor_text(first)} to {factor_text(last)}: from may not be above to"
-        )
+        why = f"found none from {factor_text(first)} to {factor_text(last)}: from may not be above to"
+        raise section.wrong(key, why)
     if first < last and per_mille(step) > per_mille(last) - per_mille(first):
         meant = f" (did you mean {factor_text(step / PER_MILLE)}?)" if step % 1 == 0 else ""
-        said = f"found {shown(value['step'])}, expected at most {factor_text(last - first)}, from `from` to `to`"
+        said = f"found {shown(inner.data['step'])}, expected at most {factor_text(last - first)}, from `from` to `to`"
         raise inner.wrong("step", f"{said}{meant}")
     return list(map(of_per_mille, range(per_mille(first), per_mille(last) + 1, per_mille(step))))
 
 
 def no_factor(value: Decimal) -> str:
-    """Why a number is no revenue factor; of 800, perhaps a factor in per mille, the one that it stands for."""
+    """Why a number is no revenue factor. For 800, perhaps a factor in per mille, it says 0.80 too."""
     if 0 <= value <= GREATEST_FACTOR:
         return f"found {shown(value)}, expected at most three decimals"
     said = f"found {shown(value)}, expected a revenue factor from 0 to 100; 1.0 is the base price"
@@ -427,23 +433,7 @@ def path_of(section: Section, key: str, value: Any, is_folder: bool = False) -> 
 
 
 file = Kind(path_of, TEXT, write=place)
-folder = Kind(lambda section, key, value: path_of(section, key, value, is_folder=True), TEXT, write=place)
-
-
-Record = TypeVar("Record")
-DECLARED = "key"
-# What release 0.1.0 called keys and sections, and the names in their place. Errors name them; release 0.3.0 knows only the new ones.
-RENAMED = {
-    **{"money": "economics", "fixed": "constraints", "forced": "must_mine", "barred": "exclude", "surface": "as_mined"},
-    **{"pictures": "figures", "walls": "domains", "steps": "offsets", "face": "face_angle", "berm": "berm_width"},
-    **{"levels": "precedence_benches", "rock": "rock_type", "region": "domain", "absent": "missing_blocks"},
-    **{"factors": "revenue_factors", "rate": "discount_rate", "ore_per_year": "processing_capacity"},
-    **{"rock_per_year": "mining_capacity", "per_year": "capacity", "fixed_tail": "tail_grade", "capital": "capex"},
-    **{"mining_cost_per_level": "mining_cost_per_bench", "width": "min_mining_width", "bottom": "min_bottom_width"},
-    **{"sinking_rate": "vertical_advance_rate", "lag": "bench_lag", "metal_per_year": "max_metal_per_year"},
-    **{"rehandling_cost": "reclaim_cost", "least": "minimum", "sums": "limits", "chosen": "selected"},
-    **{"last": "ultimate_pit", "vary": "parameters", "by": "changes", "models": "realisations"},
-}
+folder = Kind(partial(path_of, is_folder=True), TEXT, write=place)
 
 
 @dataclass(frozen=True)
@@ -493,7 +483,6 @@ class Key:
         return self.default is MISSING
 
     def unit_of(self, currency: str = "currency", per: str = "unit of metal", grade: str = "unit of grade") -> str:
-        """The unit in words."""
         return self.unit.format(currency=currency, per=per, grade=grade)
 
 
@@ -502,6 +491,13 @@ class Part:
     """A record whose keys lie in the section of another."""
 
     record: type
+
+
+@dataclass(frozen=True)
+class Rest:
+    """The keys of a section that no other field has: names that the project gives."""
+
+    kind: Kind
 
 
 def key(
@@ -515,15 +511,24 @@ def key(
     return field(default=value, metadata={DECLARED: declared})
 
 
+# Declares a key that release 0.2.0 was the first to have.
+new = partial(key, since="0.2.0")
+
+
 def part(record: type) -> Any:
     """Declares a field as a record whose keys lie in the same section."""
     return field(default_factory=record, metadata={DECLARED: Part(record)})
 
 
+def rest(kind: Kind) -> Any:
+    """Declares a field as a dict of all keys of the section that no other field has, with values of a kind."""
+    return field(default_factory=dict, metadata={DECLARED: Rest(kind)})
+
+
 @lru_cache(maxsize=None)
 def keys_of(record: type) -> Mapping[str, Key]:
     """The keys of a section by their names in the file, in the order in which they are written."""
-    return MappingProxyType({it.name: it for _, it in declared(record) if isinstance(it, Key)})
+    return MappingProxyType({it.name: it for _, it in declared(record)})
 
 
 @lru_cache(maxsize=None)
@@ -531,21 +536,22 @@ def declared(record: type) -> tuple[tuple[str, Key], ...]:
     """The fields of a record, and of the records in it, with their keys."""
     found: list[tuple[str, Key]] = []
     for name, it in declarations(record):
-        found += declared(it.record) if isinstance(it, Part) else [(name, it)]
+        found += declared(it.record) if isinstance(it, Part) else [(name, it)] if isinstance(it, Key) else []
     return tuple(found)
 
 
 @lru_cache(maxsize=None)
-def declarations(record: type) -> tuple[tuple[str, Union[Key, Part]], ...]:
-    """The fields of a record that are keys, or records with keys of the same section."""
-    found = ((it.name, it.metadata[DECLARED]) for it in fields(record) if DECLARED in it.metadata)
-    return tuple((name, it if isinstance(it, Part) else completed(it, name)) for name, it in found)
-
-
-def completed(declaration: Key, name: str) -> Key:
-    """A declaration with its name and label, which are those of its field unless it gives others."""
-    known = declaration.name or name
-    return replace(declaration, name=known, label=declaration.label or known.replace("_", " ").capitalize())
+def declarations(record: type) -> tuple[tuple[str, Union[Key, Part, Rest]], ...]:
+    """The fields of a record that are declared. Name and label of a key are those of its field unless it gives others."""
+    found = []
+    for it in fields(record):
+        declaration = it.metadata.get(DECLARED)
+        if isinstance(declaration, Key):
+            name = declaration.name or it.name
+            label = declaration.label or name.replace("_", " ").capitalize()
+            declaration = replace(declaration, name=name, label=label)
+        found += [(it.name, declaration)] if declaration else []
+    return tuple(found)
 
 
 def read(record: Callable[..., Record], section: Section, **others: Any) -> Record:
@@ -563,6 +569,10 @@ def read_part(record: Callable[..., Record], section: Section, others: Mapping[s
     for name, it in declarations(cast(type, record)):
         if isinstance(it, Part):
             values[name] = read_part(it.record, section, {})
+        elif isinstance(it, Rest):
+            named = {key: value for key, value in section.data.items() if key not in section.asked}
+            values[name] = {key: it.kind.read(section, key, value) for key, value in named.items()}
+            section.asked |= named.keys()
         else:
             values |= {name: value for value in given(it, section)}
     return record(**values)
@@ -588,6 +598,8 @@ def write(value: Any, folder: Path) -> dict[str, Any]:
         held = getattr(value, name)
         if isinstance(it, Part):
             found |= write(held, folder)
+        elif isinstance(it, Rest):
+            found |= by_name(it.kind).write(held, folder)
         elif not is_left_out(it, held, value):
             found[it.name] = it.kind.write(held, folder)
     return found
@@ -595,32 +607,56 @@ def write(value: Any, folder: Path) -> dict[str, Any]:
 
 def is_left_out(it: Key, value: Any, record: Any) -> bool:
     """Whether a value is left out of the text: it is empty, or a default that the record does not write."""
-    is_number = isinstance(value, (bool, int, float, Decimal))
     is_quiet = it.is_quiet(record) if callable(it.is_quiet) else it.is_quiet
-    return not is_number and not value or bool(is_quiet and value == it.default)
+    return is_empty(value) or bool(is_quiet and value == it.default)
+
+
+def is_empty(value: Any) -> bool:
+    return not isinstance(value, (bool, int, float, Decimal)) and not value
 
 
 def table(record: type) -> Kind:
-    """A section within another."""
     return Kind(
         lambda section, name, _: read(record, section.section(name)), schema(record), write=write, record=record
     )
 
 
 def tables(record: type) -> Kind:
-    """A list of sections."""
-
     def read_all(section: Section, name: str, _: Any) -> tuple[Any, ...]:
         return tuple(read(record, it) for it in section.sections(name))
 
     def write_all(values: tuple[Any, ...], folder: Path) -> list[dict[str, Any]]:
         return [write(it, folder) for it in values]
 
-    return Kind(read_all, {"type": "array", "items": schema(record), "minItems": 1}, write=write_all, record=record)
+    return Kind(read_all, array(schema(record)), write=write_all, record=record)
+
+
+def inline(record: type) -> Kind:
+    """A table that forms and the reference show as one value."""
+    return replace(table(record), record=None)
+
+
+def either(plain: Kind, record: Any, *names: str) -> Kind:
+    """A plain value, or a table with the keys of a record. If `names` are given, a plain value makes a record, and is the value of these fields;
+    a record with nothing else than the first one is written as a plain value."""
+
+    def read_one(section: Section, key: str, value: Any) -> Any:
+        if isinstance(value, dict):
+            return read(record, section.section(key))
+        found = plain.read(section, key, value)
+        return record(**dict.fromkeys(names, found)) if names else found
+
+    def write_one(value: Any, folder: Path) -> Any:
+        if not isinstance(value, record):
+            return plain.write(value, folder)
+        first = [it.name for name, it in declared(record) if name in names[:1]]
+        found = write(value, folder)
+        return found[first[0]] if first == [*found] else found
+
+    return Kind(read_one, {"anyOf": [plain.schema, schema(record)]}, write=write_one)
 
 
 def schema(record: type) -> dict[str, Any]:
-    """The JSON Schema of a section."""
     keys = keys_of(record)
     properties: dict[str, Any] = {}
     for name, it in keys.items():
@@ -629,13 +665,10 @@ def schema(record: type) -> dict[str, Any]:
             properties[name]["default"] = it.kind.write(it.default, Path("."))
         if it.short and it.kind.record:
             properties[it.short] = {**schema(it.kind.record), "description": sentence(it)}
+    others = [it.kind.schema for _, it in declarations(record) if isinstance(it, Rest)]
     required = [name for name, it in keys.items() if it.is_required and not it.of_processes]
-    found = {"type": "object", "properties": properties, "additionalProperties": False}
+    found = {"type": "object", "properties": properties, "additionalProperties": others[0] if others else False}
     return found | ({"required": required} if required else {})
-
-
-def is_empty(value: Any) -> bool:
-    return value is None or not isinstance(value, (bool, int, float, Decimal)) and not value
 
 
 def sentence(it: Key) -> str:

@@ -1,10 +1,11 @@
-"""Keys of a project that the command line sets in place of those of its file."""
+"""Keys of a project that are set, or scaled, in place of those of its file."""
 
 from __future__ import annotations
 
+from collections.abc import Iterable, Sequence
 from copy import deepcopy
 from decimal import Decimal
-from typing import Any, Iterable
+from typing import Any
 
 from pitplan.errors import PlanError
 
@@ -38,84 +39,25 @@ def overridden(data: dict[str, Any], assignments: Iterable[str]) -> dict[str, An
         parts = [part.strip() for part in key.split(".")]
         if not sign or not all(parts):
             raise PlanError(f"--set {assignment}: expected KEY=VALUE, {EXAMPLE}")
-        entry = found
-        for part in parts[:-1]:
-            entry = inner(entry, part, assignment)
-        entry[parts[-1]] = value_of(text)
+        at(found, parts[:-1], f"--set {assignment}", is_made=True)[parts[-1]] = value_of(text)
     return found
 
 
-def inner(entry: Any, part: str, assignment: str) -> Any:
-    """The section or list of a name within a section, which is made if it is missing; or the entry of a list."""
+def at(entry: Any, path: Sequence[str], where: str, is_made: bool = False) -> dict[str, Any]:
+    """The section at a path, which may be made if it is missing. Raises PlanError if there is none."""
+    for part in path:
+        if is_made and isinstance(entry, dict):
+            entry.setdefault(part, {})
+        entry = existing(entry, part, where)
+        if not isinstance(entry, (dict, list)):
+            raise PlanError(f"{where}: {part} is {entry!r}, and no section: expected KEY=VALUE, {EXAMPLE}")
     if isinstance(entry, list):
-        names = [str(it.get("name", number)) if isinstance(it, dict) else "" for number, it in enumerate(entry, 1)]
-        if part in names:
-            return entry[names.index(part)]
-        if part.isdecimal() and 1 <= int(part) <= len(entry):
-            return entry[int(part) - 1]
-        raise PlanError(f"--set {assignment}: no entry {part}: expected one of {', '.join(names)}")
-    within = entry.setdefault(part, {})
-    if not isinstance(within, (dict, list)):
-        raise PlanError(f"--set {assignment}: {part} is {within!r}, and no section: expected KEY=VALUE, {EXAMPLE}")
-    return within
-
-
-def scaled(data: dict[str, Any], path: str, by: Decimal, where: str) -> dict[str, Any]:
-    """The sections of a project with the numbers of a key times a factor.
-
-    Parameters
-    ----------
-    data : dict
-        The sections, as TOML has them.
-    path : str
-        Section and key with points between, as of `overridden`: `processes.mill.cost`.
-    by : Decimal
-        Of a table by rock type all numbers change, of a list all, and of pairs the second ones.
-    where : str
-        What errors begin with.
-
-    Raises
-    ------
-    PlanError
-        If there is no such key, or it has no number.
-    """
-    found = deepcopy(data)
-    *sections, key = path.split(".")
-    entry: Any = found
-    for part in sections:
-        entry = existing(entry, part, f"{where} {path}")
-    value = existing(entry, key, f"{where} {path}")
-    if not has_numbers(value):
-        raise PlanError(f"{where} {path}: found {value!r}, expected a number, or a table or list of numbers")
-    if isinstance(entry, list):
-        raise PlanError(f"{where} {path}: names an entry of a list, expected one of its keys")
-    entry[key] = times(value, by)
-    return found
-
-
-def assigned(data: dict[str, Any], path: str, value: Decimal, where: str) -> dict[str, Any]:
-    """The sections of a project with another number for a key that has one; of a list with one pair the second number.
-
-    Raises
-    ------
-    PlanError
-        If there is no such key, or it has not one number.
-    """
-    found = deepcopy(data)
-    *sections, key = path.split(".")
-    entry: Any = found
-    for part in sections:
-        entry = existing(entry, part, f"{where} {path}")
-    before = existing(entry, key, f"{where} {path}")
-    is_pair = isinstance(before, list) and len(before) == 1 and isinstance(before[0], list) and len(before[0]) == 2
-    if isinstance(entry, list) or not (is_number(before) or is_pair and has_numbers(before)):
-        raise PlanError(f"{where} {path}: found {before!r}, expected a key with one number")
-    entry[key] = [[before[0][0], value]] if is_pair else value
-    return found
+        raise PlanError(f"{where}: names an entry of a list, expected one of its keys")
+    return entry  # type: ignore[no-any-return]
 
 
 def existing(entry: Any, part: str, where: str) -> Any:
-    """A key of a section or an entry of a list. Raises PlanError if there is none."""
+    """A key of a section, or an entry of a list by its name or its number from 1. Raises PlanError if there is none."""
     if isinstance(entry, dict):
         if part in entry:
             return entry[part]
@@ -130,6 +72,51 @@ def existing(entry: Any, part: str, where: str) -> Any:
         if part.isdecimal() and 1 <= int(part) <= len(entry):
             return entry[int(part) - 1]
     raise PlanError(f"{where}: found {part}, expected one of {', '.join(names)}")
+
+
+def scaled(data: dict[str, Any], path: str, by: Decimal, where: str) -> dict[str, Any]:
+    """The sections of a project with the numbers of a key times a factor.
+
+    Parameters
+    ----------
+    data : dict
+        The sections, as TOML has them.
+    path : str
+        Section and key with points between, as of `overridden`: `processes.mill.cost`.
+    by : Decimal
+        All numbers of a table by rock type or of a list change, and the second ones of pairs.
+    where : str
+        What errors begin with.
+
+    Raises
+    ------
+    PlanError
+        If there is no such key, or it has no number.
+    """
+    found = deepcopy(data)
+    *sections, key = path.split(".")
+    entry = at(found, sections, f"{where} {path}")
+    value = existing(entry, key, f"{where} {path}")
+    if not has_numbers(value):
+        raise PlanError(f"{where} {path}: found {value!r}, expected a number, or a table or list of numbers")
+    entry[key] = times(value, by)
+    return found
+
+
+def assigned(data: dict[str, Any], path: str, value: Decimal, where: str) -> dict[str, Any]:
+    """The sections of a project with another number for a key that has one; of a list with one pair the second number.
+
+    Raises PlanError if there is no such key, or it has not one number.
+    """
+    found = deepcopy(data)
+    *sections, key = path.split(".")
+    entry = at(found, sections, f"{where} {path}")
+    before = existing(entry, key, f"{where} {path}")
+    is_pair = isinstance(before, list) and len(before) == 1 and isinstance(before[0], list) and len(before[0]) == 2
+    if not is_number(before) and not (is_pair and has_numbers(before)):
+        raise PlanError(f"{where} {path}: found {before!r}, expected a key with one number")
+    entry[key] = [[before[0][0], value]] if is_pair else value
+    return found
 
 
 def is_number(value: Any) -> bool:

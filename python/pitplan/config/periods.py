@@ -20,8 +20,8 @@ from numpy.typing import NDArray
 from pitplan.errors import PlanError
 
 from .economics import MOST_YEARS
-from .keys import Kind, amount, by_name, key, number, whole
-from .material import FEED_BY_PROCESS, LIMITS, FeedGrade, PlaceLimit
+from .keys import amount, by_name, key, number, whole
+from .material import FEED_BY_PROCESS, LIMITS, FeedGrade, Limit
 from .toml_text import Section
 
 Value = TypeVar("Value")
@@ -29,18 +29,6 @@ YEAR, PERIOD = "year", "period"
 MONTHS = 12
 # The months of periods that are parts of a year.
 PARTS = (1, 2, 3, 4, 6)
-
-
-def read_months(section: Section, name: str, value: Any) -> int:
-    """The months of a period: a part of a year, or whole years."""
-    months: int = MONTHS_OF_PERIOD.read(section, name, value)
-    if months % MONTHS and months not in PARTS:
-        parts = ", ".join(map(str, PARTS))
-        raise section.wrong(name, f"found {months}, expected {parts}, 12 or a multiple of 12")
-    return months
-
-
-MONTHS_OF_PERIOD = whole(1, MOST_YEARS * MONTHS)
 
 
 @dataclass(frozen=True)
@@ -55,8 +43,11 @@ class Period:
         otherwise="those of one period",
     )
     period_months: int = key(
-        Kind(
-            read_months, {"anyOf": [{"enum": [*PARTS]}, {"type": "integer", "multipleOf": MONTHS, "minimum": MONTHS}]}
+        whole(1, MOST_YEARS * MONTHS).where(
+            lambda it: it % MONTHS == 0 or it in PARTS,
+            "found {}, expected 1, 2, 3, 4, 6, 12 or a multiple of 12",
+            schema={"anyOf": [{"enum": [*PARTS]}, {"type": "integer", "multipleOf": MONTHS, "minimum": MONTHS}]},
+            range="",
         ),
         "length of a period: 1, 2, 3, 4, 6, 12 or a multiple of 12",
         MONTHS,
@@ -80,12 +71,10 @@ class Period:
     feed: tuple[FeedGrade, ...] = key(
         FEED_BY_PROCESS, "[limits of the feed](#limits-of-the-feed); with `[[processes]]` by process", (), otherwise=""
     )
-    stockpiles: tuple[PlaceLimit, ...] = key(
+    stockpiles: tuple[Limit, ...] = key(
         LIMITS, "`{ low_grade = { min = .., max = .. } }`", (), "t of feed at the end", otherwise=""
     )
-    dumps: tuple[PlaceLimit, ...] = key(
-        LIMITS, "`{ north = { min = .., max = .. } }`", (), "t of waste/year", otherwise=""
-    )
+    dumps: tuple[Limit, ...] = key(LIMITS, "`{ north = { min = .., max = .. } }`", (), "t of waste/year", otherwise="")
     prices: dict[str, Decimal] = key(
         by_name(number(0)), "by metal, in the unit of its price", {}, "{currency}/{per}", label="Price", otherwise=""
     )
@@ -108,7 +97,6 @@ class Period:
 
     @property
     def count(self) -> int:
-        """The number of its periods."""
         return self.years * MONTHS // self.period_months
 
     @property
@@ -135,7 +123,6 @@ class Calendar:
 
     @property
     def is_yearly(self) -> bool:
-        """Whether each period is a year."""
         return all(it.period_months == MONTHS for it in self.periods)
 
     @property
@@ -145,11 +132,7 @@ class Calendar:
 
     def length(self, number: int) -> float:
         """Returns the length in years of a period, from 1."""
-        for entry in self.periods:
-            number -= entry.count
-            if number <= 0:
-                return entry.length
-        return self.periods[-1].length if self.periods else 1.0
+        return self.listed[min(number, len(self.listed)) - 1].length if self.periods else 1.0
 
     def lengths(self, count: int) -> NDArray[np.float64]:
         """Returns the length of each period in years, shape (count)."""
@@ -240,7 +223,6 @@ def sections_of(path: Path) -> list[Section]:
 
 
 def entry_of(fields: dict[Any, Any], path: Path, row: int) -> dict[str, Any]:
-    """Returns the keys of a row."""
     if None in fields or None in fields.values():
         raise PlanError(f"{path} row {row}: found another number of fields than the header has columns")
     found: dict[str, Any] = {}

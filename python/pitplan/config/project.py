@@ -12,11 +12,11 @@ from pitplan.core.revenue_factors import BASE_PRICE
 from pitplan.errors import PlanError
 
 from . import keys, toml_text
-from .agreement import demand_agreement, demand_calendar
+from .agreement import demand, demand_calendar, faults_of
 from .economics import ALL, CashFlowRules, Economics, Metal, Process
 from .geometry import ConstraintRules, Haulage, Slopes
-from .keys import Key, Kind, amount, codes, key, listed, tables, text
-from .material import CLASSES, ClassRules, Dump, FeedGrade
+from .keys import Key, Kind, amount, choice, inline, key, listed, new, one_or_more, tables, text
+from .material import ClassRules, Dump, FeedGrade
 from .overrides import LISTS, overridden
 from .periods import Calendar, Period, sections_of
 from .schedule import ScheduleRules
@@ -27,22 +27,6 @@ from .toml_text import Section, Source, as_toml
 
 MOST_LEVELS_SHOWN = 7
 FORMATS = ("pdf", "svg")
-
-
-def read_metal(section: Section, name: str, value: Any) -> str:
-    """One of the project's metals."""
-    found: str = text.read(section, name, value)
-    if found not in section.source.metals:
-        raise section.wrong(name, f'found "{found}", expected one of {", ".join(section.source.metals)}')
-    return found
-
-
-def read_formats(section: Section, name: str, value: Any) -> tuple[str, ...]:
-    found: tuple[str, ...] = codes.read(section, name, value)
-    for it in found:
-        if it not in FORMATS:
-            raise section.wrong(name, f'found "{it}", expected one of {", ".join(FORMATS)}')
-    return found
 
 
 @dataclass(frozen=True)
@@ -58,9 +42,9 @@ class FigureRules:
     )
     north: Optional[float] = key(amount(None), "northing of section A", None, "m", otherwise="by the pit")
     east: Optional[float] = key(amount(None), "easting of section B", None, "m", otherwise="by the pit")
-    metal: Optional[str] = key(Kind(read_metal, text.schema), "whose grades sections show", None, otherwise="the first")
+    metal: Optional[str] = key(text, "whose grades sections show", None, otherwise="the first")
     formats: tuple[str, ...] = key(
-        Kind(read_formats, {"anyOf": [{"enum": [*FORMATS]}, {"type": "array", "items": {"enum": [*FORMATS]}}]}),
+        replace(one_or_more(choice(*FORMATS), "must be a format or a list of formats"), range=""),
         '`"pdf"`, `"svg"`, besides PNG',
         (),
     )
@@ -72,8 +56,6 @@ OUTPUT = "plan"
 
 @dataclass(frozen=True)
 class Output:
-    """`[output]`."""
-
     folder: str = key(keys.text, "output folder of commands without `--out`", OUTPUT)
 
 
@@ -114,22 +96,22 @@ class Project:
     table: TableColumns = key(keys.table(TableColumns), "the block model", in_python=None)
     grid: GridRules = key(keys.table(GridRules), "the grid of its blocks", GridRules())
     economics: Economics = key(keys.table(Economics), "costs and cut-off", in_python=None)
-    classes: ClassRules = key(CLASSES, "treatment of resource classes", ClassRules(), is_quiet=True, since="0.2.0")
+    classes: ClassRules = new(inline(ClassRules), "treatment of resource classes", ClassRules(), is_quiet=True)
     metals: tuple[Metal, ...] = key(tables(Metal), "metals that are sold", in_python=())
     processes: tuple[Process, ...] = key(tables(Process), "processes", ())
     slopes: Slopes = key(keys.table(Slopes), "slopes by domain", in_python=None)
     shells: ShellRules = key(OF_SHELLS, "nested shells and discounting", in_python=None)
-    haulage: Optional[Haulage] = key(keys.table(Haulage), "haulage to one exit", None, since="0.2.0")
+    haulage: Optional[Haulage] = new(keys.table(Haulage), "haulage to one exit", None)
     constraints: Optional[ConstraintRules] = key(
         keys.table(ConstraintRules), "what must be mined, and what may not", None
     )
     pushbacks: Optional[PushbackRules] = key(keys.table(PushbackRules), "pushbacks", None)
     schedule: Optional[ScheduleRules] = key(keys.table(ScheduleRules), "limits of schedules", None)
-    dumps: tuple[Dump, ...] = key(tables(Dump), "waste dumps", (), since="0.2.0")
-    cash_flow: CashFlowRules = key(
-        keys.table(CashFlowRules), "taxes and rates of the cash flow", CashFlowRules(), is_quiet=True, since="0.2.0"
+    dumps: tuple[Dump, ...] = new(tables(Dump), "waste dumps", ())
+    cash_flow: CashFlowRules = new(
+        keys.table(CashFlowRules), "taxes and rates of the cash flow", CashFlowRules(), is_quiet=True
     )
-    price_paths: Optional[PricePaths] = key(keys.table(PricePaths), "mean-reverting prices", None, since="0.2.0")
+    price_paths: Optional[PricePaths] = new(keys.table(PricePaths), "mean-reverting prices", None)
     sensitivity: Optional[SensitivityRules] = key(keys.table(SensitivityRules), "parameters that vary", None)
     scenarios: Optional[Scenarios] = key(keys.table(Scenarios), "simulated models and price decks", None)
     figures: Optional[FigureRules] = key(keys.table(FigureRules), "what plans and sections show", None)
@@ -172,7 +154,6 @@ class Project:
 
     @property
     def limited_columns(self) -> tuple[str, ...]:
-        """The columns of the table that schedules limit by sums or head grades."""
         sums = self.schedule.limits if self.schedule else ()
         return tuple(dict.fromkeys([*(it.column for it in sums), *self.graded_columns]))
 
@@ -180,7 +161,7 @@ class Project:
     def dump_columns(self) -> tuple[str, ...]:
         """The columns of the table by whose grades dumps accept blocks, except those of metals."""
         metals = [metal.column for metal in self.metals]
-        named = (grade.column for dump in self.dumps for grade in dump.accepts.grades)
+        named = (grade.name for dump in self.dumps for grade in dump.accepts.grades)
         return tuple(name for name in dict.fromkeys(named) if name not in metals)
 
     @property
@@ -242,30 +223,27 @@ class Project:
         found = of_data(data, self.path, f"{self.path} as changed in Python")
         if section != "shells":
             found = replace(found, shells=self.shells)
-        elif "revenue_factors" not in data[section] or data[section]["revenue_factors"] == before.get(
-            "revenue_factors"
-        ):
+        elif data[section].get("revenue_factors") in (None, before.get("revenue_factors")):
             found = replace(found, shells=replace(found.shells, base_price_added=self.shells.base_price_added))
         return replace(found, folder=self.folder, solver=self.solver)
 
     def of_process(self, process: Process) -> Project:
-        metals = tuple(
-            replace(metal.sold_by(process.name), recovery=process.recovery.get(metal.name, Decimal(0)))
-            for metal in self.metals
-        )
-        return replace(
-            self, economics=replace(self.economics, processing_cost=process.cost), metals=metals, processes=()
-        )
+        money, recovery = replace(self.economics, processing_cost=process.cost), process.recovery
+        sold = {metal.name: metal.sold_by(process.name) for metal in self.metals}
+        metals = tuple(replace(it, recovery=recovery.get(name, Decimal(0))) for name, it in sold.items())
+        return replace(self, economics=money, metals=metals, processes=())
 
 
 PERIODS = Key(
-    Kind(keys.path_of, {"anyOf": [keys.TEXT, {"type": "array", "items": keys.schema(Period)}]}, record=Period),
+    Kind(keys.path_of, {"anyOf": [keys.TEXT, keys.array(keys.schema(Period), 0)]}, record=Period),
     "a [table of periods](#periods-in-a-table), in place of `[[periods]]`",
     None,
+    name="periods",
+    label="Periods",
     since="0.2.0",
 )
 # The sections and keys at the top of a file.
-SECTIONS: Mapping[str, Key] = {**keys.keys_of(Project), "periods": replace(PERIODS, name="periods", label="Periods")}
+SECTIONS: Mapping[str, Key] = {**keys.keys_of(Project), "periods": PERIODS}
 
 
 def record_at(path: str) -> type:
@@ -280,7 +258,6 @@ def record_at(path: str) -> type:
 
 
 def schema() -> dict[str, Any]:
-    """The JSON Schema of a project.toml, by which editors complete and check keys."""
     found = keys.schema(Project)
     found["properties"]["periods"] = {**PERIODS.kind.schema, "description": PERIODS.meaning}
     found["required"] = [name for name in found["required"] if name != "title"]
@@ -340,12 +317,17 @@ def validated(project: Project) -> Project:
         If a value is one that no file may have, with the section and the key.
     """
     source = f"{project.path} as changed in Python"
-    found = of_data(toml_text.parsed(project.to_toml(), source), project.path, source)
-    kept, factors = project.shells, tuple(
-        it for it in found.shells.revenue_factors if it in project.shells.revenue_factors
-    )
+    return planned_as(project, of_data(toml_text.parsed(project.to_toml(), source), project.path, source))
+
+
+def planned_as(project: Project, found: Project) -> Project:
+    """Returns a project that was read again with the revenue factors, folder and solver of the first one."""
+    kept = project.shells
     shells = replace(
-        found.shells, revenue_factors=factors, selected=kept.selected, base_price_added=kept.base_price_added
+        found.shells,
+        revenue_factors=tuple(sorted({float(it) for it in kept.revenue_factors})),
+        selected=kept.selected,
+        base_price_added=kept.base_price_added,
     )
     return replace(found, shells=shells, folder=project.folder, solver=project.solver)
 
@@ -368,7 +350,7 @@ def of_data(data: dict[str, Any], path: Path, source: Optional[str] = None, text
     shells = replace(shells, revenue_factors=factors, base_price_added=BASE_PRICE not in given, calendar=calendar)
     metals = tuple(with_terms_of_all(metal, processes) for metal in project.metals)
     project = replace(project, shells=shells, metals=metals)
-    demand_agreement(project, of)
+    demand(faults_of(project, data), of)
     return project
 
 
@@ -376,9 +358,8 @@ def read_calendar(top: Section) -> Calendar:
     """Reads `[[periods]]`, or the table that `periods` names."""
     if not top.has("periods"):
         return Calendar()
-    path = None
-    if isinstance(top.get("periods"), str):
-        path = keys.path_of(top, "periods", top.get("periods"))
+    given = top.get("periods")
+    path = keys.path_of(top, "periods", given) if isinstance(given, str) else None
     sections = top.sections("periods") if path is None else sections_of(path)
     periods = tuple(keys.read(Period, it) for it in sections)
     demand_calendar(periods, sections)

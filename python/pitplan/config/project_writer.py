@@ -4,6 +4,7 @@ from __future__ import annotations
 
 import json
 from dataclasses import replace
+from decimal import Decimal
 from pathlib import Path
 from typing import Any, Mapping, Optional
 
@@ -46,7 +47,6 @@ def without_processes(name: str, value: Any) -> Any:
 
 
 def write(project: Project, path: Path, folder: Path) -> None:
-    """Writes the text for a file that goes to the folder."""
     path.write_text(of_project(project, folder), encoding="utf-8")
 
 
@@ -101,4 +101,4 @@ def shown(value: Any) -> str:
         return f"[{', '.join(map(shown, value))}]"
     if isinstance(value, float):
         return str(int(value)) if value.is_integer() and abs(value) < 10**15 else repr(float(value))
-    return str(value)
+    return f"{value:f}" if isinstance(value, Decimal) else str(value)

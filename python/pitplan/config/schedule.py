@@ -3,26 +3,15 @@
 from __future__ import annotations
 
 from dataclasses import dataclass
-from typing import Any, Optional
+from typing import Optional
 
-from .keys import Kind, amount, by_name, key, listed, table, tables, text, truth, whole, word
+from .keys import amount, by_name, key, listed, new, table, tables, text, truth, whole, word
 from .material import FEED as HEAD_GRADES, FeedGrade, Stockpile
-from .toml_text import Section
 
 MOST_YEARS, MOST_BENCHES = 200, 1_000
 MOST_BINS = 50
 MOST_SECONDS = 7 * 24 * 3600
 TOTAL, FEED = "total", "feed"
-
-
-def read_ramp_up(section: Section, name: str, value: Any) -> tuple[float, ...]:
-    shares: tuple[float, ...] = RAMP_UP.read(section, name, value)
-    if shares[-1] == 0:
-        raise section.wrong(name, "found 0 as the last share, which applies to all later years: expected above 0")
-    return shares
-
-
-RAMP_UP = listed(amount(0, 1), "of shares of processing_capacity, one a year, such as [0.5, 0.8, 1.0]")
 
 
 @dataclass(frozen=True)
@@ -31,11 +20,7 @@ class Effort:
 
     gap: float = key(amount(0, below=1, example="0.01 for 1 %"), "gap to the bound, as a share of it", 0.0)
     seconds: Optional[float] = key(
-        Kind(
-            lambda *it: float(whole(1, MOST_SECONDS).read(*it)),
-            whole(1, MOST_SECONDS).schema,
-            write=lambda it, _: int(it),
-        ),
+        whole(1, MOST_SECONDS).then(float, range="", write=lambda it, _: int(it)),
         "seconds after which it ends",
         in_python=None,
     )
@@ -48,12 +33,11 @@ class Sum:
     name: str = key(word, "name of the limit", "", otherwise="the column's name", label="Limit")
     column: str = key(text, "any column of the table", in_python="")
     of: str = key(text, f'material counted: `"{FEED}"`, `"{TOTAL}"` or a process', TOTAL)
-    per_tonne: bool = key(
+    per_tonne: bool = new(
         truth,
         "multiply the column by tonnes: of feed those of the ore without dilution",
         False,
         otherwise="`false`: it is per block",
-        since="0.2.0",
     )
     min: Optional[float] = key(amount(), "least of each year", None, otherwise="any")
     max: Optional[float] = key(amount(), "most of each year", None, otherwise="any")
@@ -64,8 +48,6 @@ class Sum:
 
 @dataclass(frozen=True)
 class ScheduleRules:
-    """The limits of a year, and how pushbacks follow each other."""
-
     processing_capacity: Optional[float] = key(
         amount(1), "processing capacity", None, "t of mill feed/year", otherwise="that of `[shells]`"
     )
@@ -83,7 +65,9 @@ class ScheduleRules:
         label="Bench lag between pushbacks",
     )
     ramp_up: tuple[float, ...] = key(
-        Kind(read_ramp_up, RAMP_UP.schema, RAMP_UP.range),
+        listed(amount(0, 1), "of shares of processing_capacity, one a year, such as [0.5, 0.8, 1.0]").where(
+            lambda it: it[-1] > 0, "found 0 as the last share, which applies to all later years: expected above 0"
+        ),
         "shares of `processing_capacity` in the first years; the last one, above 0, stays",
         (1.0,),
     )
@@ -103,8 +87,8 @@ class ScheduleRules:
         f"also solve an integer programme: `{{ gap = 0.01, seconds = 600 }}`; gap 0 to below 1, seconds 1 to {MOST_SECONDS:,} (a week)",
         None,
     )
-    stockpiles: tuple[Stockpile, ...] = key(
-        tables(Stockpile), "list of stockpiles, below; `stockpile` is one of them", (), short="stockpile", since="0.2.0"
+    stockpiles: tuple[Stockpile, ...] = new(
+        tables(Stockpile), "list of stockpiles, below; `stockpile` is one of them", (), short="stockpile"
     )
     max_metal_per_year: dict[str, float] = key(
         by_name(amount(above=0)), "recovered metal by name: t, or g for grades in g/t", {}, otherwise="any"
@@ -113,8 +97,8 @@ class ScheduleRules:
         by_name(amount()), "per year: `feed` (scaled by `ramp_up`), `total`, a metal, or the feed of a process", {}
     )
     limits: tuple[Sum, ...] = key(tables(Sum), "list of sums, below", ())
-    feed: tuple[FeedGrade, ...] = key(
-        HEAD_GRADES, "[limits of the feed](#limits-of-the-feed), without `[[processes]]`", (), since="0.2.0"
+    feed: tuple[FeedGrade, ...] = new(
+        HEAD_GRADES, "[limits of the feed](#limits-of-the-feed), without `[[processes]]`", ()
     )
 
     def columns_of(self, per_tonne: bool) -> tuple[str, ...]:

@@ -7,7 +7,7 @@ from dataclasses import dataclass
 from decimal import Decimal
 from typing import Optional
 
-from .keys import amount, choice, factor, factors, key, listed, number, table, whole
+from .keys import amount, choice, factor, factors, key, listed, new, number, table, whole
 from .periods import Calendar
 
 MOST_FACTORS, MOST_LAG = 1_000, 1_000
@@ -71,18 +71,16 @@ class ShellRules:
     discounting: str = key(choice(*DISCOUNTINGS), "when the cash of a year flows", DISCOUNTINGS[0])
     base_price_added: bool = False
     per_process: tuple[float, ...] = ()
-    specified: Optional[SpecifiedCase] = key(
+    specified: Optional[SpecifiedCase] = new(
         table(SpecifiedCase),
         f"third case: `{{ pushbacks = [..], bench_lag = 0 }}`; lag up to {MOST_LAG:,} benches",
         None,
-        since="0.2.0",
     )
     calendar: Calendar = Calendar()
     names: tuple[str, ...] = ()
 
     @property
     def capacities(self) -> tuple[float, ...]:
-        """The yearly capacity of each process."""
         return self.per_process or (self.processing_capacity,)
 
     @property
@@ -148,10 +146,9 @@ class PushbackRules:
         otherwise="any",
         label="Minimum bottom width",
     )
-    mining_cost_added: tuple[Decimal, ...] = key(
+    mining_cost_added: tuple[Decimal, ...] = new(
         listed(number(0), "of the added cost per tonne of each pushback, such as [0, 0.15]"),
         "added mining cost, a list by pushback",
         (),
         "{currency}/t mined",
-        since="0.2.0",
     )

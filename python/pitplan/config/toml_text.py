@@ -53,14 +53,6 @@ class Entry:
         return self.start == self.end
 
 
-@dataclass(frozen=True)
-class Twice:
-    """What is written twice: the line of the second time, and a sentence with both lines and the remedy."""
-
-    line: int
-    why: str
-
-
 def entries(text: str) -> list[Entry]:
     """Returns the headers and keys of a text in their order, as far as it is TOML."""
     found: list[Entry] = []
@@ -83,8 +75,8 @@ def entries(text: str) -> list[Entry]:
     return found
 
 
-def written_twice(text: str) -> Optional[Twice]:
-    """Returns the first section or key of a text that is written twice; None if nothing is."""
+def written_twice(text: str) -> Optional[tuple[int, str]]:
+    """Returns the line of the first section or key that is written twice, and a sentence with both lines and the remedy; None if nothing is."""
     seen: dict[str, int] = {}
     for entry in entries(text):
         if entry.name in seen:
@@ -93,13 +85,12 @@ def written_twice(text: str) -> Optional[Twice]:
             section, _, key = name.rpartition(".")
             named = f"[{name}]" if entry.is_header else f"[{section}] {key}" if section else key
             remedy = "put the keys below the first" if entry.is_header else "remove one"
-            return Twice(entry.line, f"{named} is written twice, lines {seen[entry.name]} and {entry.line}: {remedy}")
+            return entry.line, f"{named} is written twice, lines {seen[entry.name]} and {entry.line}: {remedy}"
         seen[entry.name] = entry.line
     return None
 
 
 def parts_of(key: str) -> list[str]:
-    """Returns the parts of a key without quotes."""
     return [part.strip("\"'") for part in re.findall(PART, key)]
 
 
@@ -196,24 +187,14 @@ class Source:
 
     def error(self, why: str, at: str) -> ProjectError:
         """Returns an error at a key or a section, which is named as in `metals 2.price`."""
-        line = line_of(self.text, at) if self.text else None
-        return ProjectError(f"{self.name}{f':{line}' if line else ''}: {why}", line)
-
-    def wrong(self, section: str, key: str, why: str, at: str = "") -> ProjectError:
-        """Returns the error of a key; the section is empty at the top. `at` is the key whose line is meant, if it is another one."""
-        place = at or key
-        return self.error(
-            f"{f'[{section}] ' if section else ''}{key}: {why}", f"{section}.{place}" if section else place
-        )
+        return at_line(self.name, line_of(self.text, at) if self.text else None, why)
 
     @property
     def has_processes(self) -> bool:
-        """Whether the project names its processes."""
         return "processes" in self.data
 
     @property
     def metals(self) -> tuple[str, ...]:
-        """The names of its metals."""
         found = self.data.get("metals")
         entries = [it for it in found if isinstance(it, dict)] if isinstance(found, list) else []
         return tuple(str(it.get("name", "")) for it in entries)
@@ -240,26 +221,17 @@ def text_of(path: Path) -> str:
         raise PlanError(f"{str(path)!r}: is not a file name: {error}") from error
 
 
-def read(path: Path) -> dict[str, Any]:
-    """The sections of a file. Raises PlanError, with the line if it is known, if it cannot be read, or is no TOML."""
-    return parsed(text_of(path), str(path))
-
-
 def parsed(text: str, path: str) -> dict[str, Any]:
     """The sections of a text, which errors name by `path`. Raises ProjectError, with the line if it is known, if it is no TOML or no project's."""
-    long = LONG_KEY.search(text)
-    if long:
-        raise at_place(
-            text, long.start(), path, f"a key of more than {MOST_PARTS} parts: a project's keys have three at most"
-        )
+    if long := LONG_KEY.search(text):
+        why = f"a key of more than {MOST_PARTS} parts: a project's keys have three at most"
+        raise at_line(path, text.count("\n", 0, long.start()) + 1, why)
     try:
         return tomllib.loads(text, parse_float=number)
     except tomllib.TOMLDecodeError as error:
-        if twice := written_twice(text):
-            raise ProjectError(f"{path}:{twice.line}: {twice.why}", twice.line) from error
         found = AT_LINE.search(str(error))
-        line = int(found[1]) if found else None
-        raise ProjectError(f"{path}{f':{line}' if line else ''}: {error}", line) from error
+        line, why = written_twice(text) or (int(found[1]) if found else None, str(error))
+        raise at_line(path, line, why) from error
     except RecursionError as error:
         raise PlanError(
             f"{path}: lists or tables lie within each other too deeply: a project's lie three deep at most"
@@ -269,12 +241,12 @@ def parsed(text: str, path: str) -> dict[str, Any]:
         digits = sys.get_int_max_str_digits()
         long = re.search(rf"\d(?:_?\d){{{digits}}}", text)
         why = f"a whole number of more than {digits:,} digits: amounts end at 10^18"
-        raise at_place(text, long.start() if long else 0, path, why) from error
+        raise at_line(path, text.count("\n", 0, long.start() if long else 0) + 1, why) from error
 
 
-def at_place(text: str, place: int, path: str, why: str) -> ProjectError:
-    line = text.count("\n", 0, place) + 1
-    return ProjectError(f"{path}:{line}: {why}", line)
+def at_line(path: str, line: Optional[int], why: str) -> ProjectError:
+    """Returns an error of a file, with its line if it is known."""
+    return ProjectError(f"{path}{f':{line}' if line else ''}: {why}", line)
 
 
 # The least ratio of difflib between a missing key and an unknown one that may be meant by it.
@@ -303,7 +275,9 @@ class Section:
         self.asked: set[str] = set()
 
     def wrong(self, key: str, why: str, at: str = "") -> ProjectError:
-        return self.source.wrong(self.name, key, why, at)
+        """Returns the error of a key; `at` is the key whose line is meant, if it is another one."""
+        named = f"[{self.name}] " if self.name else ""
+        return self.source.error(f"{named}{key}: {why}", self.inner(at or key))
 
     def has(self, key: str) -> bool:
         self.asked.add(key)
@@ -329,9 +303,8 @@ class Section:
                 near = difflib.get_close_matches(key, self.asked, 1)
                 raise self.wrong(key, "unknown key: " + (f"did you mean {near[0]}?" if near else "remove it"))
 
-    def section(self, key: str, optional: bool = False) -> Section:
-        data = {} if optional and not self.has(key) else self.get(key)
-        return Section(self.source, self.inner(key), data)
+    def section(self, key: str) -> Section:
+        return Section(self.source, self.inner(key), self.get(key))
 
     def sections(self, key: str) -> list[Section]:
         data = self.get(key)
@@ -366,8 +339,10 @@ def as_toml(value: Any, key: str) -> Any:
         return fspath(value)
     if isinstance(value, Integral):
         return int(value)
+    if isinstance(value, Real) and math.isfinite(value):
+        return Decimal(repr(float(value)))
     if isinstance(value, Real):
-        return as_decimal(float(value), key)
+        raise PlanError(f"{key}: found {value}, expected a finite number")
     if hasattr(value, "tolist"):
         return as_toml(value.tolist(), key)
     if isinstance(value, (list, tuple, range)):
@@ -375,9 +350,3 @@ def as_toml(value: Any, key: str) -> Any:
     raise PlanError(
         f"{key}: found a value of type {type(value).__name__}, expected a number, text, true or false, list or dict"
     )
-
-
-def as_decimal(value: float, key: str) -> Decimal:
-    if not math.isfinite(value):
-        raise PlanError(f"{key}: found {value}, expected a finite number")
-    return Decimal(repr(value))

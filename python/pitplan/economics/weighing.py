@@ -17,7 +17,6 @@ from pitplan.config.economics import GRADE_UNITS, ByCode, ByDomain, Curve, Econo
 from pitplan.config.geometry import Haulage, Road
 from pitplan.config.material import Accepts
 from pitplan.config.project import Project
-from pitplan.config.table import CLASS, DOMAIN, ROCK_TYPE
 from pitplan.core.decimals import Exact, Rounding, nearest, whole_and_places
 from pitplan.core.numeric_fields import at_row
 
@@ -97,13 +96,12 @@ def at_grades(curve: Curve, head: Head) -> np.ndarray:
 
 def accepted_by(accepts: Accepts, frame: pd.DataFrame, project: Project) -> NDArray[np.bool_]:
     """Returns whether each row of a checked table is accepted: by its codes and its in-situ grades."""
-    table, found = project.table, np.ones(len(frame), dtype=bool)
-    columns = {ROCK_TYPE: table.rock_type, DOMAIN: table.domain, CLASS: table.resource_class}
-    for key, codes in accepts.codes.items():
+    columns, found = project.table.by_code, np.ones(len(frame), dtype=bool)
+    for key, codes in accepts.by_code.items():
         if codes:
             found &= frame[columns[key]].astype(str).isin(codes).to_numpy()
     for grade in accepts.grades:
-        values = frame[grade.column].to_numpy(dtype=float)
+        values = frame[grade.name].to_numpy(dtype=float)
         found &= values >= (-np.inf if grade.min is None else grade.min)
         found &= values <= (np.inf if grade.max is None else grade.max)
     return found

@@ -18,9 +18,10 @@ from pitplan.blockmodel import reader
 from pitplan.blockmodel.reader import Table
 from pitplan.config import toml_text
 from pitplan.config.economics import CHARGES, ByRock, Curve, Metal, Process, Recovery, Smelter
+from pitplan.config.geometry import OreAndWaste
 from pitplan.config.overrides import assigned, scaled
 from pitplan.config.periods import Calendar, Period
-from pitplan.config.project import Project, of_data
+from pitplan.config.project import Project, of_data, planned_as
 from pitplan.config.studies import SensitivityRules, Setting
 from pitplan.core import keyed_arrays
 from pitplan.core.atomic_files import hashes_of, staged_file
@@ -61,18 +62,6 @@ def with_key(project: Project, by: Decimal, path: str) -> Project:
     where = f"{project.path}: [sensitivity]"
     data = scaled(toml_text.parsed(project.to_toml(), str(project.path)), path, by, where)
     return planned_as(project, of_data(data, project.path, f"{where} {path} times {by}"))
-
-
-def planned_as(project: Project, found: Project) -> Project:
-    """Returns a project that was read again with the revenue factors, folder and solver of the first one."""
-    kept = project.shells
-    shells = replace(
-        found.shells,
-        revenue_factors=kept.revenue_factors,
-        selected=kept.selected,
-        base_price_added=kept.base_price_added,
-    )
-    return replace(found, shells=shells, folder=project.folder, solver=project.solver)
 
 
 def with_settings(project: Project, settings: tuple[Setting, ...]) -> Project:
@@ -226,7 +215,8 @@ def haulage(project: Project, by: Decimal, metal: str) -> Project:
     """Changes the haulage costs of ore and waste."""
     rules = project.haulage
     assert rules is not None
-    return replace(project, haulage=replace(rules, cost={kind: cost * by for kind, cost in rules.cost.items()}))
+    cost = OreAndWaste(rules.cost.ore * by, rules.cost.waste * by)
+    return replace(project, haulage=replace(rules, cost=cost))
 
 
 VARIED: dict[str, Callable[[Project, Decimal, str], Project]] = {

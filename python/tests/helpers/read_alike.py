@@ -17,6 +17,7 @@ from planaudit.inputs.row_rules import RowRules
 # Attributes of the planner's records whose names are not those of the keys.
 OTHER_NAMES = {
     "class": "resource_class",
+    "column": "name",
     "depreciation": "depreciation_years",
     "domain": "domains",
     "file": "path",
