@@ -14,8 +14,7 @@ from helpers.pushbacks import pillars
 from pitplan.config.project import load
 from pitplan.web import grids, project_text
 from pitplan.web.draft import Draft
-from pitplan.web.grid_columns import KINDS
-from pitplan.web.grids import Row, grids_of
+from pitplan.web.grids import KINDS, Row, grids_of
 from pitplan.web.named_process import with_named_process
 from pitplan.web.run_form import WrongForm
 from pitplan.web.security import Access

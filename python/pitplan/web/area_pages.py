@@ -17,6 +17,7 @@ from starlette.routing import Route
 from tomlkit.items import AoT
 
 from pitplan.config.geometry import SIDES, Area
+from pitplan.config.project_writer import shown as toml_of
 from pitplan.config.table import SurveyFile
 from pitplan.core.atomic_files import staged_file
 from pitplan.errors import PlanError
@@ -24,7 +25,6 @@ from pitplan.errors import PlanError
 from . import project_text
 from .block_pages import BlockPages
 from .draft import Draft, Path as Place
-from .grids import toml_of
 from .import_roles import in_words
 from .pages import MOST_BYTES, Pages, form_of, threaded
 from .project_text import Editor

@@ -140,7 +140,6 @@ class Draft:
 
 
 def inline(items: Mapping[str, Any]) -> Item:
-    """Returns a table on one line."""
     inner = ", ".join(f"{key_of(key)} = {it.as_string()}" for key, it in items.items())
     return tomlkit.value(f"{{ {inner} }}")
 

@@ -13,7 +13,7 @@ from starlette.routing import Route
 from pitplan.errors import PlanError
 
 from . import grids, project_text
-from .grid_columns import KINDS
+from .grids import KINDS
 from .named_process import with_named_process
 from .pages import Pages, form_of
 from .project_text import Changed, Editor

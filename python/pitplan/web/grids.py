@@ -4,26 +4,217 @@ from __future__ import annotations
 
 import json
 import re
-from collections.abc import Mapping, Sequence
+from collections.abc import Iterator, Mapping, Sequence
 from dataclasses import dataclass, replace
-from decimal import Decimal
 from typing import Any, Optional
 
 from pitplan.config import toml_text
-from pitplan.config.project import Project
-from pitplan.config.project_writer import key_of
+from pitplan.config.keys import Key, keys_of
+from pitplan.config.material import TREATMENTS
+from pitplan.config.project import Project, record_at
+from pitplan.config.project_writer import shown as toml_of
+from pitplan.config.table import CODES, ROCK_TYPE
 from pitplan.config.toml_text import entries
 from pitplan.errors import PlanError
 
-from . import class_rules
 from .draft import Draft, Path
-from .grid_columns import CLASSES, KINDS, LIST, NUMBER, VALUE, Column, Kind, at, columns_of
 from .run_form import WrongForm
-from .values_form import NUMBER as A_NUMBER
+from .values_form import NUMBER as A_NUMBER, at
 
+# A number, a text, codes with commas between, one of some words, or anything that TOML has.
+NUMBER, TEXT, LIST, CHOICE, VALUE = "number", "text", "codes", "choice", "value"
+Entry = Mapping[str, Any]
+# The section whose keys are the rows of a grid, not its entries.
+CLASSES = "classes"
+SIDES = ("min", "max")
 # How the names of fields begin: of a row its place in the file or NEW, of a cell the numbers of row and column.
 ROW, CELL, NEW = "row:", "cell:", "new"
 MOST_ROWS, MOST_LETTERS = 1_000, 2_000
+Pairs = Sequence[tuple[str, ...]]
+
+
+@dataclass(frozen=True)
+class Column:
+    """A column of a grid.
+
+    Attributes
+    ----------
+    path : tuple of str
+        The key, and those of the tables in which it lies.
+    label, unit : str
+    kind : str
+        NUMBER, TEXT, LIST, CHOICE or VALUE.
+    options : tuple of str
+        The words to choose from.
+    is_shown : bool
+        Whether it is shown even if no entry has the key.
+    """
+
+    path: tuple[str, ...]
+    label: str
+    unit: str = ""
+    kind: str = NUMBER
+    options: tuple[str, ...] = ()
+    is_shown: bool = True
+
+    @property
+    def name(self) -> str:
+        """The key as tables of periods have it, such as capacity.mill."""
+        return ".".join(self.path)
+
+
+@dataclass(frozen=True)
+class Kind:
+    """A list of sections that a grid shows.
+
+    Attributes
+    ----------
+    name, header : str
+        Its name in addresses, and its header in the text.
+    title, word, does : str
+        What the grid, one entry and its form are called.
+    """
+
+    name: str
+    header: str
+    title: str
+    word: str
+    does: str
+
+
+KINDS = {
+    it.name: it
+    for it in (
+        Kind("metals", "metals", "Metals", "Metal", "Grade columns, prices, selling costs and recoveries"),
+        Kind("processes", "processes", "Processes", "Process", "Costs, recoveries, capacities and accepted ore"),
+        Kind("stockpiles", "schedule.stockpiles", "Stockpiles", "Stockpile", "Costs, capacities and accepted ore"),
+        Kind("dumps", "dumps", "Dumps", "Dump", "Costs, capacities and accepted waste"),
+        Kind("periods", "periods", "Periods", "Period", "Capacities, prices, costs and minimums that differ by period"),
+        Kind(CLASSES, CLASSES, "Resource classes", "Class", "Which classes may be ore; inferred is waste by default"),
+        Kind("slopes", "slopes.domains", "Slopes", "Slope domain", "Slope angles by domain and azimuth"),
+        Kind("areas", "constraints.areas", "Areas", "Area", "Polygons in or outside which nothing is mined"),
+    )
+}
+
+
+def columns_of(kind: str, project: Project, entries: Sequence[Entry]) -> list[Column]:
+    """Returns the columns of a grid: those that planners use, and those of all keys that its entries have."""
+    columns = [column for it in declared(kind, project) for column in expanded(it, entries)]
+    known = {it.path for it in columns}
+    more = [path for entry in entries for path in leaves(entry) if path not in known]
+    return [*columns, *(Column(path, " ".join(path), "", VALUE) for path in dict.fromkeys(more))]
+
+
+def expanded(column: Column, entries: Sequence[Entry]) -> list[Column]:
+    """Returns a column, and one for each key of the tables that entries have in its place."""
+    values = [at(entry, column.path) for entry in entries]
+    keys = dict.fromkeys(key for value in values if isinstance(value, dict) for key in value)
+    if not keys:
+        return [column]
+    is_used = any(value is not None and not isinstance(value, dict) for value in values)
+    inner = [replace(column, path=(*column.path, key), label=f"{column.label}, {key}", is_shown=True) for key in keys]
+    return [replace(column, is_shown=is_used), *(it for one in inner for it in expanded(one, entries))]
+
+
+def leaves(entry: Entry, path: tuple[str, ...] = ()) -> list[tuple[str, ...]]:
+    found = []
+    for key, value in entry.items():
+        found += leaves(value, (*path, key)) if isinstance(value, dict) and value else [(*path, key)]
+    return found
+
+
+def declared(kind: str, project: Project) -> Iterator[Column]:
+    """Yields the columns of all keys that an entry may have; of keys by name a column for each name that the project has."""
+    if kind == CLASSES:
+        column = project.table.resource_class or "the column [table] class"
+        yield Column(("class",), "Class", f"code in {column}", TEXT)
+        yield Column(("rule",), "Rule", "", CHOICE, TREATMENTS)
+        return
+    keys = keys_of(record_at(KINDS[kind].header))
+    # The name is the first column of each grid.
+    for key, it in sorted(keys.items(), key=lambda pair: pair[0] != "name"):
+        if not (it.of_processes and project.processes):
+            yield from of_key(key, it, project)
+
+
+def of_key(key: str, it: Key, project: Project) -> Iterator[Column]:
+    currency = project.economics.currency
+    if key in NAMED and it.kind.schema.get("type") == "object":
+        yield from NAMED[key](key, it, project)
+    elif it.kind.record is None:
+        is_shown = not it.is_seldom and it.kind.type != VALUE
+        yield Column((key,), it.label, it.unit_of(currency, "unit"), it.kind.type, it.kind.options, is_shown)
+    elif it.kind.schema["type"] != "array":
+        for inner, within in keys_of(it.kind.record).items():
+            if within.kind.record is None:
+                unit = within.unit_of(currency, "unit")
+                yield Column((key, inner), within.label, unit, within.kind.type, is_shown=False)
+
+
+def by_metal(key: str, it: Key, project: Project) -> Iterator[Column]:
+    """A column per metal, with the unit of its prices."""
+    for metal in project.metals:
+        unit = it.unit_of(project.economics.currency, metal.price_unit)
+        yield Column((key, metal.name), f"{it.label} of {metal.name}", unit, is_shown=not it.is_seldom)
+
+
+def by_process(key: str, it: Key, project: Project) -> Iterator[Column]:
+    for process in project.processes:
+        yield Column((key, process.name), f"{it.label} of {process.name}", it.unit_of())
+
+
+def minimums(key: str, it: Key, project: Project) -> Iterator[Column]:
+    names = [*(metal.name for metal in project.metals), *(process.name for process in project.processes)]
+    for name in dict.fromkeys(["feed", "total", *names]):
+        yield Column((key, name), f"{it.label} {name}", it.unit_of(), is_shown=False)
+
+
+def limits(key: str, names: Sequence[str], label: str, unit: str) -> Iterator[Column]:
+    for name in dict.fromkeys(names):
+        for side in SIDES:
+            yield Column((key, name, side), f"{label} {name}, {side}", unit, is_shown=False)
+
+
+def of_feed(key: str, it: Key, project: Project) -> Iterator[Column]:
+    names = [*(metal.column for metal in project.metals), *project.graded_columns]
+    return limits(key, names, "Head grade", "unit of grade")
+
+
+def of_accepts(key: str, it: Key, project: Project) -> Iterator[Column]:
+    for code, column in project.table.by_code.items():
+        is_shown = code == ROCK_TYPE and bool(column)
+        yield Column((key, code), f"Accepts {code.replace('_', ' ')}", "codes, by commas", LIST, is_shown=is_shown)
+    for metal in project.metals:
+        yield from limits(key, [metal.column], "Accepts", metal.sign)
+
+
+def of_opening(key: str, it: Key, project: Project) -> Iterator[Column]:
+    yield Column((key, "tonnes"), "Opening balance", "t of feed", is_shown=False)
+    for metal in project.metals:
+        yield Column((key, metal.column), f"Opening {metal.column}", metal.sign, is_shown=False)
+    for code in CODES:
+        yield Column((key, code), f"Opening {code.replace('_', ' ')}", "code", TEXT, is_shown=False)
+
+
+def of_places(key: str, it: Key, project: Project) -> Iterator[Column]:
+    """Limits of stockpiles or dumps by their names."""
+    piles = project.schedule.stockpiles if project.schedule else ()
+    names = [it.name for it in project.dumps] if key == "dumps" else [it.name for it in piles]
+    return limits(key, names, it.label, it.unit_of())
+
+
+# Keys by names that a project gives.
+NAMED = {
+    "recovery": by_metal,
+    "prices": by_metal,
+    "capacity": by_process,
+    "minimum": minimums,
+    "feed": of_feed,
+    "accepts": of_accepts,
+    "opening": of_opening,
+    "stockpiles": of_places,
+    "dumps": of_places,
+}
 
 
 @dataclass(frozen=True)
@@ -72,7 +263,6 @@ class Grid:
 
 
 def grids_of(text: str, project: Project) -> dict[str, Grid]:
-    """Returns all grids of a project's text, by name."""
     data, headers = toml_text.parsed(text, str(project.path)), {it.name for it in entries(text) if it.is_header}
     return {name: grid_of(kind, headers, data, project) for name, kind in KINDS.items()}
 
@@ -80,16 +270,12 @@ def grids_of(text: str, project: Project) -> dict[str, Grid]:
 def grid_of(kind: Kind, headers: set[str], data: Mapping[str, Any], project: Project) -> Grid:
     """Returns a grid of a project's text with these headers."""
     found = at(data, kind.header.split("."))
-    listed = class_rules.rows_of(data) if kind.name == CLASSES else found if isinstance(found, list) else []
+    listed = rules_in(data) if kind.name == CLASSES else found if isinstance(found, list) else []
     columns = columns_of(kind.name, project, listed)
     rows = [Row(k, tuple(shown(at(entry, it.path), it) for it in columns)) for k, entry in enumerate(listed)]
     if kind.name == CLASSES:
-        none = (
-            ""
-            if project.table.resource_class
-            else "The project names no column of resource classes: add class to [table]"
-        )
-        return Grid(kind, columns, rows, none)
+        none = "The project names no column of resource classes: add class to [table]"
+        return Grid(kind, columns, rows, "" if project.table.resource_class else none)
     return Grid(kind, columns, rows, why_not(kind, headers, data))
 
 
@@ -116,19 +302,6 @@ def shown(value: Any, column: Column) -> str:
     return toml_of(value)
 
 
-def toml_of(value: Any) -> str:
-    """Returns a value as TOML has it."""
-    if isinstance(value, bool):
-        return "true" if value else "false"
-    if isinstance(value, (int, Decimal)):
-        return f"{value:f}" if isinstance(value, Decimal) else str(value)
-    if isinstance(value, list):
-        return f"[{', '.join(map(toml_of, value))}]"
-    if isinstance(value, dict):
-        return f"{{ {', '.join(f'{key_of(key)} = {toml_of(it)}' for key, it in value.items())} }}"
-    return json.dumps(str(value), ensure_ascii=False)
-
-
 def typed(grid: Grid, form: Mapping[str, str]) -> Grid:
     """Returns a grid with the rows of a form, without new rows that are empty. Raises WrongForm if they are too many."""
     numbers = sorted(int(name[len(ROW) :]) for name in form if re.fullmatch(re.escape(ROW) + r"\d{1,6}", name))
@@ -151,7 +324,7 @@ def value_of(text: str, column: Column, where: str) -> str:
     if column.kind == LIST:
         return toml_of([part.strip() for part in text.split(",") if part.strip()])
     if column.kind not in (NUMBER, VALUE):
-        return toml_of(text).replace("\x7f", "\\u007f")
+        return toml_of(text)
     if A_NUMBER.fullmatch(text):
         return text
     if column.kind == NUMBER and text[:1] not in "[{":
@@ -197,7 +370,7 @@ def changed(text: str, before: Grid, after: Grid, name: str) -> str:
         raise WrongForm(f"{before.why_not}.")
     if before.kind.name == CLASSES:
         old, new = ([row.cells for row in it.rows] for it in (before, after))
-        return class_rules.with_rules(text, old, new)
+        return with_rules(text, old, new)
     kept = [row.source for row in after.rows if row.source is not None]
     if kept != sorted(set(kept)):
         raise WrongForm(f"{before.kind.title}: the rows are in another order than in the file: open the project again")
@@ -231,3 +404,35 @@ def change(draft: Draft, path: Path, it: Change) -> None:
         draft.remove(path)
     else:
         draft.set(path, it.value)
+
+
+def rules_in(data: Mapping[str, Any]) -> list[dict[str, Any]]:
+    found = data.get(CLASSES, {})
+    return [{"class": code, "rule": rule} for code, rule in found.items()] if isinstance(found, dict) else []
+
+
+def rules_of(rows: Pairs) -> dict[str, str]:
+    """Returns the rules of rows by class. Raises WrongForm if a class is missing or occurs twice, or a rule is none."""
+    found: dict[str, str] = {}
+    for number, (code, rule) in enumerate(rows, 1):
+        where = f"Resource classes, row {number}"
+        if not code:
+            raise WrongForm(f"{where}, Class: found nothing, expected a code of the block model, such as inferred")
+        if code in found:
+            raise WrongForm(f"{where}, Class: {code} has a rule already: remove one of them")
+        if rule not in TREATMENTS:
+            raise WrongForm(f"{where}, Rule: found {rule[:40]!r}, expected one of {', '.join(TREATMENTS)}")
+        found[code] = rule
+    return found
+
+
+def with_rules(text: str, before: Pairs, after: Pairs) -> str:
+    """Returns a text with other rules; all else in it stays. Raises WrongForm if a rule is wrong."""
+    draft, old, new = Draft(text), {row[0]: row[1] for row in before}, rules_of(after)
+    for code in old:
+        if code not in new:
+            draft.remove((CLASSES, code))
+    for code, rule in new.items():
+        if old.get(code) != rule:
+            draft.set((CLASSES, code), f'"{rule}"')
+    return draft.text

@@ -7,9 +7,9 @@ from typing import Any
 from tomlkit.items import Table
 
 from pitplan.config import toml_text
+from pitplan.config.project_writer import shown as toml_of
 
 from .draft import Draft, Path
-from .grids import toml_of
 from .run_form import WrongForm
 
 # The keys of one process without a name, and those of its entry in [[processes]].

@@ -3,7 +3,7 @@
 from __future__ import annotations
 
 import re
-from collections.abc import Iterator, Mapping
+from collections.abc import Iterator, Mapping, Sequence
 from dataclasses import dataclass, replace
 from typing import Any
 
@@ -13,7 +13,6 @@ from pitplan.config.project import Project, record_at
 from pitplan.config.toml_text import Entry, entries
 
 from .draft import Draft, path_of
-from .grid_columns import at
 from .run_form import WrongForm
 
 # The fields of the form are named by the keys, after this.
@@ -54,7 +53,6 @@ class Field:
 
     @property
     def is_of_schedule(self) -> bool:
-        """Whether the form of pushbacks and schedule has it."""
         return self.entry.name.startswith(OF_SCHEDULE)
 
 
@@ -76,6 +74,14 @@ class Values:
             ("values", "Economics", "Prices, costs, recoveries, capacities and slope angles", economics),
             ("schedule", "Pushbacks and schedule", "Pushbacks, mining widths, rates, closure and tax", schedule),
         ]
+
+
+def at(entry: Mapping[str, Any], path: Sequence[str]) -> Any:
+    """Returns the value of an entry at a path; None if it has none."""
+    value: Any = entry
+    for key in path:
+        value = value.get(key) if isinstance(value, dict) else None
+    return value
 
 
 def fields_of(text: str, project: Project) -> list[Field]:
@@ -134,7 +140,6 @@ def words_of(section: str, number: int, it: Key, project: Project) -> tuple[str,
 
 
 def typed(fields: list[Field], form: Mapping[str, str]) -> list[Field]:
-    """Returns the fields with the numbers of a form."""
     return [replace(field, value=form.get(field.name, field.value).strip()) for field in fields]
 
 
