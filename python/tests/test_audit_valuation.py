@@ -5,7 +5,7 @@ from types import SimpleNamespace
 import numpy as np
 import pytest
 
-from planaudit.inputs.calendar import Calendar
+from planaudit.inputs.project import Calendar
 from planaudit.schedules.valuation import Periods
 
 NAN = float("nan")

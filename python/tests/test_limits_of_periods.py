@@ -10,7 +10,7 @@ from helpers.verified import UNVERIFIED
 import pitplan
 from pitplan import PlanError, load, verify
 from pitplan.config.project import Project
-from planaudit.inputs.period_table import entries_of
+from planaudit.inputs.project_file import entries_of
 
 # 100 t of ore of 0.8 % with 50 ppm of arsenic beside 100 t with 150 ppm earn 20 a tonne each. The mill takes 80 t a year.
 HEAD = "[pushbacks]\ncount = 1\nultimate_pit = 1.0\n"

@@ -19,7 +19,7 @@ from pitplan.blockmodel import resource_classes
 from pitplan.config.material import ClassRules
 from pitplan.economics.block_values import Values
 from planaudit import AuditError
-from planaudit.inputs import answer as answers, block_table, classes as audited, project_file
+from planaudit.inputs import answer as answers, block_table, codes as audited, project_file
 from planaudit.schedules import limits
 
 CLASS = ("[table]\n", '[table]\nclass = "cls"\n')

@@ -17,7 +17,7 @@ from pitplan.config.geometry import Slopes, Wall
 from pitplan.slopes import slope_patterns
 from pitplan.solver import mine_files
 from planaudit.ground import slopes as audited
-from planaudit.inputs.project_keys import wall_of
+from planaudit.inputs.project_file import wall_of
 
 CUBE, FLAT = (10.0, 10.0, 10.0), (20.0, 20.0, 15.0)
 

@@ -26,7 +26,7 @@ from pitplan.slopes import slope_patterns
 from planaudit.ground.slopes import flatness, high_walls
 from planaudit.inputs import answer, project_file
 from planaudit.inputs.matching import read_blocks
-from planaudit.inputs.project_keys import wall_of
+from planaudit.inputs.project_file import wall_of
 from planaudit.pits import sums
 from planaudit.rules import rule
 

@@ -17,7 +17,7 @@ import numpy as np
 import pandas as pd
 
 from planaudit.errors import AuditError, PackageError
-from planaudit.inputs import classes, models, plain_tables, row_rules
+from planaudit.inputs import codes, models, plain_tables, row_rules
 from planaudit.inputs.formulas import value_of
 from planaudit.inputs.project import Project, Section
 from planaudit.inputs.text_layout import TextLayout, layout_of
@@ -74,7 +74,7 @@ def columns_of(frame: pd.DataFrame, names: Iterable[str], rows: Optional[np.ndar
 def demand_classes(frame: pd.DataFrame, project: Project) -> None:
     """Raises AuditError as `read` if a block with tonnes has a class that the project refuses."""
     table = project.table
-    refused = classes.treated_as("refuse", frame, project) & (frame[table["tonnes"]].to_numpy() > 0)
+    refused = codes.treated_as("refuse", frame, project) & (frame[table["tonnes"]].to_numpy() > 0)
     if refused.any():
         row = int(refused.argmax())
         code = frame[str(table["class"])].iloc[row]

@@ -1,4 +1,4 @@
-"""A project as the audit's own reader (`project_file.py`) gives it: a dictionary for each section, and what follows from several keys."""
+"""A project as the audit's own reader (`project_file.py`) gives it: a dictionary for each section, what follows from several keys, and its periods."""
 
 from __future__ import annotations
 
@@ -7,7 +7,60 @@ from dataclasses import dataclass, field, replace
 from decimal import Decimal
 from typing import Any, Optional
 
-from planaudit.inputs.calendar import Calendar
+import numpy as np
+
+MONTHS = 12
+
+
+def periods_in(entry: Mapping[str, Any]) -> int:
+    """Returns the number of periods in an entry of `[[periods]]`."""
+    return int(entry["years"]) * MONTHS // int(entry["period_months"])
+
+
+@dataclass(frozen=True)
+class Calendar:
+    """The entries of `[[periods]]`, one after the other; the last period continues."""
+
+    periods: tuple[Mapping[str, Any], ...] = ()
+
+    def period(self, number: int) -> Optional[Mapping[str, Any]]:
+        """Returns the entry of a period, from 1; None without any."""
+        for entry in self.periods:
+            number -= periods_in(entry)
+            if number <= 0:
+                return entry
+        return self.periods[-1] if self.periods else None
+
+    @property
+    def count(self) -> int:
+        return sum(map(periods_in, self.periods))
+
+    @property
+    def word(self) -> str:
+        """The name of a period in tables."""
+        return "year" if all(entry["period_months"] == MONTHS for entry in self.periods) else "period"
+
+    def months(self, number: int) -> int:
+        entry = self.period(number)
+        return MONTHS if entry is None else int(entry["period_months"])
+
+    def length(self, number: int) -> float:
+        return self.months(number) / MONTHS
+
+    def lengths(self, count: int) -> np.ndarray:
+        """Returns the lengths of the first periods in years, shape (count,)."""
+        return np.array([self.length(number) for number in range(1, count + 1)])
+
+    def end(self, number: int) -> float:
+        """Returns the end of a period in years; 0 of period 0."""
+        if not self.periods:
+            return float(number)
+        return sum(self.months(each) for each in range(1, number + 1)) / MONTHS
+
+    def time(self, place: float) -> float:
+        """Returns the years until `place` periods are over; the last one may be a part."""
+        return self.end(int(place)) + (place - int(place)) * self.length(int(place) + 1)
+
 
 # A section, or an entry of one, by the names of its keys.
 Section = Mapping[str, Any]
@@ -57,7 +110,6 @@ class Project:
         return tuple(self.with_process(process) for process in self.processes) or (self,)
 
     def with_process(self, process: Section) -> Project:
-        """Returns the project with one process."""
         metals = [{**it, "recovery": process["recovery"].get(it["name"], Decimal(0))} for it in self.metals]
         for metal in metals:
             sold_by = metal["smelter"]["processes"] if metal["smelter"] else ""
@@ -136,5 +188,4 @@ def limit_key(limit: Section) -> tuple[str, str, Optional[str]]:
 
 
 def opening_tonnes(stockpile: Section) -> float:
-    """Returns the tonnes of feed that lie on a stockpile at the start."""
     return float(stockpile["opening"]["tonnes"]) if stockpile["opening"] else 0.0

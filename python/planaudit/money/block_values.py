@@ -12,9 +12,9 @@ from typing import Any, Optional
 
 import numpy as np
 
-from planaudit.inputs import acceptance, classes
 from planaudit.inputs.answer import Answer
 from planaudit.inputs.block_table import columns_of
+from planaudit.inputs.codes import refused, treated_as
 from planaudit.inputs.matching import PROCESS
 from planaudit.inputs.project import GRADE_UNITS, Project
 from planaudit.money import haulage, smelter
@@ -225,9 +225,7 @@ class Exactly:
         ]
         codes = list(zip(*named))
         costs = {code: Costs.of(project, *code) for code in set(codes)}
-        is_waste = classes.treated_as("waste", answer.rows, project) | acceptance.refused(
-            answer.rows, project, project.accepts
-        )
+        is_waste = treated_as("waste", answer.rows, project) | refused(answer.rows, project, project.accepts)
         grades = [np.where(is_waste, 0.0, answer.rows[metal["column"]]).tolist() for metal in project.metals]
         depths = [more_for_depth(answer, z) for z in answer.elevations]
         rules = project.haulage

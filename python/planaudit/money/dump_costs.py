@@ -4,8 +4,8 @@ from __future__ import annotations
 
 import numpy as np
 
-from planaudit.inputs.acceptance import refused
 from planaudit.inputs.answer import Answer
+from planaudit.inputs.codes import refused
 
 
 def as_waste(answer: Answer) -> np.ndarray:

@@ -11,8 +11,7 @@ import numpy as np
 import pandas as pd
 
 from planaudit.inputs import codes
-from planaudit.inputs.acceptance import refused
-from planaudit.inputs.classes import treated_as
+from planaudit.inputs.codes import refused, treated_as
 from planaudit.inputs.project import Project, Section
 
 # A recovery this close to a half, in millionths, is computed exactly.

@@ -6,8 +6,7 @@ from decimal import Decimal
 
 import numpy as np
 
-from planaudit.inputs.calendar import periods_in
-from planaudit.inputs.project import Project, Section
+from planaudit.inputs.project import Project, Section, periods_in
 from planaudit.money.smelter import net
 
 HAIR = 1e-9

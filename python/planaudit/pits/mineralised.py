@@ -6,7 +6,7 @@ from dataclasses import replace
 
 import numpy as np
 
-from planaudit.inputs import classes
+from planaudit.inputs import codes
 from planaudit.inputs.answer import Answer
 from planaudit.money import block_values as money
 from planaudit.revenue_factors import BASE_PRICE, PER_MILLE, per_mille
@@ -20,7 +20,7 @@ def tonnes_in(answer: Answer, inside: np.ndarray, factor: float = BASE_PRICE) ->
     """Returns the tonnes of such blocks among some rows at the cut-off of a revenue factor; nothing without classes."""
     if answer.project.table["class"] is None:
         return {}
-    rows = inside[classes.treated_as("waste", answer.rows, answer.project)[inside]]
+    rows = inside[codes.treated_as("waste", answer.rows, answer.project)[inside]]
     price = factor if answer.project.economics["cutoff"] == "per_revenue_factor" else BASE_PRICE
     pays = would_pay(answer, rows, price)
     return {NAME: float(answer.tonnes[rows[pays]].sum())}

@@ -7,7 +7,7 @@ from collections.abc import Iterator
 import numpy as np
 import pandas as pd
 
-from planaudit.inputs.classes import NOT_A_RESERVE
+from planaudit.inputs.codes import NOT_A_RESERVE
 from planaudit.inputs.matching import own_name
 from planaudit.inputs.project import GRADE_UNITS
 from planaudit.inputs.tables import read_table

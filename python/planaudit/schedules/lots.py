@@ -8,8 +8,8 @@ from functools import cached_property
 import numpy as np
 import pandas as pd
 
-from planaudit.inputs.acceptance import refused
 from planaudit.inputs.answer import Answer
+from planaudit.inputs.codes import refused
 from planaudit.inputs.matching import BIN, PUSHBACK, own_name
 from planaudit.inputs.project import GRADE_UNITS, Section
 from planaudit.money import ore_costs
