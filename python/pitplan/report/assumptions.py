@@ -7,7 +7,7 @@ from dataclasses import dataclass
 from decimal import Decimal
 from typing import Any, Optional
 
-from pitplan.config.economics import BOTH, ByDomain, Curve, Metal, Smelter
+from pitplan.config.economics import BOTH, CHARGES, ByDomain, Curve, Metal, Smelter
 from pitplan.config.geometry import DIP, Wall
 from pitplan.config.keys import declared
 from pitplan.config.material import STOCKPILE, TREATMENTS, FeedGrade
@@ -67,20 +67,19 @@ def by_code(value: Any, text: Any = number) -> str:
 
 
 def stated(
-    record: Any, project: Project, *, only: Sequence[str] = (), without: Sequence[str] = ()
+    record: Any, project: Project, *, only: Sequence[str] = (), without: Sequence[str] = (), of: Optional[Metal] = None
 ) -> Iterator[tuple[str, str]]:
-    """Yields the numbers of a section that differ from their defaults, in the words of their keys: all, some only, or all but some."""
+    """Yields the numbers of a section, of a metal if it is given, that differ from their defaults, in the words of their keys: all, some only,
+    or all but some."""
     for field, key in declared(record.__class__):
         value = getattr(record, field)
         is_asked = field in only if only else field not in without
         is_given = value is not None and value != key.default and not (key.of_processes and project.processes)
         if is_asked and is_given and key.kind.type == "number":
-            unit = key.unit_of(project.economics.currency)
-            is_share = unit.startswith("share")
-            amount = by_code(value, percent) if is_share else by_code(value)
-            yield key.label[0].lower() + key.label[1:], f"{amount} {unit.removeprefix('share')}".replace(
-                "  ", " "
-            ).strip()
+            unit = key.unit_of(project.economics.currency, *([of.price_unit, of.sign] if of else ()))
+            amount = by_code(value, percent if unit.startswith("share") else number)
+            name = key.label[0].lower() + key.label[1:] + (f" of {of.name}" if of else "")
+            yield name, f"{amount} {unit.removeprefix('share')}".replace("  ", " ").strip()
 
 
 def prices(project: Project) -> Iterator[tuple[str, str]]:
@@ -93,7 +92,7 @@ def prices(project: Project) -> Iterator[tuple[str, str]]:
             others = [it.name for it in project.processes if terms and not terms.apply_to(it.name)]
             yield f"selling cost of {metal.name}", f"{number(metal.selling_cost)} {unit}{of_processes(others)}"
         if terms:
-            yield from smelter(metal, terms, project.economics.currency)
+            yield from smelter(metal, terms, project)
     yield from stated(project.economics, project, only=ROYALTIES)
     paths = project.price_paths
     for name, path in paths.metals.items() if paths else ():
@@ -104,31 +103,24 @@ def prices(project: Project) -> Iterator[tuple[str, str]]:
 
 
 def of_processes(names: Sequence[str]) -> str:
-    """Returns the processes that a number is of, after a comma; nothing if none are named."""
     return f", metal of {' and '.join(names)}" if names else ""
 
 
-def smelter(metal: Metal, terms: Smelter, currency: str) -> Iterator[tuple[str, str]]:
-    """Yields the smelter terms of a metal."""
+def smelter(metal: Metal, terms: Smelter, project: Project) -> Iterator[tuple[str, str]]:
     less = f", minimum deduction {number(terms.minimum_deduction)} {metal.sign}" if terms.minimum_deduction else ""
     some = of_processes(terms.processes) if isinstance(terms.processes, tuple) else ""
     yield f"payable {metal.name}", f"{percent(terms.payable)}{less}{some}"
     if terms.concentrate_grade is not None:
         water = f", {percent(terms.moisture)} moisture" if terms.moisture else ""
         yield f"concentrate of {metal.name}", f"{number(terms.concentrate_grade)} {metal.sign}{water}"
-    a_tonne, a_unit = f"{currency}/t", f"{currency}/{metal.price_unit}"
-    charges = {
-        f"treatment charge of {metal.name}": (terms.treatment_charge, f"{a_tonne} of dry concentrate"),
-        f"refining charge of {metal.name}": (terms.refining_charge, f"{a_unit} payable"),
-        f"freight of {metal.name}": (terms.freight, f"{a_tonne} of wet concentrate"),
-    }
-    yield from ((name, f"{number(amount)} {unit}") for name, (amount, unit) in charges.items() if amount)
+    yield from stated(terms, project, only=CHARGES, of=metal)
+    currency = project.economics.currency
     if rule := terms.price_participation:
         where = "of the price above and below" if rule.applies == BOTH else "of the price above"
-        yield f"price participation of {metal.name}", f"{percent(rule.share)} {where} {number(rule.base)} {a_unit}"
+        yield f"price participation of {metal.name}", f"{percent(rule.share)} {where} {number(rule.base)} {currency}/{metal.price_unit}"
     for penalty in terms.penalties:
         steps = ", ".join(f"{number(charge)} above {number(grade)}" for grade, charge in penalty.steps)
-        per = f"{a_tonne} of dry concentrate for each {number(penalty.per)} of grade"
+        per = f"{currency}/t of dry concentrate for each {number(penalty.per)} of grade"
         yield f"penalties for {penalty.column}", f"{steps} {per}; {percent(penalty.recovery)} comes into the concentrate"
 
 
@@ -136,26 +128,20 @@ def costs(project: Project) -> Iterator[tuple[str, str]]:
     money = project.economics
     a_tonne = f"{money.currency}/t"
     yield from stated(money, project, without=(*ROYALTIES, *OF_MINING, "decimals"))
-    if money.mining_cost_by_elevation:
-        ends = money.mining_cost_by_elevation[0], money.mining_cost_by_elevation[-1]
-        yield "mining cost by elevation", ", ".join(
-            f"{number(cost)} {a_tonne} more at {number(z)} m" for z, cost in ends
-        )
+    if by_elevation := money.mining_cost_by_elevation:
+        ends = (f"{number(cost)} {a_tonne} more at {number(z)} m" for z, cost in (by_elevation[0], by_elevation[-1]))
+        yield "mining cost by elevation", ", ".join(ends)
     if project.haulage:
-        for kind in ("ore", "waste"):
-            road = getattr(project.haulage, kind)
-            yield f"haulage of {kind}", f"{number(road.cost)} {a_tonne} and km, one way"
+        for kind, cost in vars(project.haulage.cost).items():
+            yield f"haulage of {kind}", f"{number(cost)} {a_tonne} and km, one way"
     for process in project.processes:
         yield f"processing cost of {process.name}", f"{by_code(process.cost)} {a_tonne} of mill feed"
-    yield from (
-        (f"cost adjustment factors ({name})", f"column {column} of the block model")
-        for name, column in (("mining", money.mcaf), ("processing", money.pcaf))
-        if column
-    )
+    for name, column in (("mining", money.mcaf), ("processing", money.pcaf)):
+        if column:
+            yield f"cost adjustment factors ({name})", f"column {column} of the block model"
     if money.capex:
-        yield "capital", ", ".join(
-            f"{number(amount)} {money.currency} at the start of year {year}" for year, amount in money.capex
-        )
+        spent = (f"{number(amount)} {money.currency} at the start of year {year}" for year, amount in money.capex)
+        yield "capital", ", ".join(spent)
     yield from stated(project.cash_flow, project)
     if project.cash_flow.tax_rate:
         years = project.cash_flow.depreciation_years
@@ -188,10 +174,8 @@ def capacities(project: Project) -> Iterator[tuple[str, str]]:
     rules, shells = project.schedule, project.shells
     most = (rules and rules.mining_capacity) or shells.mining_capacity
     yield "mining", "any" if most is None else f"{number(most)} t a year"
-    named = {it.name: it.capacity for it in project.processes}
-    for name, capacity in (
-        named or {"processing": (rules and rules.processing_capacity) or shells.processing_capacity}
-    ).items():
+    of_one = {"processing": (rules and rules.processing_capacity) or shells.processing_capacity}
+    for name, capacity in ({it.name: it.capacity for it in project.processes} or of_one).items():
         yield name, f"{number(capacity)} t a year"
     if rules and rules.ramp_up != (1.0,):
         yield "ramp-up", f"{', '.join(map(percent, rules.ramp_up))} of the processing capacity, by year"
@@ -239,11 +223,8 @@ def of_period(entry: Period, project: Project) -> Iterator[str]:
     currency = project.economics.currency
     if entry.period_months != MONTHS:
         yield f"periods of {entry.period_months} months"
-    given: dict[str, Optional[float]] = {
-        "mining": entry.mining_capacity,
-        "processing": entry.processing_capacity,
-        **entry.capacity,
-    }
+    given: dict[str, Optional[float]] = {"mining": entry.mining_capacity, "processing": entry.processing_capacity}
+    given |= entry.capacity
     yield from (f"{name} {number(most)} t a year" for name, most in given.items() if most is not None)
     yield from (f"{name} at least {number(least)} a year" for name, least in entry.minimum.items())
     yield from (f"{head_grade(it)} {between(it.min, it.max)}" for it in entry.feed)
@@ -262,21 +243,15 @@ def of_period(entry: Period, project: Project) -> Iterator[str]:
 def slopes(project: Project) -> Iterator[tuple[str, str]]:
     walls = project.slopes.domains
     for wall in walls:
-        name = (
-            f"domain {', '.join(wall.domains)}"
-            if wall.domains
-            else "all domains"
-            if len(walls) == 1
-            else "other domains"
-        )
-        yield name, angle_of(wall)
+        others = "all domains" if len(walls) == 1 else "other domains"
+        yield f"domain {', '.join(wall.domains)}" if wall.domains else others, angle_of(wall)
 
 
 def angle_of(wall: Wall) -> str:
-    """Returns the angles of a wall in words."""
     if wall.bench:
         it = wall.bench
-        return f"{it.angle:.1f} degrees: benches of {number(it.height)} m, faces of {number(it.face_angle)} degrees, berms of {number(it.berm_width)} m"
+        faces = f"faces of {number(it.face_angle)} degrees, berms of {number(it.berm_width)} m"
+        return f"{it.angle:.1f} degrees: benches of {number(it.height)} m, {faces}"
     if wall.angles:
         of = "dip direction" if wall.azimuth_of == DIP else "azimuth of the wall"
         angles = [number(angle) for _, angle in wall.angles]
