@@ -51,7 +51,7 @@ DEPRECIATED = f'expected "{UNITS_OF_PRODUCTION}" or straight line over years, as
 MOST_RATES = 20
 # A price or a cost: one for every rock, or one for each rock by its code.
 ByRock = Union[Decimal, dict[str, Decimal]]
-# When ore is told from waste: again at each revenue factor, or once at the base price.
+# When ore and waste are separated: again at each revenue factor, or once at the base price.
 PER_REVENUE_FACTOR, AT_BASE_PRICE = "per_revenue_factor", "base_price"
 # The largest number of years of a project.
 MOST_YEARS = 1_000

@@ -200,8 +200,8 @@ def write_ground(ground: Union[str, SurveyFile], folder: Path) -> Any:
 
 @dataclass(frozen=True)
 class Area:
-    """Polygons on the map, by a table of the corners x and y of one in order, or of a drawing or a map, of which the inside or the outside
-    may not be mined."""
+    """Polygons on the map, by a table of the corners x and y of one in order, or of a drawing or a map. Their inside or their
+    outside may not be mined."""
 
     polygon: SurveyFile = key(survey(AreaFile), "survey file of the polygons")
     exclude: str = key(choice(*SIDES), "side of the polygons that may not be mined", label="May not be mined")

@@ -187,8 +187,8 @@ def number(
     """A number in a range; errors end with the example."""
     span = Range(least, most, above, below)
     such = f", such as {example}" if example else ""
-    read = Kind(as_number, {"type": "number", **span.schema}, "" if span == Range(0) else span.words)
-    return read.where(span.__contains__, f"found {{}}, expected {span.words}{such}")
+    any_number = Kind(as_number, {"type": "number", **span.schema}, "" if span == Range(0) else span.words)
+    return any_number.where(span.__contains__, f"found {{}}, expected {span.words}{such}")
 
 
 def amount(least: Optional[Real] = 0, most: Optional[Real] = None, **others: Any) -> Kind:
@@ -258,7 +258,7 @@ def exactly(words: str, why: str, meant: Any) -> Kind:
 
 
 def array(item: Schema, least: int = 1, most: int = 0) -> dict[str, Any]:
-    """The JSON Schema of a list with at least and at most so many items; 0: any number."""
+    """The JSON Schema of a list with its least and its largest number of items; 0: any number."""
     return {"type": "array", "items": item} | {key: n for key, n in (("minItems", least), ("maxItems", most)) if n}
 
 
@@ -299,7 +299,7 @@ def numbers(count: int, item: Kind, why: str = "") -> Kind:
 
 
 def pairs(first: Kind, second: Kind, of: str, twice: str = "", least: int = 1) -> Kind:
-    """A list of pairs; `of` names the two. If `twice` is given, they rise by their first values, each of which occurs once, or it is the error."""
+    """A list of pairs; `of` names the two in errors. If `twice` is given, pairs rise by their first values; it is the error if one occurs twice."""
 
     def read(section: Section, key: str, value: Any) -> tuple[tuple[Any, Any], ...]:
         if (

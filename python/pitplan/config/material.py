@@ -30,7 +30,7 @@ class ClassRules:
     given: dict[str, str] = rest(choice(*TREATMENTS))
 
     def of(self, code: str) -> str:
-        """The treatment of a class: that of its rule, otherwise waste or ore by its name, whatever its case."""
+        """The treatment of a class: that of its rule, otherwise waste or ore by its name in any case."""
         return self.given.get(code, WASTE if code.lower() in WASTE_NAMES else ORE)
 
     def may_be_reserve(self, code: str) -> bool:

@@ -25,7 +25,7 @@ def overridden(data: dict[str, Any], assignments: Iterable[str]) -> dict[str, An
         The sections, as TOML has them.
     assignments : iterable of str
         Each `KEY=VALUE`. KEY names the section and the key, with points between: `economics.mining_cost`. An entry of a list of sections is
-        named by its `name`, or by its number from 1: `metals.copper.price`, `slopes.domains.2.angle`. VALUE is TOML; a word that is none,
+        named by its `name`, or by its number from 1: `metals.copper.price`, `slopes.domains.2.angle`. VALUE is TOML; another word,
         such as AUD, is a text.
 
     Raises
@@ -44,7 +44,7 @@ def overridden(data: dict[str, Any], assignments: Iterable[str]) -> dict[str, An
 
 
 def at(entry: Any, path: Sequence[str], where: str, is_made: bool = False) -> dict[str, Any]:
-    """The section at a path, which may be made if it is missing. Raises PlanError if there is none."""
+    """The section at a path, which may be made if it is missing. Raises PlanError otherwise."""
     for part in path:
         if is_made and isinstance(entry, dict):
             entry.setdefault(part, {})
@@ -57,7 +57,7 @@ def at(entry: Any, path: Sequence[str], where: str, is_made: bool = False) -> di
 
 
 def existing(entry: Any, part: str, where: str) -> Any:
-    """A key of a section, or an entry of a list by its name or its number from 1. Raises PlanError if there is none."""
+    """A key of a section, or an entry of a list by its name or its number from 1. Raises PlanError if it is missing."""
     if isinstance(entry, dict):
         if part in entry:
             return entry[part]
@@ -139,7 +139,7 @@ def times(value: Any, by: Decimal) -> Any:
 
 
 def value_of(text: str) -> Any:
-    """A TOML value, or the text itself if it is none."""
+    """A TOML value, otherwise the text itself."""
     try:
         return toml_text.parsed(f"value = {text}", "--set")["value"]
     except PlanError:

@@ -166,7 +166,7 @@ class Calendar:
         return int(np.searchsorted(ends, most)) + 1 if most in ends else None
 
     def by_year(self, value: Callable[[Period], Optional[Value]], otherwise: Value) -> tuple[Value, ...]:
-        """Returns a value of each period, the last of which continues; `otherwise` where an entry has none."""
+        """Returns a value of each period, and the last one continues; `otherwise` where an entry has no value."""
         found = (value(period) for period in self.listed)
         return tuple(otherwise if it is None else it for it in found) or (otherwise,)
 

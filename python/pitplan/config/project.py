@@ -176,7 +176,7 @@ class Project:
         return bool(self.table.topography or self.constraints and self.constraints.as_mined)
 
     def to_toml(self, folder: Optional[Path] = None) -> str:
-        """The text of a project.toml in a folder, by default that of the project's own file. It reads back as this project, but for `path`
+        """The text of a project.toml in a folder, by default that of the project's own file. It reads back as this project, except `path`
         and `solver`."""
         from .project_writer import of_project
 
@@ -280,7 +280,7 @@ def load(path: Union[str, Path], original: Optional[Path] = None, overrides: Ite
     path : str or Path
         The project.toml.
     original : Path, optional
-        The file of which `path` is a copy: paths in the project are relative to its folder.
+        The original of the copy `path`: paths in the project are relative to its folder.
     overrides : iterable of str
         Keys to set in place of those of the file, each `KEY=VALUE`, such as `economics.mining_cost=2.6`.
 

@@ -257,7 +257,7 @@ def encoding_of(written: str) -> str:
     """A name that Python knows; of UTF-8 a byte-order mark is passed over."""
     try:
         known = codecs.lookup(written).name
-        # Codecs such as base64 and rot13 are known too, and are none of texts.
+        # Codecs such as base64 and rot13 are known too, and do not encode texts.
         "".encode(known)
     except (LookupError, ValueError) as error:
         expected = "expected one such as utf-8, cp1252 or utf-16"
@@ -288,7 +288,7 @@ POINT, SIZE = numbers(3, amount(None)), numbers(3, amount(above=0))
 
 @dataclass(frozen=True)
 class Reblock:
-    """The rows that make up a block: so many blocks each way, or all that lie in blocks of a size, from a corner on, in metres. With neither
+    """The rows that make up a block: a count of blocks each way, or all that lie in blocks of a size, from a corner on, in metres. With neither
     the blocks are as large as the largest cells.
 
     Counts and sizes are east, north and up; the corner is x, y, z at the west, the south and the floor of some block.
@@ -390,7 +390,7 @@ class TableColumns(Coded):
 
 @dataclass(frozen=True)
 class GridRules:
-    """The grid of the blocks; None: as the centroids tell it."""
+    """The grid of the blocks; None: as found from the centroids."""
 
     size: Optional[tuple[float, float, float]] = key(
         SIZE, "of a block along the axes of the grid", None, "m", otherwise="from the centroids"

@@ -412,7 +412,7 @@ def rules_in(data: Mapping[str, Any]) -> list[dict[str, Any]]:
 
 
 def rules_of(rows: Pairs) -> dict[str, str]:
-    """Returns the rules of rows by class. Raises WrongForm if a class is missing or occurs twice, or a rule is none."""
+    """Returns the rules of rows by class. Raises WrongForm if a class is missing or occurs twice, or a rule is unknown."""
     found: dict[str, str] = {}
     for number, (code, rule) in enumerate(rows, 1):
         where = f"Resource classes, row {number}"

@@ -113,7 +113,7 @@ def fields_in(
 
 
 def may_be_added(section: str, key: str, it: Key, written: Mapping[str, Entry], data: Mapping[str, Any]) -> bool:
-    """Returns whether a key is left out, and can be added: its section is no list, and is none or has a header of its own."""
+    """Returns whether a key is left out, and can be added: its section is no list, and is missing or has a header of its own."""
     held = data.get(section, {})
     is_section = isinstance(held, dict) and "." not in section and section not in ("metals", "processes")
     return is_section and not it.is_required and not it.is_seldom and key not in held and section not in written

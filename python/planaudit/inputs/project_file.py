@@ -131,7 +131,7 @@ def section(name: str, data: Section) -> dict[str, Any]:
     KeyError
         If a key without default is missing.
     TypeError
-        If a number is none.
+        If a value is no number.
     """
     found = {}
     for form, defaults in KEYS[name].items():
