@@ -339,7 +339,7 @@ class Tables:
 
     def unlike_blocks(self) -> list[str]:
         """Returns differences of years and shares of blocks from the common schedule."""
-        told, one, ground = self.schedules.whole.folder.told, self.schedules.one, self.schedules.ground
+        told, one, ground = self.schedules.whole.folder.written, self.schedules.one, self.schedules.ground
         off = (told["year"].to_numpy() != one.year) | ~(np.abs(told["share_mill"].to_numpy() - one.share) <= SLIGHT)
         rows = np.flatnonzero(off)[:TOLD]
         return [

@@ -74,7 +74,7 @@ class Simulated:
     table   the table, with the columns of realisations, if they are columns
     rows    one row per block without grades: those of the table, followed by filled missing blocks
     known   how many of these are those of the table
-    told    the same rows of probability.csv, or with schedules of common_schedule.csv
+    written the same rows of probability.csv, or with schedules of common_schedule.csv
     parts   with reblocking the rows of the table without grades; otherwise None
     """
 
@@ -85,7 +85,7 @@ class Simulated:
     table: pd.DataFrame
     rows: pd.DataFrame
     known: int
-    told: pd.DataFrame
+    written: pd.DataFrame
     parts: Optional[pd.DataFrame] = None
 
     @property

@@ -107,9 +107,9 @@ class Verification:
     def ground(self) -> Answer:
         """Returns the blocks as results of a plan in which none is mined."""
         folder = self.folder
-        said = pd.DataFrame({"id": folder.told["id"].to_numpy(), "revenue_factor": 0})
+        said = pd.DataFrame({"id": folder.written["id"].to_numpy(), "revenue_factor": 0})
         rows = folder.rows
-        own = own_columns(folder.told, rows, np.arange(len(rows)))
+        own = own_columns(folder.written, rows, np.arange(len(rows)))
         return Answer(
             folder.folder,
             folder.project,
@@ -231,7 +231,7 @@ class Verification:
         """Returns the first ten differences of probability.csv at each revenue factor, to six digits, and their number."""
         differences, count = [], 0
         for number, factor in enumerate(self.folder.factors):
-            said = self.folder.told[f"probability_{factor_text(factor)}"].to_numpy()
+            said = self.folder.written[f"probability_{factor_text(factor)}"].to_numpy()
             off = np.flatnonzero(~(np.abs(said - expected[:, number]) <= 1e-6))
             for row in off[:TOLD]:
                 differences.append(
