@@ -23,7 +23,7 @@ use Rattle.certificate.specs.CertificateGrammar.SpellsFormat.{with_fixed, withou
 use Rattle.certificate.proofs.LinesRead.{nothing_found}
 use Rattle.report.specs.HeadLines.{SpellsNumber}
 use Rattle.report.proofs.HeadWritten.{whole_read, written, number_words, two_words, two_fields, two_plain, names, number_line_plain, tested, blocks_word, arcs_word}
-use Rattle.report.proofs.PlainLines.{IsLine, IsWord, AreLines, word_line, text_of, lines_text, one_word, next_word, digits_read}
+use Rattle.report.proofs.PlainLines.{IsLine, IsWord, AreLines, word_line, text_of, lines_text, one_word, next_word, numbers_text, digits_read}
 
 -- ---- the lines of blocks
 
@@ -55,13 +55,6 @@ blocks_plain n [] rest few below r = r
 blocks_plain n (id ∷ ids) rest few below r =
     let known = below 0 0 (omega arith) in
     (word_line (decimal id) (written id (omega arith)).word, blocks_plain n ids rest few (λ i e l. below (suc i) e (omega arith)) r)
-
-blocks_text : (ids : List ℕ) (rest : List (List ℕ)) → text_of (map decimal ids ++ rest) ≡ flat_map line_of ids ++ text_of rest
-blocks_text [] rest = refl
-blocks_text (id ∷ ids) rest =
-    ap (λ (xs : List ℕ). decimal id ++ 10 ∷ xs) (blocks_text ids rest)
-    ∙ sym (append_assoc (decimal id) (10 ∷ []) (flat_map line_of ids ++ text_of rest))
-    ∙ sym (append_assoc (line_of id) (flat_map line_of ids) (text_of rest))
 
 -- ---- the lines of arcs
 
@@ -118,7 +111,7 @@ list_lines word ids = number_words word (length ids) ∷ map decimal ids
 
 list_is_text : (word ids : List ℕ) (rest : List (List ℕ)) → text_of (list_lines word ids ++ rest) ≡ list_text word ids ++ text_of rest
 unfolding list_text
-list_is_text word ids rest = ap (λ (xs : List ℕ). number_words word (length ids) ++ 10 ∷ xs) (blocks_text ids rest) ∙ simp append_assoc
+list_is_text word ids rest = ap (λ (xs : List ℕ). number_words word (length ids) ++ 10 ∷ xs) (numbers_text ids rest) ∙ simp append_assoc
 
 -- a list that may be written for n blocks, behind this word
 record IsList (n : ℕ) (word ids : List ℕ) : Type 0 where

@@ -2,6 +2,9 @@ pub mod PutLemmas
 pub mod Digits
 pub mod Firsts
 pub mod PlainLines
+pub mod ExampleNumbers
+pub mod NumbersRead
+pub mod PitRead
 pub mod FirstFaults
 pub mod ReadingOn
 pub mod HeadRead

@@ -1,8 +1,8 @@
 -- A text of plain lines has exactly these lines, and a line of words with one space between them exactly these fields;
 -- and the digits that `decimal` writes are read as the number.
-use Rattle.std.proofs.Common.{◌≡◌, ℕ, ◌+◌, ◌-◌, ◌/◌, ◌%◌, ◌^◌, ◌<◌, ◌≤◌, ◌&&◌, Bool, true, false, cond, eqb, leb, ltb, List, [], ◌∷◌, ◌++◌, length, get_or, take, filter, Some, None, refl, ap, ◌∙◌, arith, ⊎_elim}
+use Rattle.std.proofs.Common.{◌≡◌, ℕ, ◌+◌, ◌-◌, ◌/◌, ◌%◌, ◌^◌, ◌<◌, ◌≤◌, ◌&&◌, Bool, true, false, cond, eqb, leb, ltb, List, [], ◌∷◌, ◌++◌, length, get_or, take, filter, map, Some, None, refl, sym, ap, ◌∙◌, arith, append_assoc, ⊎_elim}
 use Rattle.std.specs.Prelude.{◌||◌, decimal}
-use Rattle.std.specs.List.{All, slice_split}
+use Rattle.std.specs.List.{All, flat_map, slice_split}
 use Rattle.std.specs.Char.{is_ascii_digit}
 use Rattle.std.specs.Str.{all_ascii_digits}
 use Rattle.std.specs.Str.Lines.{lines, lines_of_parts, strip_carriage_return}
@@ -17,6 +17,7 @@ use Rattle.std.specs.Char.{digit_value}
 use Rattle.std.specs.Str.Parse.{digits_value}
 use Rattle.std.proofs.lemmas.Str.{digit_value_digit}
 use Rattle.std.proofs.lemmas.Int.Digits.{digits_value_push}
+use Rattle.pit_model.specs.PitText.{line_of}
 use Rattle.minelib_reader.specs.Text.{is_blank, is_field, fields_of}
 
 -- bytes of a line, and of a word
@@ -25,6 +26,13 @@ IsLine l = All (λ b. 32 ≤ b) l
 
 abbrev pub IsWord : List ℕ → Type 0
 IsWord w = All (λ b. 48 ≤ b) w
+
+-- bytes of a field: none is a blank
+abbrev pub IsPlainField : List ℕ → Type 0
+IsPlainField w = All (λ b. 33 ≤ b) w
+
+pub word_field : (w : List ℕ) → IsWord w → IsPlainField w
+word_field w h = λ k d l. let low = h k d l in omega arith
 
 pub word_line : (w : List ℕ) → IsWord w → IsLine w
 word_line w h = λ k d l. let low = h k d l in omega arith
@@ -38,7 +46,7 @@ abbrev pub AreLines : List (List ℕ) → Type 0
 AreLines [] = Unit {0}
 AreLines (l ∷ ls) = IsLine l × AreLines ls
 
-unequal : (b c : ℕ) → (b ≡ c → ⊥) → eqb b c ≡ false
+pub unequal : (b c : ℕ) → (b ≡ c → ⊥) → eqb b c ≡ false
 unequal b c ne = ⊎_elim (λ p. absurd (ne p.1)) (λ p. p.0) (eqb_tells b c)
 
 abbrev is_newline : ℕ → Bool
@@ -66,22 +74,33 @@ join_parts (l ∷ m ∷ ls) h = ap (λ (x : List ℕ). x ∷ lines_of_parts ((m 
 pub lines_text : (ls : List (List ℕ)) → AreLines ls → lines (text_of ls) ≡ ls
 lines_text ls h = ap lines_of_parts (split_text ls h) ∙ join_parts ls h
 
+-- the lines of numbers
+pub numbers_text : (ids : List ℕ) (rest : List (List ℕ)) → text_of (map decimal ids ++ rest) ≡ flat_map line_of ids ++ text_of rest
+numbers_text [] rest = refl
+numbers_text (id ∷ ids) rest =
+    ap (λ (xs : List ℕ). decimal id ++ 10 ∷ xs) (numbers_text ids rest)
+    ∙ sym (append_assoc (decimal id) (10 ∷ []) (flat_map line_of ids ++ text_of rest))
+    ∙ sym (append_assoc (line_of id) (flat_map line_of ids) (text_of rest))
+
 -- ---- fields
 
-no_blank : (b : ℕ) → 48 ≤ b → is_blank b ≡ false
+no_blank : (b : ℕ) → 33 ≤ b → is_blank b ≡ false
 no_blank b low = ap (λ (v : Bool). v || eqb b 9) (unequal b 32 (λ e. omega arith)) ∙ unequal b 9 (λ e. omega arith)
 
 kept : (x : List ℕ) (xs : List (List ℕ)) → 0 < length x → filter is_field (x ∷ xs) ≡ x ∷ filter is_field xs
 kept [] xs h = absurd (omega arith)
 kept (b ∷ bs) xs h = refl
 
-pub one_word : (w : List ℕ) → IsWord w → 0 < length w → fields_of w ≡ w ∷ []
+pub one_field : (w : List ℕ) → IsPlainField w → 0 < length w → fields_of w ≡ w ∷ []
 unfolding fields_of
-one_word w h some = ap (filter is_field) (slice_split_none is_blank w (λ k d l. no_blank _ (h k d l))) ∙ kept w [] some
+one_field w h some = ap (filter is_field) (slice_split_none is_blank w (λ k d l. no_blank _ (h k d l))) ∙ kept w [] some
+
+pub one_word : (w : List ℕ) → IsWord w → 0 < length w → fields_of w ≡ w ∷ []
+one_word w h some = one_field w (word_field w h) some
 
 pub next_word : (w rest : List ℕ) → IsWord w → 0 < length w → fields_of (w ++ 32 ∷ rest) ≡ w ∷ fields_of rest
 unfolding fields_of
-next_word w rest h some = ap (filter is_field) (slice_split_at is_blank w 32 rest (λ k d l. no_blank _ (h k d l)) refl) ∙ kept w (slice_split is_blank rest) some
+next_word w rest h some = ap (filter is_field) (slice_split_at is_blank w 32 rest (λ k d l. no_blank _ (word_field w h k d l)) refl) ∙ kept w (slice_split is_blank rest) some
 
 -- ---- numbers
 
@@ -91,19 +110,19 @@ pub record IsNumeral (n : ℕ) (ds : List ℕ) : Type 0 where
   pub some : 0 < length ds
   pub word : IsWord ds
 
-digits-append : (xs ys : List ℕ) → all_ascii_digits xs ≡ true → all_ascii_digits ys ≡ true → all_ascii_digits (xs ++ ys) ≡ true
+pub digits-append : (xs ys : List ℕ) → all_ascii_digits xs ≡ true → all_ascii_digits ys ≡ true → all_ascii_digits (xs ++ ys) ≡ true
 digits-append [] ys p q = q
 digits-append (x ∷ xs) ys p q =
     let parts = and_parts (is_ascii_digit x) (all_ascii_digits xs) p in
     and_from (is_ascii_digit x) (all_ascii_digits (xs ++ ys)) parts.0 (digits-append xs ys parts.1 q)
 
-digit_byte : (n : ℕ) → n < 10 → digit_value (48 + n) ≡ n
+pub digit_byte : (n : ℕ) → n < 10 → digit_value (48 + n) ≡ n
 digit_byte n small = let sum = digit_value_digit (48 + n) (omega arith, omega arith) in omega (arith, sum)
 
 digit : (n : ℕ) → n < 10 → all_ascii_digits ((48 + n) ∷ []) ≡ true
 digit n small = and_from (is_ascii_digit (48 + n)) true (and_from (leb 48 (48 + n)) (leb (48 + n) 57) (le-leb 48 (48 + n) (omega arith)) (le-leb (48 + n) 57 (omega arith))) refl
 
-one_digit : (n : ℕ) → n < 10 → IsNumeral n ((48 + n) ∷ [])
+pub one_digit : (n : ℕ) → n < 10 → IsNumeral n ((48 + n) ∷ [])
 one_digit n small = record {
   digits = digit n small;
   value = ap (λ (d : ℕ). 0 + d) (digit_byte n small) ∙ omega arith;
@@ -111,8 +130,9 @@ one_digit n small = record {
   word = All-cons (λ b. 48 ≤ b) (48 + n) [] (omega arith) (All-nil (λ b. 48 ≤ b));
 }
 
-more_digits : (n : ℕ) (ds : List ℕ) → 10 ≤ n → IsNumeral (n / 10) ds → IsNumeral n (ds ++ (48 + n % 10) ∷ [])
-more_digits n ds more h =
+-- one digit more
+pub push_digit : (n : ℕ) (ds : List ℕ) → IsNumeral (n / 10) ds → IsNumeral n (ds ++ (48 + n % 10) ∷ [])
+push_digit n ds h =
     let last = one_digit (n % 10) (omega arith) in
     record {
       digits = digits-append ds ((48 + n % 10) ∷ []) h.digits last.digits;
@@ -122,7 +142,7 @@ more_digits n ds more h =
     }
 
 pub numeral : (n : ℕ) → n < 10 ^ 64 → IsNumeral n (decimal n)
-numeral n fits = decimal_by_steps_wide IsNumeral one_digit more_digits n fits
+numeral n fits = decimal_by_steps_wide IsNumeral one_digit (λ m ds more h. push_digit m ds h) n fits
 
 pub digits_read : (most n : ℕ) → 0 < most → n < 10 ^ most → n < 10 ^ 64 → digits_of most (decimal n) ≡ Some n
 unfolding digits_of

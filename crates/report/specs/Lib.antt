@@ -8,3 +8,6 @@ pub mod LineByLine
 pub mod JournalLines
 pub mod JournalFault
 pub mod JournalGrammar
+pub mod PrintedNumbers
+pub mod ExampleNumbers
+pub mod PitGrammar

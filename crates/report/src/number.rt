@@ -2,6 +2,8 @@
 ghost use Rattle.std.specs.Prelude.{◌≡◌, ◌≤◌, ◌^◌, length};
 ghost use Rattle.pit_model.specs.PitText.{last_digits, sign_text, with_decimals, with_six_decimals};
 ghost use Rattle.pit_model.specs.ShellText.{with_nine_decimals};
+ghost use Rattle.report.specs.ExampleNumbers.{PrintedExamples};
+ghost use Rattle.report.specs.PrintedNumbers.{NumbersReadBack};
 ghost use Rattle.report.specs.Puts.{IsReady, Puts};
 
 use crate::out::{Out, put};
@@ -75,3 +77,13 @@ pub fn put_billionths<W: OutBytes>(writer: &mut W, out: &mut Out, number: i128)
 {
     put_with_decimals(writer, out, number, 1_000_000_000, &mut [0; 9]);
 }
+
+/// A number that is printed with decimals reads back as itself.
+pub fn printed_numbers_read_back()
+    ensures { NumbersReadBack }
+{}
+
+/// Numbers that are printed and read back by hand, and texts that are no such numbers.
+pub fn printed_examples()
+    ensures { PrintedExamples }
+{}

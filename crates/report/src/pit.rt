@@ -3,6 +3,7 @@ ghost use Rattle.std.specs.Prelude.{◌≡◌, ◌<◌, ◌^◌, IfErr};
 ghost use Rattle.minelib_reader.specs.Device.{Writes};
 ghost use Rattle.faults.specs.Refused.{write_failed};
 ghost use Rattle.pit_model.specs.PitText.{line_of, pit_head, pit_text};
+ghost use Rattle.report.specs.PitGrammar.{PitReadsBack};
 ghost use Rattle.report.specs.Puts.{IsReady, Puts};
 
 use crate::number::{put_millionths, put_number};
@@ -49,3 +50,8 @@ pub fn write_pit<W: OutBytes>(writer: &mut W, n: u32, pit: &[u32], worth: i128) 
     }
     finish(writer, &mut out)
 }
+
+/// The text that `write_pit` writes is read as that pit with its value, and as no other.
+pub fn pit_reads_back()
+    ensures { PitReadsBack }
+{}
