@@ -12,6 +12,9 @@ pub mod Replaying
 pub mod ReplayOnce
 pub mod ReplayTakes
 pub mod ReplaySpends
+pub mod OneCheck
+pub mod OneReplay
+pub mod OneDepositFault
 mod Calling
 mod Reading
 mod Writing

@@ -160,7 +160,7 @@ names_cycle pairs n NoMemory fault is other h = absurd (other h)
 names_cycle pairs n (Cycle list) fault is other h = (list.items, h.0, rw (is, h.1, h.2) refl)
 names_cycle pairs n r fault is other h = absurd h
 
-one_cycle : (pairs : List (ℕ × ℕ)) (n : ℕ) (f g : Fault) → (f ≡ no_memory → ⊥) → (g ≡ no_memory → ⊥) → IsGraphFault pairs n f → IsGraphFault pairs n g → fault_text f ≡ fault_text g
+pub one_cycle : (pairs : List (ℕ × ℕ)) (n : ℕ) (f g : Fault) → (f ≡ no_memory → ⊥) → (g ≡ no_memory → ⊥) → IsGraphFault pairs n f → IsGraphFault pairs n g → fault_text f ≡ fault_text g
 one_cycle pairs n f g some some_too a b =
     let x = names_cycle pairs n f.refusal f refl some a in
     let y = names_cycle pairs n g.refusal g refl some_too b in
@@ -213,7 +213,7 @@ same_fixed_fault gone d n m f g alike count a b = absurd a
 same_fixed_fault (one_reader r) no_reader n m f g alike count a b = absurd b
 same_fixed_fault (one_reader r) gone n m f g alike count a b = absurd b
 
-alike_back : (c d : OptionalReading) → ChoseAlike c d → ChoseAlike d c
+pub alike_back : (c d : OptionalReading) → ChoseAlike c d → ChoseAlike d c
 alike_back no_reader no_reader alike = tt
 alike_back (one_reader r) (one_reader s) alike = λ text behind x y. sym (alike behind text y x)
 alike_back no_reader (one_reader s) alike = absurd alike

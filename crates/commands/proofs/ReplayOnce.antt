@@ -1,5 +1,5 @@
 -- The journal that a solve wrote has one replay: it ends as the solve did.
-use Rattle.std.proofs.Common.{◌≡◌, ℕ, zero, suc, sym, subst, ◌∙◌, List, [], ◌∷◌, take, Option}
+use Rattle.std.proofs.Common.{◌≡◌, ℕ, zero, suc, ◌≤◌, refl, sym, ap, subst, ◌∙◌, arith, List, [], ◌∷◌, take, Option}
 use Rattle.std.proofs.lemmas.Bool.{false≢true}
 use Rattle.std.proofs.lemmas.List.{append_cancel_left}
 use Rattle.minelib_reader.specs.Device.{Progress}
@@ -28,7 +28,7 @@ use Rattle.commands.specs.declared.status.Status.{Status}
 use Rattle.commands.specs.declared.status.Status.TheVariants.{Done}
 use Rattle.commands.proofs.Uniqueness.{given_once, mine_in_order, solves_once}
 
-journal_once : (graph : Graph) (text : List ℕ) (j k : BudgetAndEntries) → SpellsJournal graph text j → SpellsJournal graph text k → j ≡ k
+pub journal_once : (graph : Graph) (text : List ℕ) (j k : BudgetAndEntries) → SpellsJournal graph text j → SpellsJournal graph text k → j ≡ k
 journal_once graph text j k s t =
     same_value j k (sym (journals.reads graph (count_of_lines text) (rows_of text) j s) ∙ journals.reads graph (count_of_lines text) (rows_of text) k t)
 
@@ -37,6 +37,17 @@ lawful_front : (mine : Instance) (budget : Option ℕ) (tree : Tree) (made k : �
 lawful_front mine budget tree made zero journal lawful = tt
 lawful_front mine budget tree made (suc k) [] lawful = tt
 lawful_front mine budget tree made (suc k) (entry ∷ others) lawful = (lawful.0, lawful_front mine budget (tree_after mine tree entry) (count_after made entry) k others lawful.1)
+
+take_front : (k l : ℕ) (journal : List Entry) → k ≤ l → take k (take l journal) ≡ take k journal
+take_front zero l journal le = refl
+take_front (suc k) zero journal le = absurd (omega arith)
+take_front (suc k) (suc l) [] le = refl
+take_front (suc k) (suc l) (entry ∷ others) le = ap (λ (es : List Entry). entry ∷ es) (take_front k l others (omega arith))
+
+-- and so are fewer of them
+pub lawful_take : (mine : Instance) (budget : Option ℕ) (journal : List Entry) (k l : ℕ) → k ≤ l → IsLawful mine budget (take l journal) → IsLawful mine budget (take k journal)
+lawful_take mine budget journal k l le lawful =
+    subst (IsLawful mine budget) (take_front k l journal le) (lawful_front mine budget (opening mine) 0 k (take l journal) lawful)
 
 pub no_difference : (mine : Instance) (budget : Option ℕ) (journal : List Entry) (k : ℕ) → IsLawful mine budget journal → DiffersAt mine budget journal k → ⊥
 no_difference mine budget journal k lawful d = d.differs (lawful_front mine budget (opening mine) 0 k journal lawful)

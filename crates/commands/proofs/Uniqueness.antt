@@ -56,7 +56,7 @@ model_once text m n s t = same_value m n (sym (models.reads (count_of_lines text
 pub pairs_once : (n : ℕ) (text : List ℕ) (ps qs : List (ℕ × ℕ)) → SpellsPrec n text ps → SpellsPrec n text qs → ps ≡ qs
 pairs_once n text ps qs s t = same_value ps qs (sym (precedences.reads n 0 0 (rows_of text) ps s) ∙ precedences.reads n 0 0 (rows_of text) qs t)
 
-table_once : (text : List ℕ) (s t : Table) → SpellsTable text s → SpellsTable text t → s ≡ t
+pub table_once : (text : List ℕ) (s t : Table) → SpellsTable text s → SpellsTable text t → s ≡ t
 table_once text s t a b = same_value s t (sym (tables.reads (rows_of text) s a) ∙ tables.reads (rows_of text) t b)
 
 certificate_once : (graph : Graph) (lists : FixedLists) (text : List ℕ) (c d : PitAndFlow) → AreRising graph.pairs → SpellsCertificate graph lists text c → SpellsCertificate graph lists text d → c ≡ d
@@ -119,7 +119,7 @@ one_set : (direction : Direction) (mine : Instance) (fixed : Fixed) (pit other :
 one_set Least mine fixed pit other = fixed_pit_is_one mine fixed pit other
 one_set Greatest mine fixed pit other = greatest_is_one mine fixed pit other
 
-one_text : (direction : Direction) (fixed_mine : FixedInstance) (s t : List ℕ) → IsPitText direction fixed_mine s → IsPitText direction fixed_mine t → s ≡ t
+pub one_text : (direction : Direction) (fixed_mine : FixedInstance) (s t : List ℕ) → IsPitText direction fixed_mine s → IsPitText direction fixed_mine t → s ≡ t
 one_text direction fixed_mine s t a b =
     let mine = fixed_mine.mine in
     let same = one_set direction mine (fixed_in fixed_mine) a.pit b.pit a.is_pit b.is_pit in
@@ -151,18 +151,22 @@ prices_of : List ℤ → List ℤ → Prices
 prices_of revenues costs = record { revenues = revenues; costs = costs }
 
 module _ (blocks prec other_blocks other_prec : Reading) (same : GaveAlike blocks other_blocks) (same_prec : GaveAlike prec other_prec) where
-  one_table : (s t : Table) (ps qs : List (ℕ × ℕ)) → GaveTable blocks prec s ps → GaveTable other_blocks other_prec t qs → s ≡ t
+  pub one_table : (s t : Table) (ps qs : List (ℕ × ℕ)) → GaveTable blocks prec s ps → GaveTable other_blocks other_prec t qs → s ≡ t
   one_table s t ps qs one other =
       let text = same one.blocks_text other.blocks_text one.blocks_given other.blocks_given in
       table_once other.blocks_text s t (subst (λ x. SpellsTable x s) text one.blocks_spelled) other.blocks_spelled
+
+  pub one_pairs : (s t : Table) (ps qs : List (ℕ × ℕ)) → GaveTable blocks prec s ps → GaveTable other_blocks other_prec t qs → ps ≡ qs
+  one_pairs s t ps qs one other =
+      let count : rows t ≡ rows s = ap rows (sym (one_table s t ps qs one other)) in
+      let text = same_prec one.prec_text other.prec_text one.prec_given other.prec_given in
+      pairs_given (rows s) (rows t) one.prec_text other.prec_text ps qs count text one.prec_spelled other.prec_spelled
 
   one_deposit : (revenue cost : ℕ) (d e : Deposit) → GaveDeposit blocks prec revenue cost d → GaveDeposit other_blocks other_prec revenue cost e → d ≡ e
   unfolding prices_of
   one_deposit revenue cost d e one other =
       let table = one_table one.table other.table one.pairs other.pairs one.given other.given in
-      let count : rows other.table ≡ rows one.table = ap rows (sym table) in
-      let text = same_prec one.given.prec_text other.given.prec_text one.given.prec_given other.given.prec_given in
-      let pairs = pairs_given (rows one.table) (rows other.table) one.given.prec_text other.given.prec_text one.pairs other.pairs count text one.given.prec_spelled other.given.prec_spelled in
+      let pairs = one_pairs one.table other.table one.pairs other.pairs one.given other.given in
       let revenues = one_column other.table revenue one.prices.revenues other.prices.revenues (subst (λ t. IsColumn t revenue one.prices.revenues) table one.columns.revenues_are) other.columns.revenues_are in
       let costs = one_column other.table cost one.prices.costs other.prices.costs (subst (λ t. IsColumn t cost one.prices.costs) table one.columns.costs_are) other.columns.costs_are in
       let prices : one.prices ≡ other.prices = ap (λ r. prices_of r one.prices.costs) revenues ∙ ap (prices_of other.prices.revenues) costs in

@@ -4,16 +4,16 @@ use Rattle.minelib_reader.specs.Device.{Progress}
 use Rattle.faults.specs.Refused.{no_memory}
 use Rattle.faults.specs.declared.fault.Fault.{Fault}
 use Rattle.faults.specs.declared.refusal.Refusal.{Refusal}
-use Rattle.faults.specs.declared.refusal.Refusal.TheVariants.{Exhausted, NoMemory, ReadFailed, WriteFailed}
+use Rattle.faults.specs.declared.refusal.Refusal.TheVariants.{Exhausted, NoMemory, NoSeat, ReadFailed, WriteFailed}
 use Rattle.pit_model.specs.Graph.{IsGraph}
 use Rattle.pit_model.specs.declared.direction.Direction.{Direction}
 use Rattle.pit_model.specs.declared.direction.Direction.TheVariants.{Least}
 use Rattle.report.specs.AnswerText.{answer_text}
 use Rattle.report.specs.FaultText.{fault_text}
 use Rattle.commands.specs.Solve.{OptionalReading, no_reader, one_reader, Files, FixedInstance, GaveInOrder, Reading, Gave, IsDone, FirstFault, RefusesMine}
-use Rattle.commands.specs.ShellsRun.{IsShellsDone}
+use Rattle.commands.specs.ShellsRun.{IsShellsDone, RefusesShellsRun}
 use Rattle.commands.specs.Certified.{IsCertified}
-use Rattle.commands.specs.Check.{AnswersText, IsChecked}
+use Rattle.commands.specs.Check.{AnswersText, IsChecked, RefusesCheck}
 use Rattle.commands.specs.Journaled.{AtAnyEnd, AtBudget, IsJournaled}
 use Rattle.commands.specs.Replay.{ReportsReplay, RefusesJournal, RefusesReplay}
 use Rattle.pit_model.specs.Replay.{IsComplete}
@@ -98,6 +98,52 @@ ChecksOnce files other certificate other_certificate =
     → IsChecked files certificate before after status
     → IsChecked other other_certificate other_before other_after other_status
     → TookSame before after other_before other_after × (status ≡ other_status)
+
+-- two runs of `replay` over the same texts, both done, wrote the same answer, and ended with the same status
+abbrev pub ReplaysOnce : (files other : Files) (journal other_journal : Reading) → Type 0
+ReplaysOnce files other journal other_journal =
+    (before after other_before other_after : Progress) (status other_status : Status)
+    → ReadAlike files other → GaveAlike journal other_journal
+    → ReportsReplay files journal before after status
+    → ReportsReplay other other_journal other_before other_after other_status
+    → TookSame before after other_before other_after × (status ≡ other_status)
+
+-- a refusal by what a text says: not by memory, by a read or write that failed, or by a solve that did not end
+abbrev pub BlamesAText : Refusal → Type 0
+BlamesAText NoMemory = ⊥
+BlamesAText ReadFailed = ⊥
+BlamesAText WriteFailed = ⊥
+BlamesAText NoSeat = ⊥
+BlamesAText (Exhausted count) = ⊥
+BlamesAText _ = Unit {0}
+
+-- two runs of `check` over the same texts that blame one of them name the same fault: its text is the same
+abbrev pub CheckFaultsOnce : (files other : Files) (certificate other_certificate : Reading) → Type 0
+CheckFaultsOnce files other certificate other_certificate =
+    (before after other_before other_after : Progress) (fault second : Fault)
+    → ReadAlike files other → GaveAlike certificate other_certificate → BlamesAText fault.refusal → BlamesAText second.refusal
+    → RefusesCheck fault.refusal fault files certificate before after
+    → RefusesCheck second.refusal second other other_certificate other_before other_after
+    → fault_text fault ≡ fault_text second
+
+-- and so do two runs of `replay`
+abbrev pub ReplayFaultsOnce : (files other : Files) (journal other_journal : Reading) → Type 0
+ReplayFaultsOnce files other journal other_journal =
+    (before after other_before other_after : Progress) (fault second : Fault)
+    → ReadAlike files other → GaveAlike journal other_journal → BlamesAText fault.refusal → BlamesAText second.refusal
+    → RefusesReplay fault.refusal fault files journal before after
+    → RefusesReplay second.refusal second other other_journal other_before other_after
+    → fault_text fault ≡ fault_text second
+
+-- and two runs of `shells` with the same columns, in any modes, toward any directions, at any factors
+abbrev pub ShellFaultsOnce : (blocks prec other_blocks other_prec : Reading) → Type 0
+ShellFaultsOnce blocks prec other_blocks other_prec =
+    (mode other_mode : Mode) (direction other_direction : Direction) (revenue cost : ℕ) (factors other_factors : List ℕ)
+    (before after other_before other_after : Progress) (fault second : Fault)
+    → GaveAlike blocks other_blocks → GaveAlike prec other_prec → BlamesAText fault.refusal → BlamesAText second.refusal
+    → RefusesShellsRun mode direction fault.refusal fault blocks prec revenue cost factors before after
+    → RefusesShellsRun other_mode other_direction second.refusal second other_blocks other_prec revenue cost other_factors other_before other_after
+    → fault_text fault ≡ fault_text second
 
 -- where `check` is done over the same texts and the certificate that a run of `solve` wrote, it wrote yes
 abbrev pub PassesCheck : (files other : Files) (certificate : Reading) → Type 0

@@ -1,9 +1,10 @@
-//! Laws: two runs over the same texts end alike. Each is a function with an empty body whose contract is the law, for any readers.
+//! Laws: two runs over the same texts end alike. Each is a function whose contract is the law, for any readers; its body is empty,
+//! or calls a law of a crate below.
 ghost use Rattle.commands.specs.declared.mine.MineFiles.{MineFiles};
 ghost use Rattle.commands.specs.Solve.{files_of, given_by};
-ghost use Rattle.commands.specs.Uniqueness.{SolvesOnce, NeverFaulty, FaultsOnce, NestsOnce, AnswerIsOne, ChecksOnce, PassesCheck, PassesReplay, SpendsReplay, TakesReplay};
+ghost use Rattle.commands.specs.Uniqueness.{SolvesOnce, NeverFaulty, FaultsOnce, NestsOnce, AnswerIsOne, ChecksOnce, CheckFaultsOnce, PassesCheck, PassesReplay, ReplayFaultsOnce, ReplaysOnce, ShellFaultsOnce, SpendsReplay, TakesReplay};
 
-use minelib_reader::InBytes;
+use minelib_reader::{InBytes, blocks_law};
 
 /// Two runs of `solve` over the same texts that are done in the same direction wrote the same text, in any modes and with any
 /// numbers of workers.
@@ -59,6 +60,17 @@ pub fn shells_write_one_text<B: InBytes, P: InBytes, N: InBytes, Q: InBytes>()
         (given_by Q.InBytes other_prec other_prec_end) }
 {}
 
+/// Two runs of `shells` over the same texts, with the same columns, that blame one of them name the same fault, with the same text.
+pub fn shells_have_one_fault<B: InBytes, P: InBytes, N: InBytes, Q: InBytes>()
+    ensures { (blocks blocks_end : B) (prec prec_end : P) (other_blocks other_blocks_end : N) (other_prec other_prec_end : Q) → ShellFaultsOnce
+        (given_by B.InBytes blocks blocks_end)
+        (given_by P.InBytes prec prec_end)
+        (given_by N.InBytes other_blocks other_blocks_end)
+        (given_by Q.InBytes other_prec other_prec_end) }
+{
+    blocks_law();
+}
+
 /// A certificate's text has one answer: yes or no, never both.
 pub fn answer_is_one()
     ensures { AnswerIsOne }
@@ -80,6 +92,60 @@ pub fn check_answers_once<
         (files_of N.InBytes Q.InBytes G.InBytes other other_end)
         (given_by C.InBytes certificate certificate_end)
         (given_by D.InBytes other_certificate other_certificate_end) }
+{}
+
+/// Two runs of `check` over the same texts that blame one of them name the same fault, with the same text.
+pub fn check_has_one_fault<
+    M: InBytes,
+    P: InBytes,
+    F: InBytes,
+    N: InBytes,
+    Q: InBytes,
+    G: InBytes,
+    C: InBytes,
+    D: InBytes,
+>()
+    ensures { (files files_end : MineFiles M P F) (other other_end : MineFiles N Q G) (certificate certificate_end : C) (other_certificate other_certificate_end : D) → CheckFaultsOnce
+        (files_of M.InBytes P.InBytes F.InBytes files files_end)
+        (files_of N.InBytes Q.InBytes G.InBytes other other_end)
+        (given_by C.InBytes certificate certificate_end)
+        (given_by D.InBytes other_certificate other_certificate_end) }
+{}
+
+/// Two runs of `replay` over the same texts that are done wrote the same answer and ended with the same status.
+pub fn replay_writes_one_text<
+    M: InBytes,
+    P: InBytes,
+    F: InBytes,
+    N: InBytes,
+    Q: InBytes,
+    G: InBytes,
+    J: InBytes,
+    K: InBytes,
+>()
+    ensures { (files files_end : MineFiles M P F) (other other_end : MineFiles N Q G) (journal journal_end : J) (other_journal other_journal_end : K) → ReplaysOnce
+        (files_of M.InBytes P.InBytes F.InBytes files files_end)
+        (files_of N.InBytes Q.InBytes G.InBytes other other_end)
+        (given_by J.InBytes journal journal_end)
+        (given_by K.InBytes other_journal other_journal_end) }
+{}
+
+/// Two runs of `replay` over the same texts that blame one of them name the same fault, with the same text.
+pub fn replay_has_one_fault<
+    M: InBytes,
+    P: InBytes,
+    F: InBytes,
+    N: InBytes,
+    Q: InBytes,
+    G: InBytes,
+    J: InBytes,
+    K: InBytes,
+>()
+    ensures { (files files_end : MineFiles M P F) (other other_end : MineFiles N Q G) (journal journal_end : J) (other_journal other_journal_end : K) → ReplayFaultsOnce
+        (files_of M.InBytes P.InBytes F.InBytes files files_end)
+        (files_of N.InBytes Q.InBytes G.InBytes other other_end)
+        (given_by J.InBytes journal journal_end)
+        (given_by K.InBytes other_journal other_journal_end) }
 {}
 
 /// If `check` is done over the texts of a run of `solve` and the certificate that it wrote, the answer is yes.
