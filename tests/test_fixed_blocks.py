@@ -98,6 +98,27 @@ def test_faults_come_in_the_order_of_the_files(ores: Mine) -> None:
     assert ores.run(*FIXED) == ores.run(*CHECK) == ores.run(*REPLAY) == itself
 
 
+BUDGET = ("--budget", "0")
+HEADS = ["BLOCKS: 4\nARCS: 3\n", "BLOCKS: 2\nARCS: 1\n"]
+
+
+@pytest.mark.parametrize(
+    ("words", "text"),
+    [
+        *(([*FIXED, *mode], "") for mode in MODES.values()),
+        *(([*FIXED, *mode, *BUDGET], "") for name, mode in MODES.items() if name != "parts"),
+        *((CHECK, f"PITCERT {form}\n{head}{end}") for form in "12" for head in HEADS for end in ("", "IN: 0\nFLOW: 0\n")),
+        *((REPLAY, f"PITJOURNAL 1\n{head}BUDGET: {budget}\nENTRIES: {end}") for head in HEADS for budget in ("0", "none") for end in ("", "0\n", "1\n1 0 1\n")),
+    ],
+)
+def test_a_clash_ends_each_run(ores: Mine, words: list[str], text: str) -> None:
+    """It is neither a used-up budget nor a missing seat, and whatever the certificate or the journal says, no answer and no fault of it."""
+    ores.write("some.cert", text)
+    ores.write("some.journal", text)
+    ores.write("mine.fixed", "out 1\nin 3\n")
+    assert ores.run(*words) == (1, "", CLASH)
+
+
 def test_a_clash_names_the_least_block(mine: Mine) -> None:
     """Block 4 needs 1, 2 and 3 through one another; 3 and 1 are barred."""
     mine.write("mine.upit", model_of(["0"] * 5))
