@@ -108,7 +108,7 @@ def test_a_comment_leaves_the_state_of_a_source_as_it_is(tmp_path: pathlib.Path,
     ("head", "kind", "by"),
     [
         ("clause: first returns\n", edits.CLAUSE, "first returns"),
-        ("proofs: csr\n", edits.PROOFS, "csr"),
+        ("proofs: csr view::row_rises\n", edits.PROOFS, "csr view::row_rises"),
         ("crate-tests: crate_tests\n", edits.CRATE_TESTS, "crate_tests"),
         ("program-test: test_rows.py::test_a[b: c]\nfeatures: stats line\n", edits.PROGRAM_TEST, "test_rows.py::test_a[b: c]"),
     ],
@@ -164,17 +164,24 @@ def test_refusals_and_survivors_by_kind(mutant: edits.Mutant) -> None:
     assert prover.outcome_of(mutant, refused.replace("lib.rt:2", "lib.rt:9")).wrong == "is refused at `second returns`, not at `first returns`"
     assert prover.outcome_of(mutant, "NOT REFUSED").wrong == "NOT REFUSED"
     assert prover.outcome_of(mutant, "").wrong
-    law = mutant._replace(by="csr")
-    failed = "./proofs/Law.antt:3:4: error: the types differ\nlogic=not-proved\nrt: csr NOT PROVED\n"
-    assert proofs.outcome_of(law, failed) == (law, "proofs/Law.antt", "")
-    assert proofs.outcome_of(law, failed.replace("rt: csr", "rt: faults")).wrong.startswith("not tried")
+    law = mutant._replace(by="csr laws::first_law")
+    failed = "./proofs/Law.antt:3:4: error: the types differ\nonly=1 proved=0\n"
+    assert proofs.outcome_of(law, failed) == (law, "laws::first_law", "")
     assert proofs.outcome_of(law, failed.replace("proofs/Law", "specs/Law")).wrong == "not tried: the types differ"
-    for kept in ("rt: csr proved\n", "rt: csr is kept: an earlier run on this machine proved the same files\n"):
-        assert proofs.outcome_of(law, f"rt: faults proved\n{kept}").wrong == "NOT REFUSED: proved"
+    assert proofs.outcome_of(law, "only=1 proved=1\n").wrong == "NOT REFUSED: laws::first_law is proved"
+    assert proofs.outcome_of(law, "rt: the library below did not build\nonly=0 proved=0\n").wrong.startswith("not tried")
     assert proofs.outcome_of(law, "killed").wrong == "not tried: killed"
     assert crate_tests.outcome_of(mutant, "test result: FAILED. 7 passed; 6 failed; 0 ignored").refused == "6 of 13 fail"
     assert crate_tests.outcome_of(mutant, "test result: ok. 13 passed; 0 failed").wrong == "NOT REFUSED: all 13 tests pass"
     assert crate_tests.outcome_of(mutant, "error: no such name").wrong == "not tried: error: no such name"
+
+
+def test_a_mutant_of_a_definition_names_a_function(folder: pathlib.Path) -> None:
+    named = written(folder, f"# a: b\nproofs: csr view::row_rises\n{LESS}")
+    assert (named.refuser, proofs.function_of(named), tool.refuser_fault(named)) == ("csr", "view::row_rises", "")
+    for by in ("csr", "csr view::row_sleeps"):
+        assert tool.refuser_fault(named._replace(by=by)) == f"`{by}` names no function of the crate"
+    assert tool.refuser_fault(named._replace(by="no_crate view::row_rises")) == "there is no crate `no_crate`"
 
 
 def test_rounds_share_neither_features_nor_words(folder: pathlib.Path) -> None:

@@ -5,7 +5,7 @@
                                           one crate more, another each day; proves all, and takes the programs and the library into build/
     tools/mutants.py [NAME..]             those for the prover, of these crates or by these names (crate/mutant), or all, which takes an
                                           hour or two. If crates are named, only those and the ones below them are proved
-    tools/mutants.py --kind KIND [NAME..] those of another kind: `proofs` (half a minute each in pit_model, minutes above it),
+    tools/mutants.py --kind KIND [NAME..] those of another kind: `proofs` (10 to 30 seconds each, once the crates below are built),
                                           `crate-tests` (a minute each), `program-test` (some minutes a round of several)
     tools/mutants.py --read               plants none: each can be planted, names who refuses it, and has a line in mutants.lock
     tools/mutants.py --list               prints each with its kind, who must refuse it, and whether its state is that of mutants.lock
@@ -43,8 +43,10 @@ def readable() -> tuple[list[Mutant], list[str]]:
 
 def refuser_fault(mutant: Mutant) -> str:
     """What is wrong with who must refuse the mutant; empty if nothing is."""
-    if mutant.kind in (PROOFS, CRATE_TESTS) and mutant.by not in crates():
-        return f"there is no crate `{mutant.by}`"
+    if mutant.kind in (PROOFS, CRATE_TESTS) and mutant.refuser not in crates():
+        return f"there is no crate `{mutant.refuser}`"
+    if mutant.kind == PROOFS and not proofs.has_function(mutant):
+        return f"`{mutant.by}` names no function of the crate"
     if mutant.kind == PROGRAM_TEST:
         name, _, test = mutant.by.partition("::")
         file = TOP / "tests" / name

@@ -5,7 +5,8 @@ changes. An old text occurs exactly once in its file. Several lines `old:` or `n
 the prover, which reads one line each. One line of these says who must refuse the mutant:
 
     clause: FUNCTION CLAUSE      the prover, at this clause (tools/mutation/clauses.py)
-    proofs: CRATE                the proofs of the mutant's own crate, or of this crate above it
+    proofs: CRATE FUNCTION       the proof of this function of the mutant's own crate, or of a crate above it: a law or an example, or a
+                                 contract, that is false by the changed definition
     crate-tests: CRATE           the tests of this crate; the prover lets the mutant pass
     program-test: FILE::TEST     this test below tests/, over the program built with the mutant; the prover lets the mutant pass
 
@@ -48,6 +49,11 @@ class Mutant(NamedTuple):
     @property
     def crate(self) -> str:
         return self.path.parent.parent.name
+
+    @property
+    def refuser(self) -> str:
+        """The crate that must refuse it, for `proofs` and `crate-tests`."""
+        return self.by.partition(" ")[0]
 
     @property
     def name(self) -> str:

@@ -28,7 +28,9 @@ def write_lock(lines: dict[str, Line]) -> None:
 
 
 def record(found: dict[str, Line]) -> None:
-    """Writes these lines, and the others again as they stand in the file; another process that records waits meanwhile."""
+    """Writes these lines, and the others again as they stand in the file, also those of mutants that came since this process began;
+    another process that records waits meanwhile."""
     with open(__file__) as held:
         fcntl.flock(held, fcntl.LOCK_EX)
+        edits.paths.cache_clear()
         write_lock(read_lock() | found)

@@ -1,12 +1,13 @@
-"""Tries mutants of definitions: the proofs of the mutant's own crate, or of a crate above it, must fail.
+"""Tries mutants of definitions: the function that a mutant names, a law or an example, must no longer be proved.
 
-A definition that could change in one quantifier, sign or number while all stays proved would be pinned by the reader's eye alone. The
-crate is proved in a copy, so a law or an example next to the definitions refuses the mutant. The toolchain keeps the proofs of the crates
-below, if they were proved on this machine.
+A definition that could change in one quantifier, sign or number while all stays proved would be pinned by the reader's eye alone. A proof
+that breaks shows little: it may repeat the definition. So a mutant names a function whose contract is false by the changed definition,
+and only that function is proved, in a copy of its crate. The crates below it are proved once for each copy.
 """
 
 import concurrent.futures
 import pathlib
+import queue
 import re
 import shutil
 import subprocess
@@ -28,29 +29,62 @@ def copy_crates(folder: pathlib.Path, names: list[str]) -> None:
     keep_only(folder, set(names))
 
 
+def function_of(mutant: Mutant) -> str:
+    """The function that must no longer be proved, as `rt check --only` takes it."""
+    return mutant.by.partition(" ")[2]
+
+
+def has_function(mutant: Mutant) -> bool:
+    """Whether the crate that must refuse the mutant has a function of this name."""
+    name = function_of(mutant).rpartition("::")[2]
+    sources = (TOP / "crates" / mutant.refuser / "src").rglob("*.rt")
+    return bool(name) and any(re.search(rf"\bfn {re.escape(name)}\b", file.read_text()) for file in sources)
+
+
 def outcome_of(mutant: Mutant, said: str) -> Outcome:
-    """What the proofs say of a mutant: the file that refuses it."""
-    if re.search(rf"^rt: {mutant.by} (proved$|is kept:)", said, re.MULTILINE):
-        return Outcome(mutant, "", "NOT REFUSED: proved")
-    if not re.search(rf"^rt: {mutant.by} NOT PROVED$", said, re.MULTILINE) or "logic=not-proved" not in said:
+    """What the prover says of the function that the mutant names, with its closures."""
+    counts = re.search(r"^only=([1-9]\d*) proved=(\d+)$", said, re.MULTILINE)
+    if not counts:
         return Outcome(mutant, "", f"not tried: {said.strip()[-400:]}")
-    errors = re.findall(r"^\./(\S+?):\d+:\d+: error: (.*)$", said, re.MULTILINE)
-    scope = [words for file, words in errors if file.startswith("specs/")]
+    if counts[1] == counts[2]:
+        return Outcome(mutant, "", f"NOT REFUSED: {function_of(mutant)} is proved")
+    scope = re.search(r"^\./specs/\S+?:\d+:\d+: error: (.*)$", said, re.MULTILINE)
     if scope:
-        return Outcome(mutant, "", f"not tried: {scope[0][:120]}")
-    goals = re.findall(r"^note: (src/\S+?):\d+:\d+: it is not proved", said, re.MULTILINE)
-    return Outcome(mutant, errors[0][0] if errors else goals[0] if goals else "a proof")
+        return Outcome(mutant, "", f"not tried: {scope[1][:120]}")
+    return Outcome(mutant, function_of(mutant))
 
 
-def try_one(mutant: Mutant) -> Outcome:
-    with tempfile.TemporaryDirectory(prefix="pitshell-") as name:
-        copy = pathlib.Path(name)
-        copy_crates(copy, in_order(mutant.by))
-        with planted_in(copy, [mutant]):
-            ran = subprocess.run(["rt", "ci", mutant.by], cwd=copy, capture_output=True, text=True, errors="replace")
+def try_in(copy: pathlib.Path, mutant: Mutant) -> Outcome:
+    with planted_in(copy, [mutant]):
+        ran = subprocess.run(
+            ["rt", "check", "--only", function_of(mutant)],
+            cwd=copy / "crates" / mutant.refuser,
+            capture_output=True,
+            text=True,
+            errors="replace",
+        )
     return outcome_of(mutant, ran.stdout + ran.stderr)
 
 
+def try_all(crate: str, mutants: list[Mutant], found: "queue.Queue[Outcome | None]") -> None:
+    """Tries them one after the other in one copy of the crate that must refuse them, and puts what came of each into the queue, then None."""
+    try:
+        with tempfile.TemporaryDirectory(prefix="pitshell-", ignore_cleanup_errors=True) as name:
+            copy = pathlib.Path(name)
+            copy_crates(copy, in_order(crate))
+            for mutant in mutants:
+                found.put(try_in(copy, mutant))
+    finally:
+        found.put(None)
+
+
 def run(mutants: list[Mutant], jobs: int) -> Iterator[Outcome]:
+    by_crate = {crate: [it for it in mutants if it.refuser == crate] for crate in sorted({it.refuser for it in mutants})}
+    shares = [(crate, own[first::jobs]) for crate, own in by_crate.items() for first in range(min(jobs, len(own)))]
+    found: queue.Queue[Outcome | None] = queue.Queue()
     with concurrent.futures.ThreadPoolExecutor(jobs) as pool:
-        yield from pool.map(try_one, mutants)
+        tried = [pool.submit(try_all, *share, found) for share in shares]
+        for _ in tried:
+            yield from iter(found.get, None)
+        for it in tried:
+            it.result()

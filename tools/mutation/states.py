@@ -82,4 +82,4 @@ def state_of(mutant: edits.Mutant) -> str:
     files = {mutant.path, *with_cited(mutant.crate)}
     if mutant.kind == edits.PROGRAM_TEST:
         return digest(files | {TOP / "tests" / mutant.by.partition("::")[0]})
-    return digest(files | with_cited(mutant.by))
+    return digest(files | with_cited(mutant.refuser))
