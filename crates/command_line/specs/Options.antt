@@ -1,24 +1,31 @@
 -- The options of a command.
-use Rattle.std.specs.Prelude.{◌≡◌, Bool, List, Option, ◌∷◌, [], ◌++◌, map, codes, true, false, Some}
+use Rattle.std.specs.Prelude.{◌≡◌, ℕ, ◌-◌, ◌^◌, Bool, List, Option, ◌∷◌, [], ◌++◌, map, codes, true, false, Some, None}
 use Rattle.clap.specs.Words.{Rule, Text, rule_of, shape_of, app_of, Shape}
 use Rattle.clap.specs.declared.builder.command.Command.TheViews.{out-Command as fields_of}
 use Rattle.clap.specs.declared.builder.action.ArgAction.{ArgAction}
 use Rattle.clap.specs.declared.builder.action.ArgAction.TheVariants.{Set}
 use Rattle.clap.specs.declared.builder.arg.Arg.{Arg}
+use Rattle.clap.specs.declared.builder.value_parser.ValueParser.{ValueParser}
+use Rattle.clap.specs.declared.builder.value_parser.ValueParser.TheVariants.{Unsigned}
 use Rattle.clap.specs.declared.builder.command.Command.{Command}
 
--- the name under which the value is found, the word behind -- by which it is given, what giving it does, whether it must be given, and
--- what is taken where it is not
+-- the name under which the value is found, the word behind -- by which it is given, what giving it does, whether it must be given,
+-- what is taken where it is not, and what its value has to be, if not any text
 pub record Choice : Type 0 where
   pub name : Text
   pub word : Option Text
   pub action : Option ArgAction
   pub must : Bool
   pub default : List Text
+  pub values : Option ValueParser
 
 -- it is given by its own name, and sets one value
 abbrev pub choice : Text → Bool → List Text → Choice
-choice name must default = record { name = name; word = Some name; action = Some Set; must = must; default = default }
+choice name must default = record { name = name; word = Some name; action = Some Set; must = must; default = default; values = None }
+
+-- its value is a number from low to high
+abbrev pub in_range : ℕ → ℕ → Choice → Choice
+in_range low high choice = record choice { values = Some (Unsigned low high) }
 
 -- it must be given
 abbrev pub needed : Text → Choice
@@ -33,7 +40,7 @@ abbrev pub standing : Text → Text → Choice
 standing name word = choice name false (word ∷ [])
 
 abbrev pub choice_of : Rule → Choice
-choice_of rule = record { name = rule.id; word = rule.long; action = rule.action; must = rule.required; default = rule.defaults }
+choice_of rule = record { name = rule.id; word = rule.long; action = rule.action; must = rule.required; default = rule.defaults; values = rule.parser }
 
 -- the argument is this choice, of its own command alone
 pub record IsOption (choice : Choice) (arg : Arg) : Type 0 where
@@ -53,12 +60,25 @@ AddsOptions more old new = (name : Text) (had : List Choice) → HasOptions name
 abbrev pub mine_options : List Choice
 mine_options = needed (codes "model") ∷ needed (codes "prec") ∷ offered (codes "fixed") ∷ []
 
+abbrev pub workers_option : Choice
+workers_option = in_range 1 64 (standing (codes "workers") (codes "4"))
+
+-- any number of 64 bits
+abbrev pub budget_option : Choice
+budget_option = in_range 0 (2 ^ 64 - 1) (offered (codes "budget"))
+
+abbrev pub progress_option : Choice
+progress_option = in_range 1 86400 (offered (codes "progress"))
+
+-- the number of a column
+abbrev pub column_option : Text → Choice
+column_option name = in_range 0 63 (needed name)
+
 abbrev pub settings_options : List Choice
-settings_options =
-    standing (codes "mode") (codes "single") ∷ standing (codes "workers") (codes "4") ∷ offered (codes "budget") ∷ standing (codes "pit") (codes "least") ∷ []
+settings_options = standing (codes "mode") (codes "single") ∷ workers_option ∷ budget_option ∷ standing (codes "pit") (codes "least") ∷ []
 
 abbrev pub watch_options : List Choice
-watch_options = offered (codes "progress") ∷ offered (codes "stats") ∷ []
+watch_options = progress_option ∷ offered (codes "stats") ∷ []
 
 abbrev pub output_options : List Choice
 output_options = offered (codes "certificate") ∷ offered (codes "journal") ∷ []
@@ -67,7 +87,7 @@ abbrev pub blocks_options : List Choice
 blocks_options = needed (codes "blocks") ∷ needed (codes "prec") ∷ []
 
 abbrev pub column_options : List Choice
-column_options = needed (codes "revenue") ∷ needed (codes "cost") ∷ []
+column_options = column_option (codes "revenue") ∷ column_option (codes "cost") ∷ []
 
 abbrev pub solve_options : List Choice
 solve_options = settings_options ++ mine_options ++ output_options ++ watch_options

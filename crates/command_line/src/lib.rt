@@ -5,7 +5,7 @@
 mod schedules;
 
 ghost use Rattle.std.specs.Prelude.{◌≡◌, ◌∷◌, [], ◌++◌, codes, IfOk};
-ghost use Rattle.command_line.specs.Options.{settings_options, blocks_options, check_options, column_options, mine_options, needed, offered, output_options, replay_options, shells_options, solve_options, standing, subcommands_in, watch_options, AddsOptions, HasOptions, IsOption};
+ghost use Rattle.command_line.specs.Options.{budget_option, settings_options, blocks_options, check_options, column_option, column_options, mine_options, needed, offered, output_options, progress_option, replay_options, shells_options, solve_options, standing, subcommands_in, watch_options, workers_option, AddsOptions, HasOptions, IsOption};
 
 use clap::{Arg, ArgAction, Command, value_parser};
 pub use schedules::schedule_command;
@@ -110,7 +110,7 @@ fn replay_command<'a>(alloc: Global) -> Result<Command<'a>, AllocError>
 
 /// Returns a required option that takes the number of an attribute column.
 fn attribute<'a>(alloc: Global, name: &'a str, help: &'a str) -> Arg<'a>
-    ensures { IsOption (needed name.now) result }
+    ensures { IsOption (column_option name.now) result }
 {
     option(alloc, name, "COLUMN", help)
         .value_parser(value_parser!(u64).range(0..=63))
@@ -187,7 +187,7 @@ fn mode_word<'a>(alloc: Global) -> Arg<'a>
 
 /// Returns `--workers`.
 fn workers_number<'a>(alloc: Global) -> Arg<'a>
-    ensures { IsOption (standing (codes "workers") (codes "4")) result }
+    ensures { IsOption workers_option result }
 {
     option(
         alloc,
@@ -201,7 +201,7 @@ fn workers_number<'a>(alloc: Global) -> Arg<'a>
 
 /// Returns `--budget`.
 fn budget_number<'a>(alloc: Global) -> Arg<'a>
-    ensures { IsOption (offered (codes "budget")) result }
+    ensures { IsOption budget_option result }
 {
     option(
         alloc,
@@ -243,7 +243,7 @@ fn with_settings<'a>(
 
 /// Returns `--progress`.
 fn progress_seconds<'a>(alloc: Global) -> Arg<'a>
-    ensures { IsOption (offered (codes "progress")) result }
+    ensures { IsOption progress_option result }
 {
     option(
         alloc,
