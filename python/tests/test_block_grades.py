@@ -71,6 +71,7 @@ def test_at_any_prices_the_bound_is_above_the_optimum(batch):
         assert priced(without_first(problem), prices).bound >= optimum - 1e-9 * max(1.0, abs(optimum))
 
 
+@pytest.mark.slow
 @pytest.mark.parametrize("batch", seeds(1, 20))
 def test_schedules_keep_grades_and_lie_between_nothing_and_the_complete_optimum(batch):
     """Each block is mined in one year, and goes to destinations in shares."""

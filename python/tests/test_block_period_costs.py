@@ -97,6 +97,7 @@ def test_the_bound_is_the_optimum_of_the_whole_programme(batch):
     assert kept > 6
 
 
+@pytest.mark.slow
 @pytest.mark.parametrize("batch", seeds(1, 20))
 def test_values_lie_between_nothing_and_the_complete_optimum(batch):
     reached = []

@@ -173,6 +173,7 @@ def earned(year, grades, years, ore):
 grades_of = st.lists(st.sampled_from([0, 0, 0.3, 0.5, 0.8, 1.5]), min_size=6, max_size=6)
 
 
+@pytest.mark.slow
 @examples(5)
 @given(grades_of, grades_of, st.sampled_from([100, 150]), st.sampled_from([300, 400]))
 def test_no_schedule_of_all_earns_more_than_a_scenario_s_bound(tmp_path_factory, one, other, ore, rock):
@@ -408,6 +409,7 @@ def without_seconds(folder):
     }
 
 
+@pytest.mark.slow
 @pytest.mark.filterwarnings("ignore:make_current is deprecated:DeprecationWarning")
 def test_processes_of_dask_write_the_same_as_one_after_the_other(plan_folder, tmp_path, dask_apart):
     pytest.importorskip("distributed", reason="needs the Debian package python3-distributed")

@@ -30,6 +30,7 @@ from pitplan.scheduling.blocks.relaxation import reduced, relaxed
 from pitplan.scheduling.blocks.window_milp import window_of
 
 
+@pytest.mark.slow
 @pytest.mark.parametrize("batch", seeds(2, 20))
 def test_small_schedules_are_the_best_that_there_are(batch):
     """Of up to 12 blocks, since one window holds them all; with several destinations shares may earn more than whole blocks."""
@@ -57,6 +58,7 @@ def test_ore_waits_for_room_in_the_mill_where_it_could_be_dug_as_waste():
     )
 
 
+@pytest.mark.slow
 def test_what_was_filled_in_either_way_is_moved():
     """Of twelve problems each way, moved, is the better one of some."""
     gained = [0, 0]
@@ -206,6 +208,7 @@ def test_an_empty_window_is_passed_over(monkeypatch):
     assert found.schedule.year.tolist() == [0, 0]
 
 
+@pytest.mark.slow
 def test_windows_find_what_filling_misses(monkeypatch):
     """With few unknowns a window holds a part of the blocks; none is worse than without, and some are better."""
     monkeypatch.setattr("pitplan.scheduling.blocks.window_milp.MOST_UNKNOWNS", 60)

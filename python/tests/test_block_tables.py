@@ -191,6 +191,7 @@ def test_the_curves_are_those_of_the_model_and_of_what_is_mined(hill):
         assert row.tonnes == pytest.approx(some["tonnes"].sum(), abs=0.001)
 
 
+@pytest.mark.slow
 def test_the_workbook_recalculates_reserves_and_npv(hill, tmp_path):
     """Ore by class is the sum of the inventory, and the NPV that of methods.csv."""
     book = office.recalculated(hill / "tables/schedule.xlsx", tmp_path)

@@ -75,6 +75,7 @@ def hill(plan_folder, request):
     return plan_folder(deposit(), text, CONE)
 
 
+@pytest.mark.slow
 def test_figures_are_the_same_to_the_byte(tmp_path, plan_folder, with_figures):
     arrays, _ = by_both(tmp_path, "shells", plan_folder(deposit(), TEXT, CONE), "--no-verify")
     assert {"figures/plans.png", "figures/sections.png"} <= written(arrays).keys()
@@ -126,6 +127,7 @@ def test_a_pit_with_fixed_blocks_and_without_is_the_same(tmp_path, plan_folder):
     assert {"tables/blocks.csv", "tables/pits.csv", "project-as-run.toml"} == written(arrays).keys()
 
 
+@pytest.mark.slow
 def test_pushbacks_and_their_schedule_are_the_same(tmp_path, hill):
     """Of a division that asks the solver again and again for shells of other factors."""
     with open(hill, "a") as file:
@@ -294,6 +296,7 @@ def test_memory_that_is_refused_is_the_program_s_status_of_it():
     assert out == "1 pitshell shells ended with status 1: error 1: no memory\n"
 
 
+@pytest.mark.slow
 @pytest.mark.parametrize(
     ("asked", "status", "said"), [(signal.SIGINT, 130, "pitplan: interrupted"), (signal.SIGTERM, 143, None)]
 )

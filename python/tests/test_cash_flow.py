@@ -341,6 +341,7 @@ def test_every_number_of_the_sheet_is_a_number_with_a_unit(recalculated):
             assert value in (None, "") or (isinstance(value, (int, float)) and unit), label
 
 
+@pytest.mark.slow
 @pytest.mark.parametrize("discounting", ["end_of_year", "mid_year", "continuous"])
 def test_npvs_follow_from_the_sheet_with_periods_of_other_lengths(tmp_path, with_workbooks, discounting):
     """Half-years, then a period of two years: NPVs at three rates, and those at the internal rates of return."""

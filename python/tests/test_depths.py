@@ -46,6 +46,7 @@ def test_the_last_bench_may_be_left():
     assert problem.value(found) == pytest.approx(500 / 1.1)
 
 
+@pytest.mark.slow
 @examples(60, deadline=None)
 @given(small, limits, st.integers(0, 1), st.floats(0.3, 1.0))
 def test_depths_are_of_whole_benches_and_worth_no_less(pits, limits, lag, speed):

@@ -29,6 +29,7 @@ def dist() -> Path:
     return BUILD / "dist"
 
 
+@pytest.mark.slow
 def test_another_build_has_the_same_bytes(dist, tmp_path):
     """In another folder, with other rights for new files and another time zone."""
     said = subprocess.run(["git", "status", "--porcelain"], cwd=ROOT, capture_output=True, text=True)
@@ -70,6 +71,7 @@ def plan_and_check(folder: Path, commands: Path, *options: str) -> None:
     assert said == "hashes: yes\npitshell check: yes\ncheck_certificate.py: yes\n"
 
 
+@pytest.mark.slow
 def test_wheels_serve_in_an_environment_of_their_own(dist, tmp_path):
     subprocess.run(["/usr/bin/python3", "-m", "venv", "--system-site-packages", tmp_path / "venv"], check=True)
     commands = tmp_path / "venv" / "bin"
@@ -89,6 +91,7 @@ def test_wheels_serve_in_an_environment_of_their_own(dist, tmp_path):
     )
 
 
+@pytest.mark.slow
 def test_the_debian_package_serves_where_it_is_unpacked(dist, tmp_path):
     package = next(dist.glob("*.deb"))
     subprocess.run(["dpkg", "-x", package, tmp_path / "root"], check=True)
@@ -206,6 +209,7 @@ def test_an_upgrade_and_a_removal_leave_nothing_behind(dist, tmp_path, monkeypat
     assert root.found() == set()
 
 
+@pytest.mark.slow
 def test_the_archive_serves_where_it_is_unpacked(dist, tmp_path):
     (archive,) = dist.glob("*-linux-*.tar.gz")
     subprocess.run(["tar", "xf", archive, "-C", tmp_path], check=True)

@@ -43,6 +43,7 @@ def site(tmp_path_factory):
     return folder / "html"
 
 
+@pytest.mark.slow
 def test_the_site_has_every_page_and_no_dead_link(site):
     due = {page.relative_to(ROOT / "docs").with_suffix(".html") for page in PAGES if ROOT / "docs" in page.parents}
     assert due <= {page.relative_to(site) for page in site.rglob("*.html")} and len(due) > 30
@@ -105,6 +106,7 @@ CURRENT = """new Promise(resolve => {
 SHADES = {"light": "rgb(255, 255, 255)", "dark": "rgb(19, 20, 22)"}
 
 
+@pytest.mark.slow
 @needs_chromium
 @pytest.mark.parametrize("system", SHADES)
 @pytest.mark.parametrize("page", ["index", "planning/pushbacks"])

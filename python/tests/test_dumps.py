@@ -284,6 +284,7 @@ def optimum_of(model, given, whole):
     return max(0.0, -float(found.fun))
 
 
+@pytest.mark.slow
 @examples(14)
 @given(mines, processes, st.integers(0, 1), stockpiles, dumps_of)
 def test_random_optima_and_bounds(pits, several, lag, piles, given_dumps):

@@ -102,6 +102,7 @@ def pits():
     return found
 
 
+@pytest.mark.slow
 def test_each_scenario_is_that_of_the_oracle(folder, pits):
     """Eight scenarios at two factors; the third model pays at the higher price alone."""
     table = rows_of(folder / "tables/scenarios.csv")

@@ -10,6 +10,7 @@ import pitplan
 from pitplan import verify
 
 
+@pytest.mark.slow
 @pytest.mark.parametrize("seed", seeds(8, 200))
 def test_what_is_written_is_right(plan_folder, monkeypatch, seed):
     rng = np.random.default_rng(seed)

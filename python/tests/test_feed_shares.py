@@ -44,6 +44,7 @@ def test_a_quarter_of_the_feed_by_hand(tmp_path):
     assert (limits["maximum"] == 0.25).all() and (limits["shadow_price"] > 0).all()
 
 
+@pytest.mark.slow
 def test_other_notations_have_the_same_numbers(tmp_path):
     """An indicator, the share of the other rock, a period, a process by name; and dilution, of which each rock has its own."""
     one, _ = scheduled(tmp_path / "one", QUARTER)
@@ -69,6 +70,7 @@ def test_other_notations_have_the_same_numbers(tmp_path):
     assert limits["used"].tolist()[0] == pytest.approx(0.25)
 
 
+@pytest.mark.slow
 def test_what_lies_on_a_stockpile_counts(tmp_path):
     """20 t of R lie there and let 20 / 3 t more of S be milled."""
     pile = 'stockpile = {{ reclaim_cost = 1, opening = {{ tonnes = 20, rock_type = "{}", cu = 0.8 }} }}\n'

@@ -42,6 +42,7 @@ def figures_in(folder):
     return {name for name in files_in(folder) if name.endswith((".png", ".svg", ".pdf"))}
 
 
+@pytest.mark.slow
 @pytest.mark.parametrize(
     ("command", "name", "drawn", "headings"),
     [
@@ -102,6 +103,7 @@ def test_a_sensitivity_without_figures(mine):
     assert "<img" not in page and "tables/sensitivity.csv" in page
 
 
+@pytest.mark.slow
 @pytest.mark.parametrize(
     ("by", "names"),
     [

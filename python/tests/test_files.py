@@ -542,6 +542,7 @@ def test_the_script_runs_by_itself(plan_folder):
     assert ran.stdout.strip() == str(path.parent / "plan") and "reading" in ran.stderr
 
 
+@pytest.mark.slow
 def test_a_notebook_keeps_its_backend_and_sees_no_figure(solved):
     """By an interpreter of its own, in which pyplot is set up first."""
     text = f"""

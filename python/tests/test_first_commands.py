@@ -115,6 +115,7 @@ COMMANDS = ("shells", "pushbacks", "schedule", "schedule --certificate", "schedu
 FEWER = {"sensitivity": ["--set", "sensitivity.changes=[-0.2]", "--set", 'sensitivity.parameters=["price"]']}
 
 
+@pytest.mark.slow
 @pytest.mark.parametrize("command", COMMANDS)
 @pytest.mark.parametrize("of", ["example", "init"])
 def test_every_command_of_the_pages_runs(of, command, example):

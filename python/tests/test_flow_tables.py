@@ -105,6 +105,7 @@ def test_two_stockpiles_keep_what_they_accept_and_hold(piled):
     assert (limits["maximum"] == 60).all() and limits["used"].max() == pytest.approx(60, abs=0.01)
 
 
+@pytest.mark.slow
 def test_the_integer_programme_has_them_too(tmp_path):
     """It is never worse than the schedule by linear programme, within its gap, nor better than the upper bound."""
     words = PILES.replace("bins = 2\n", "bins = 2\nmilp = { gap = 0.0, seconds = 60 }\n")
@@ -259,11 +260,13 @@ def npvs(path):
     return table["npv"].to_dict() | {"upper_bound": table["upper_bound"]["lp"]}
 
 
+@pytest.mark.slow
 def test_a_mill_has_the_same_numbers_in_either_notation(plan_folder):
     one = npvs(hill(plan_folder, ""))
     assert npvs(hill(plan_folder, "", MILL)) == pytest.approx(one, rel=1e-9)
 
 
+@pytest.mark.slow
 def test_a_leach_beside_the_mill_never_earns_less(plan_folder):
     """However small it is: what it cannot take goes to the mill or to waste."""
     alone = npvs(hill(plan_folder, "[schedule]\nyears = 8\n", MILL))
@@ -273,6 +276,7 @@ def test_a_leach_beside_the_mill_never_earns_less(plan_folder):
         assert both["lp"] >= alone["lp"] * (1 - 1e-9) and both["upper_bound"] >= alone["upper_bound"] * (1 - 1e-9)
 
 
+@pytest.mark.slow
 def test_a_head_grade_is_kept_and_verified(plan_folder):
     """A limit of 100 ppm of arsenic: the schedule earns less than without, and a greater feed grade is found."""
     free = npvs(hill(plan_folder, "", MILL))
@@ -287,6 +291,7 @@ def test_a_head_grade_is_kept_and_verified(plan_folder):
     assert any("grade_mill_arsenic_max" in text and "above 0" in text for text in said)
 
 
+@pytest.mark.slow
 def test_a_project_with_one_process_limits_its_feed_in_schedule(plan_folder):
     kept = npvs(hill(plan_folder, "[schedule.feed]\narsenic = { max = 100 }\n"))
     same = npvs(hill(plan_folder, "", MILL + "[processes.feed]\narsenic = { max = 100 }\n"))

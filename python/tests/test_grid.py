@@ -84,6 +84,7 @@ def test_one_level_needs_the_size(plan_folder):
     assert plan.grid.size == (10, 10, 4) and plan.grid.extent() == (0, 30, 0, 20, 3, 7)
 
 
+@pytest.mark.slow
 def test_too_many_cells_are_refused(plan_folder):
     table = pd.concat(
         [rows(2, 2, 2), rows(2, 2, 2).assign(x=lambda t: t.x + 30_000_000, name=lambda t: t.name + "far")]

@@ -56,6 +56,7 @@ def shown(folder):
     return json.loads((folder / "schedule.json").read_text())["shown"]
 
 
+@pytest.mark.slow
 def test_the_rows_of_three_pillars_are_as_worked_out_by_hand(tmp_path):
     """The sulphide of the first pillar waits on the stockpile for a year; see the worked cash flow."""
     worked_cash_flow.table().to_csv(tmp_path / "blocks.csv", index=False)
@@ -126,6 +127,7 @@ def test_reserves_follow_from_the_blocks_alone(written):
     assert (blocks["share_mined"] >= blocks["share_mill"] - 1e-9).all()
 
 
+@pytest.mark.slow
 def test_the_sheet_of_reserves_is_the_sum_of_the_inventory(written, tmp_path):
     sheet = office.recalculated(written / "tables/schedule.xlsx", tmp_path)["reserves"]
     cells = [[value for value in row] for row in sheet.iter_rows(values_only=True)]

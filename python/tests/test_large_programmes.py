@@ -82,6 +82,7 @@ as_ppm = { max = 60 }
 """
 
 
+@pytest.mark.slow
 def test_the_schedule_is_that_of_the_whole_programme(plan_folder, monkeypatch):
     """A hill with grades of copper and arsenic, as if its programme were large: the bound holds, and NPV and bound are near those of the whole
     programme. planaudit finds nothing."""

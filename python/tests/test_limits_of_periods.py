@@ -63,6 +63,7 @@ def test_a_head_grade_by_period_by_hand(tmp_path):
     assert tight["npv"] < found["npv"] < free["npv"]
 
 
+@pytest.mark.slow
 def test_the_same_limit_in_all_periods_is_that_of_the_feed(tmp_path):
     """Whether the project, the periods, or a table of periods gives it, and beside another minimum."""
     words = "[schedule]\nyears = 5\n"
@@ -151,6 +152,7 @@ def piled(place, words, opening=""):
     return found, piles, table(folder, "limits").query("limit == 'stockpile_stockpile'").reset_index(drop=True)
 
 
+@pytest.mark.slow
 def test_the_capacity_of_a_stockpile_by_period(tmp_path):
     free, _, _ = piled(tmp_path / "free", "")
     words = "[[periods]]\nstockpiles = { stockpile = { max = 12 } }\n[[periods]]\nstockpiles = { stockpile = { max = 30 } }\n[[periods]]\n"
@@ -161,6 +163,7 @@ def test_the_capacity_of_a_stockpile_by_period(tmp_path):
     assert found["upper_bound"] < free["upper_bound"] and found["npv"] < free["npv"]
 
 
+@pytest.mark.slow
 def test_the_minimum_of_a_stockpile_by_period(tmp_path):
     free, before, _ = piled(tmp_path / "free", "")
     words = "[[periods]]\nyears = 5\nstockpiles = { stockpile = { min = 20 } }\n[[periods]]\n"

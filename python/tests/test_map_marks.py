@@ -234,6 +234,7 @@ def test_grades_are_those_of_the_metal_asked_for(project):
     )
 
 
+@pytest.mark.slow
 def test_figures_are_written_as_pdf_and_svg_too(project, with_figures, monkeypatch):
     """Figures are laid out and not rendered, which takes most of the time."""
     monkeypatch.setattr(Figure, "savefig", lambda figure, path, **options: Path(path).write_bytes(b"blank"))
@@ -251,6 +252,7 @@ def test_figures_are_written_as_pdf_and_svg_too(project, with_figures, monkeypat
     assert ALSO.get() == (), "the next run draws PNG alone"
 
 
+@pytest.mark.slow
 def test_a_figure_has_the_same_bytes_each_time_in_each_format(project, tmp_path):
     """The floor of a pit has an image, lines, texts, a colour bar and marks."""
     plan = pitplan.Plan.from_project(project(""))

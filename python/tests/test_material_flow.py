@@ -124,6 +124,7 @@ def test_two_limits_that_no_flow_meets_are_an_error():
         FlowProgramme(model).solved()
 
 
+@pytest.mark.slow
 @examples(14)
 @given(mines, limits, processes, st.integers(0, 1), stockpiles)
 def test_the_bound_and_what_is_made_of_it(pits, limits, several, lag, piles):
@@ -245,6 +246,7 @@ def test_more_freedom_never_lowers_the_optimum(pits, limits, several, piles, mor
     assert bounds[0] <= bounds[1] + slack
 
 
+@pytest.mark.slow
 @examples(10)
 @given(mines, limits, processes, stockpiles, st.lists(st.sampled_from([-1.0, 0.4, 1.0]), min_size=1, max_size=4))
 def test_a_blend_in_some_years_is_worth_no_less_than_in_all(pits, limits, several, piles, a_tonne):

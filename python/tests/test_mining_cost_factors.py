@@ -119,6 +119,7 @@ def test_a_factor_of_1_changes_no_digit(plan_folder):
     assert found[0] == found[1] and all(found[0])
 
 
+@pytest.mark.slow
 @pytest.mark.parametrize("text", [PUSHBACKS, blocks.with_processes() + "[pushbacks]\ncount = 3\n"], ids=["mill", "two"])
 def test_two_notations_of_one_mine(plan_folder, text):
     """A factor of 1.5 in all periods is a mining cost of 3. Pits are the same, since each pillar pays in both at the base price."""
@@ -160,6 +161,7 @@ def test_a_higher_factor_never_raises_optimum_and_bound(plan_folder):
     assert optima[2.5, 2.5] < optima[1.3, 1.3] < optima[1, 1]
 
 
+@pytest.mark.slow
 @examples(14)
 @given(
     mines,

@@ -175,6 +175,7 @@ def test_a_mine_that_costs_more_than_it_earns_is_left():
     assert problem.value(made_of(problem, 2)) == 0
 
 
+@pytest.mark.slow
 def test_bins_end_before_capital_that_does_not_pay(plan_folder):
     """Capital of year 4 is more than all ore that is left then: the mine ends with year 3, worth as much as where there are no more years."""
     table = rows(5, 4, 3, cu=lambda i, j, k: [[0.5, 1.4, 0.9, 2.0, 0.7], [1.1, 0.4, 1.9, 0.8, 1.3]][(j + k) % 2][i])

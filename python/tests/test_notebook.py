@@ -221,6 +221,7 @@ def test_lists_of_jobs_are_told_by_what_to_start(plan_folder):
         pitplan.gather(found.folder)
 
 
+@pytest.mark.slow
 def test_the_lines_of_the_help_run(plan_folder, monkeypatch):
     """In a folder whose project has fixed blocks, pushbacks, scenarios and the help's factor, and another run of it."""
     pytest.importorskip("distributed", reason="needs the Debian package python3-distributed")

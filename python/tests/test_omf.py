@@ -245,6 +245,7 @@ def test_a_file_cut_anywhere_is_refused_or_whole(tmp_path):
             omf.read(tmp_path / "model.omf")
 
 
+@pytest.mark.slow
 def test_a_bent_byte_is_refused_or_changes_values_only(tmp_path):
     """No byte of header and arrays makes the reader crash."""
     data, rng = bent(put("Project", "name", "")), np.random.default_rng(3)

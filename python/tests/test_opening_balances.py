@@ -212,6 +212,7 @@ def hill(place, words):
     return load(place / "project.toml")
 
 
+@pytest.mark.slow
 def test_it_goes_with_all_other_keys_and_never_earns_less(tmp_path):
     """The verification recomputes the bound. Without the opening balances the stockpiles have the room that is left."""
     project = hill(tmp_path / "full", TWO)

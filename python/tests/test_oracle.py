@@ -81,6 +81,7 @@ def demand_years(expected, rows):
         assert differences(wanted, row) == {}, key
 
 
+@pytest.mark.slow
 @pytest.mark.parametrize("seed", seeds(20, 1000))
 def test_a_plan_is_the_oracles(tmp_path, seed):
     """Shells or pushbacks with their tables, block for block and year for year; the verification accepts them."""
@@ -109,6 +110,7 @@ def test_a_plan_is_the_oracles(tmp_path, seed):
         demand_rows(tables.pushbacks(mine, shells), rows_of(folder / "pushbacks.csv"))
 
 
+@pytest.mark.slow
 @pytest.mark.parametrize("seed", seeds(5, 200))
 def test_a_pit_with_its_constraints_and_without_is_the_oracles(tmp_path, seed):
     mine = written(tmp_path, seed, "" if "[constraints]" in projects.draw(seed).text else CONSTRAINTS)

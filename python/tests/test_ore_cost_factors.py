@@ -154,6 +154,7 @@ def test_a_factor_of_1_changes_no_digit(plan_folder):
 TWO = blocks.with_processes() + "[pushbacks]\ncount = 3\n"
 
 
+@pytest.mark.slow
 @pytest.mark.parametrize(
     ("text", "costs"),
     [
@@ -187,6 +188,7 @@ def test_two_notations_of_one_mine(plan_folder, text, costs):
 factors = st.lists(st.sampled_from([0.5, 1.0, 1.7, 3.0]), min_size=2, max_size=3)
 
 
+@pytest.mark.slow
 @examples(14)
 @given(mines, processes, st.integers(0, 1), stockpiles, factors, factors)
 def test_random_optima_and_bounds(pits, several, lag, piles, processing, selling):

@@ -121,6 +121,7 @@ def test_a_ramp_up_and_periods_are_two_notations_of_one_mine(scheduled):
     assert same["upper_bound"].tolist() == pytest.approx(ramp["upper_bound"].tolist())
 
 
+@pytest.mark.slow
 def test_more_capacity_in_a_year_never_lowers_the_bound(scheduled):
     bounds = []
     for tonnes in (100, 200, 400):

@@ -315,6 +315,7 @@ HAULAGE = "[haulage]\npit_exit = [400, 60, 60]\nramp_gradient = 0.1\ncost = { or
 REFUSED = re.compile(r"^(fixed_cost_per_year|capex|prices|reblock) = .*\n", re.MULTILINE)
 
 
+@pytest.mark.slow
 @pytest.mark.parametrize("seed", seeds(3, 60))
 def test_schedules_of_random_projects_are_right(plan_folder, seed):
     """With many keys at once, but for those that are refused; gathering looks a second time by itself."""

@@ -257,6 +257,7 @@ def test_a_folder_of_shells_alone_has_no_choice_of_stages(page, browser):
     assert shown == [False, True]
 
 
+@pytest.mark.slow
 @needs_chromium
 def test_on_a_telephone_the_panel_begins_closed(page, browser, tmp_path_factory):
     browser.open(page[0])

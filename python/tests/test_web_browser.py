@@ -49,6 +49,7 @@ def server(root):
     found.kill()
 
 
+@pytest.mark.slow
 def test_from_a_project_to_a_schedule_by_clicks(driver, server, root):
     enter(driver, server)
     complaints(driver)
@@ -81,6 +82,7 @@ def test_from_a_project_to_a_schedule_by_clicks(driver, server, root):
     assert record["schedule"] in ("rule", "lp") and record["verified"]
 
 
+@pytest.mark.slow
 def test_the_report_opens_in_a_sandbox(driver, server, root):
     enter(driver, server)
     click(driver, "Test hill")
@@ -102,6 +104,7 @@ def large(root):
     return root
 
 
+@pytest.mark.slow
 def test_a_job_is_seen_again_after_a_reload_and_cancelled(driver, large, server):
     enter(driver, server)
     click(driver, "Test hill")
@@ -116,6 +119,7 @@ def test_a_job_is_seen_again_after_a_reload_and_cancelled(driver, large, server)
     assert not (large / "plan/sensitivity/sensitivity.json").exists()
 
 
+@pytest.mark.slow
 def test_a_server_that_is_killed_finds_its_jobs_again(driver, large):
     first = Server(large)
     try:

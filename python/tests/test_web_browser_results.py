@@ -166,6 +166,7 @@ def test_null_grades_are_grey_and_the_page_begins_at_the_richest_block(driver, s
     assert driver.execute_script("return app.words(0)") == "cu null, read as 0"
 
 
+@pytest.mark.slow
 def test_the_3d_view_is_made_and_embedded_and_a_table_is_exported(driver, server):
     enter(driver, server)
     complaints(driver)

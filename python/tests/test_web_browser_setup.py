@@ -100,6 +100,7 @@ def test_periods_are_typed_pasted_and_saved(driver, server):
     path.write_text(before)
 
 
+@pytest.mark.slow
 def test_a_role_of_a_column_is_changed_and_the_project_follows(driver, server, tmp_path):
     table = rows(6, 6, 3, cu=lambda i, j, k: 2.0 if k == 1 and i == 4 else 0.0).rename(columns={"cu": "CU_PCT"})
     table.assign(SEAM="S1").to_csv(tmp_path / "east.csv", index=False)

@@ -117,6 +117,7 @@ def unlabelled(driver):
     return driver.execute_script(script)
 
 
+@pytest.mark.slow
 def test_from_a_vendors_export_to_a_schedule_and_its_workbook(driver, server, export):
     driver.set_script_timeout(60)
     enter(driver, server)
