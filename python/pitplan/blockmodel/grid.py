@@ -252,8 +252,8 @@ def rounded(axes: Axes, places: np.ndarray, tolerance: float) -> float:
     """Degrees clockwise of the grid's north, with as few digits as the centres allow."""
     degrees, allowed = -float(np.degrees(axes.angle)), Allowed.of(axes, places, tolerance)
     # Without the sign of a 0.
-    told = (round(degrees, digits) + 0.0 for digits in range(MOST_DIGITS))
-    return next((it for it in told if allowed.holds(replace(axes, angle=-np.radians(it)))), degrees)
+    rounded = (round(degrees, digits) + 0.0 for digits in range(MOST_DIGITS))
+    return next((it for it in rounded if allowed.holds(replace(axes, angle=-np.radians(it)))), degrees)
 
 
 def sizes_told(axes: Axes, places: np.ndarray, tolerance: float) -> tuple[float, float]:
@@ -300,9 +300,9 @@ def centred(places: np.ndarray, axes: Axes) -> Axes:
     return replace(axes, off=axes.off + complex(east, north) * np.exp(1j * axes.angle))
 
 
-def places_on_axes(centres: np.ndarray, axes: Axes, told: tuple[float, float], where: tuple[str, str]) -> Places:
-    """The places of all rows; `told` has the azimuth in degrees and the tolerance in metres."""
-    (azimuth, tolerance), (source, columns) = told, where
+def places_on_axes(centres: np.ndarray, axes: Axes, given: tuple[float, float], where: tuple[str, str]) -> Places:
+    """Returns the places of all rows. `given` has the azimuth in degrees and the tolerance in metres, `where` the file and its columns."""
+    (azimuth, tolerance), (source, columns) = given, where
     whole, worst = axes.counted(centres)[0], off_grid(axes, centres)
     if worst.max() > tolerance:
         row = int((worst > tolerance).argmax())
@@ -433,8 +433,8 @@ class Grid:
 
     def as_json(self) -> dict[str, Any]:
         """Returns shape, origin, size, and the azimuth of a rotated grid."""
-        told = {"shape": list(self.shape), "origin": list(self.origin), "size": list(self.size)}
-        return told | ({"azimuth": self.azimuth} if self.azimuth else {})
+        record = {"shape": list(self.shape), "origin": list(self.origin), "size": list(self.size)}
+        return record | ({"azimuth": self.azimuth} if self.azimuth else {})
 
 
 @dataclass(frozen=True)

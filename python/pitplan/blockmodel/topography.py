@@ -248,7 +248,7 @@ def cut_by_topography(
         )
     notes = [
         *read.notes,
-        f"{file.path}: {told(before, after)}",
+        f"{file.path}: {cut_note(before, after)}",
         *(f"WARNING: {file.path}: {said}" for said in doubts(found, grid)),
     ]
     return frame.assign(**{project.table.tonnes: after}), notes
@@ -275,7 +275,7 @@ def demand_one_height(found: Below, grid: Grid, file: Path) -> None:
         raise PlanError(f"{file}: has several heights {where}: select one surface by its layer")
 
 
-def told(before: np.ndarray, after: np.ndarray) -> str:
+def cut_note(before: np.ndarray, after: np.ndarray) -> str:
     """How many blocks of rock are cut, how many are air, and the tonnes before and after."""
     air, part = (after == 0) & (before > 0), (after > 0) & (after < before)
     return (

@@ -607,12 +607,12 @@ def keeping_dues(nodes: Nodes, groups: Groups) -> Groups:
 
 def owed_by(nodes: Nodes, prices: NDArray[np.float64]) -> str:
     """The sums and years whose least amounts clash, by their prices."""
-    problem, told = nodes.problem, []
+    problem, named = nodes.problem, []
     for limit, by_year in zip(problem.limits, prices):
         years = [str(year + 1) for year in np.flatnonzero(by_year < -ZERO_PRICE)]
-        told += [f"{limit.name} in {problem.word}{'s' * (len(years) > 1)} {', '.join(years)}"] if years else []
-    told += [due.name for due, by_year in zip(problem.dues, prices[len(problem.limits) :]) if by_year[0] < -ZERO_PRICE]
-    return "; ".join(told) or "all limits together"
+        named += [f"{limit.name} in {problem.word}{'s' * (len(years) > 1)} {', '.join(years)}"] if years else []
+    named += [due.name for due, by_year in zip(problem.dues, prices[len(problem.limits) :]) if by_year[0] < -ZERO_PRICE]
+    return "; ".join(named) or "all limits together"
 
 
 def first_groups(nodes: Nodes) -> Groups:
