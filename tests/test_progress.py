@@ -5,6 +5,7 @@ Neither may change the answer, the other files or the exit status. Of the two-bl
 
 import os
 import pathlib
+import random
 import re
 import subprocess
 import sys
@@ -84,6 +85,33 @@ def test_labels_begin_as_distances(mine: Mine, number: Callable[[int], int]) -> 
     assert mine.run(*SOLVE, "--stats", "made.stats") == (0, pit_of(200, [], "0.000000"), "")
     told = stats(mine)
     assert (told["MERGERS"], told["RELABELS"]) == ("199", "0")
+
+
+def test_levels_come_in_from_the_top(mine: Mine) -> None:
+    """Level by level 12,601 labels are raised; all at once it would be 19,759, as two other programs count."""
+    make_mine(mine, "cone")
+    assert mine.run(*SOLVE, "--stats", "made.stats")[0] == 0
+    counts = stats(mine)
+    assert counts["CLOSING"] == "0"
+    assert int(counts["RELABELS"]) < 16_000
+
+
+@pytest.mark.parametrize("seed", range(4))
+def test_numbers_in_any_order_leave_the_closing_loop_nothing(mine: Mine, seed: int) -> None:
+    """A grid of columns, numbered at random: no pass along the numbers finds the levels soon."""
+    rng = random.Random(seed)
+    places = [(x, y, z) for x in range(6) for y in range(6) for z in range(25)]
+    rng.shuffle(places)
+    number = {place: block for block, place in enumerate(places)}
+    around = [(0, 0), (1, 0), (-1, 0), (0, 1), (0, -1)]
+    over = [[number[x + i, y + j, z - 1] for i, j in around if (x + i, y + j, z - 1) in number] for x, y, z in places]
+    mine.write("mine.upit", model_of([str(rng.choice((-2, -1, -1, 3)) + z // 8) for _, _, z in places]))
+    mine.write("mine.prec", "".join(f"{block} {len(needs)} {' '.join(map(str, sorted(needs)))}\n" for block, needs in enumerate(over) if needs))
+    status, pit, err = mine.run(*SOLVE, "--stats", "made.stats")
+    assert (status, err) == (0, "")
+    counts = stats(mine)
+    assert counts["CLOSING"] == "0" and int(counts["MERGERS"]) > 100
+    assert mine.run(*SOLVE, "--budget", "1000000")[:2] == (0, pit)
 
 
 def test_what_workers_decided_is_counted_by_their_journal(mine: Mine) -> None:

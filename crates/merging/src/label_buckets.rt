@@ -1,5 +1,5 @@
-//! The strong roots that wait to be processed, in buckets by label: a first-in-first-out list for each label, with one link for
-//! each block.
+//! Blocks in buckets by a number, such as the strong roots that wait by label: a first-in-first-out list for each label, with one
+//! link for each block.
 ghost use Rattle.std.specs.Prelude.{◌≡◌, ◌<◌, ◌≤◌, ◌^◌, ◌+◌, length, replicate, None, IfOk, IfErr, IfSome};
 ghost use Rattle.pit_model.specs.Size.{most_blocks};
 ghost use Rattle.faults.specs.Refused.{no_memory};
@@ -9,26 +9,27 @@ use faults::Fault;
 use std::alloc::{AllocError, Global};
 use std::marker::Model;
 
-/// To a contract it is the number of blocks; the labels are below that number plus 2.
+/// To a contract it is the number of blocks and the number of labels.
 #[derive(Drop)]
 pub struct LabelBuckets {
-    /// For each label the roots that came first and last, and for each block the root that came after it.
+    /// For each label the blocks that came first and last, and for each block the one that came after it.
     first: Vec<Option<u32>>,
     last: Vec<Option<u32>>,
     next: Vec<Option<u32>>,
-    /// No root with a lower label waits.
+    /// Each bucket with a block has a label from `lowest` on and below `end`.
     lowest: u32,
+    end: u32,
 }
 
 impl Model for LabelBuckets {
-    ghost use Rattle.std.specs.Prelude.{ℕ, length};
-    ghost use Rattle.merging.specs.Order.{AreWaiting};
+    ghost use Rattle.std.specs.Prelude.{◌≤◌, length};
+    ghost use Rattle.merging.specs.Order.{AreWaiting, Buckets};
 
-    ghost Value = { ℕ };
+    ghost Value = { Buckets };
 
-    ghost view = { λ w. length w.next.items };
+    ghost view = { λ w. record { blocks = length w.next.items; labels = length w.first.items } };
 
-    ghost invariant = { λ w. AreWaiting w.first.items w.last.items w.next.items };
+    ghost invariant = { λ w. AreWaiting w.first.items w.last.items w.next.items × (w.end ≤ length w.first.items) };
 }
 
 /// Appends a root to the list of its label.
@@ -40,9 +41,10 @@ fn put(
     root: u32,
 )
     requires waiting { AreWaiting first.old last.old next.old }
-    requires label { label < length next.old + 2 }
+    requires label { label < length first.old }
     requires root { root < length next.old }
     ensures waiting { AreWaiting first.new last.new next.new }
+    ensures labels { length first.new ≡ length first.old }
     ensures blocks { length next.new ≡ length next.old }
 {
     match last[label as usize] {
@@ -61,8 +63,9 @@ fn take(
     label: u32,
 ) -> Option<u32>
     requires waiting { AreWaiting first.old last.old next.now }
-    requires label { label < length next.now + 2 }
+    requires label { label < length first.old }
     ensures waiting { AreWaiting first.new last.new next.now }
+    ensures labels { length first.new ≡ length first.old }
     ensures root { IfSome result (λ r. r < length next.now) }
 {
     let root = first[label as usize]?;
@@ -73,12 +76,12 @@ fn take(
     Some(root)
 }
 
-/// Returns the lowest label, from `from` on, whose list is not empty.
-fn lowest_from(first: &[Option<u32>], from: u32) -> Option<u32>
-    requires { length first.now < 2 ^ 32 }
+/// Returns the lowest label, from `from` on and below `end`, whose list is not empty.
+fn lowest_from(first: &[Option<u32>], from: u32, end: u32) -> Option<u32>
+    requires { end ≤ length first.now }
     ensures { IfSome result (λ l. l < length first.now) }
 {
-    for label in from..first.len() as u32 {
+    for label in from..end {
         if first[label as usize].is_some() {
             return Some(label);
         }
@@ -95,22 +98,24 @@ fn no_roots(alloc: Global, places: usize) -> Result<Vec<Option<u32>>, AllocError
 }
 
 impl LabelBuckets {
-    /// Returns empty buckets.
+    /// Returns empty buckets, one for each of the labels below `labels`.
     ///
     /// # Errors
     ///
     /// If memory runs out.
-    pub fn new(alloc: Global, blocks: u32) -> Result<LabelBuckets, Fault>
-        requires { blocks ≤ most_blocks }
-        ensures blocks { IfOk result (λ w. w ≡ blocks) }
+    pub fn new(alloc: Global, blocks: u32, labels: u32) -> Result<LabelBuckets, Fault>
+        requires blocks { blocks ≤ most_blocks }
+        requires labels { labels ≤ most_blocks + 2 }
+        ensures blocks { IfOk result (λ w. w.blocks ≡ blocks) }
+        ensures labels { IfOk result (λ w. w.labels ≡ labels) }
         ensures no_memory { IfErr result (λ e. e ≡ no_memory) }
     {
-        let labels = blocks as usize + 2;
         Ok(LabelBuckets {
-            first: no_roots(alloc, labels)?,
-            last: no_roots(alloc, labels)?,
+            first: no_roots(alloc, labels as usize)?,
+            last: no_roots(alloc, labels as usize)?,
             next: no_roots(alloc, blocks as usize)?,
             lowest: 0,
+            end: 0,
         })
     }
 
@@ -121,27 +126,51 @@ impl LabelBuckets {
         self.first.fill(None);
         self.last.fill(None);
         self.lowest = 0;
+        self.end = 0;
     }
 
-    /// Appends a root to the bucket of its label.
-    pub fn push(&mut self, label: u32, root: u32)
-        requires label { label < self.old + 2 }
-        requires root { root < self.old }
+    /// Returns whether all buckets are empty.
+    pub fn is_empty(&self) -> bool {
+        lowest_from(&self.first, self.lowest, self.end).is_none()
+    }
+
+    /// Appends a block to the bucket of its label.
+    pub fn push(&mut self, label: u32, block: u32)
+        requires label { label < self.old.labels }
+        requires block { block < self.old.blocks }
         ensures { self.new ≡ self.old }
     {
-        put(&mut self.first, &mut self.last, &mut self.next, label, root);
+        put(
+            &mut self.first,
+            &mut self.last,
+            &mut self.next,
+            label,
+            block,
+        );
         self.lowest = self.lowest.min(label);
+        self.end = self.end.max(label + 1);
     }
 
-    /// Removes and returns the first root of the lowest label, with that label.
+    /// Removes and returns the first block of the lowest label, with that label.
     pub fn pop(&mut self) -> Option<(u32, u32)>
-        ensures blocks { self.new ≡ self.old }
-        ensures label { IfSome result (λ r. r.0 < self.old + 2) }
-        ensures root { IfSome result (λ r. r.1 < self.old) }
+        ensures same { self.new ≡ self.old }
+        ensures label { IfSome result (λ r. r.0 < self.old.labels) }
+        ensures block { IfSome result (λ r. r.1 < self.old.blocks) }
     {
-        let label = lowest_from(&self.first, self.lowest)?;
+        let label = lowest_from(&self.first, self.lowest, self.end)?;
         self.lowest = label;
-        let root = take(&mut self.first, &mut self.last, &self.next, label)?;
-        Some((label, root))
+        let block = self.pop_from(label)?;
+        Some((label, block))
+    }
+
+    /// Removes and returns the first block of a label. `None` for a number that is no label.
+    pub fn pop_from(&mut self, label: u32) -> Option<u32>
+        ensures same { self.new ≡ self.old }
+        ensures block { IfSome result (λ r. r < self.old.blocks) }
+    {
+        if label as usize >= self.first.len() {
+            return None;
+        }
+        take(&mut self.first, &mut self.last, &self.next, label)
     }
 }

@@ -5,9 +5,9 @@
 
 mod budget_bound;
 mod closing;
-mod distances;
 mod first_mergers;
 mod label_buckets;
+mod levels;
 mod lift;
 mod lowest_label;
 mod outcome;

@@ -1,67 +1,59 @@
-//! The order of mergers by lowest label (Hochbaum 2008; Chandran and Hochbaum 2009). It only proposes arcs: the tree decides each
-//! merger, and the closing loop finds any merger arc that is left.
+//! The order of mergers by lowest label (Hochbaum 2008; Chandran and Hochbaum 2009), level by level from the top of the mine. It
+//! only proposes arcs: the tree decides each merger, and the closing loop finds any merger arc that is left.
 //!
-//! A label is a lower bound on the distance of a block from the weak blocks; at first it is that distance. A turn takes a strong
-//! root of the lowest label and searches its branch for an arc to a block one label lower. If it finds one, the branches merge.
-//! Otherwise the blocks of that label in the branch get the next label.
+//! A label is a lower bound on the distance of a block from the weak blocks. A turn takes a strong root of the lowest label and
+//! searches its branch for an arc to a block one label lower. If it finds one, the branches merge. Otherwise the blocks of that
+//! label in the branch get the next label. If no block is one label lower, the branch reaches no weak block: it is finished. When
+//! no root waits, the blocks of the next level come in, each with the least label that those of its predecessors allow.
 ghost use Rattle.std.specs.Prelude.{◌≡◌, ◌<◌, ◌≤◌, ◌+◌, length, IfOk, IfErr, IfSome};
-ghost use Rattle.std.specs.List.{All};
-ghost use Rattle.pit_model.specs.Size.{most_blocks};
+ghost use Rattle.pit_model.specs.Mine.{arcs, source};
+ghost use Rattle.pit_model.specs.Graph.{first_of};
 ghost use Rattle.faults.specs.Refused.{no_memory};
 ghost use Rattle.forest.specs.Forest.{size};
 ghost use Rattle.merging.specs.Order.{AreBelow};
 
-use crate::distances::distances_of;
 use crate::label_buckets::LabelBuckets;
+use crate::levels::blocks_by_level;
 use faults::Fault;
 use forest::Forest;
 use mine_graph::Graph;
 use norm_tree::BareTree;
-use std::alloc::{AllocError, Global};
+use std::alloc::Global;
 use std::marker::Model;
 use std::ops::Range;
 
-/// The result of a turn: merged over this arc, raised the labels of blocks, or no turn is left.
+/// The result of a turn: merged over this arc, changed labels, or no turn is left.
 enum Turn {
     Merged(u32),
-    Raised,
+    Labelled,
     Last,
 }
 
-/// To a contract it is the number of blocks.
+/// The order's state: labels, current arcs and waiting roots. Contracts see only the number of blocks.
 #[derive(Drop)]
 pub struct LowestLabel {
     labels: Vec<u32>,
-    /// The arc of each block from which the look for a lower label goes on.
-    arcs: Vec<u32>,
-    /// How many blocks have each label.
+    /// The place in each block's row from which the search for a lower label goes on.
+    places: Vec<u16>,
+    /// How many of the blocks that are in have each label.
     counts: Vec<u32>,
-    /// The blocks of one label in the branch that a turn searches, and how many there are.
+    /// The blocks of a branch that a turn has found, and how many there are.
     branch: Vec<u32>,
     found: usize,
     waiting: LabelBuckets,
+    /// The blocks that are not in yet, by level.
+    later: LabelBuckets,
 }
 
 impl Model for LowestLabel {
-    ghost use Rattle.std.specs.Prelude.{◌≡◌, ℕ, length};
+    ghost use Rattle.std.specs.Prelude.{◌≡◌, ◌+◌, ℕ, length};
     ghost use Rattle.merging.specs.Order.{AreOrdered};
 
     ghost Value = { ℕ };
 
     ghost view = { λ o. length o.labels.items };
 
-    ghost invariant = { λ o. AreOrdered (length o.labels.items) o.labels.items o.arcs.items o.counts.items o.branch.items o.found × (o.waiting ≡ length o.labels.items) };
-}
-
-/// Returns the first arc of each block.
-fn first_arcs(alloc: Global, graph: &Graph) -> Result<Vec<u32>, AllocError>
-    ensures { IfOk result (λ v. length v.items ≡ graph.now.blocks) }
-{
-    Ok(
-        (0..graph.n())
-            .map(|u| graph.arcs_of(u).start)
-            .collect(alloc)?,
-    )
+    ghost invariant = { λ o. AreOrdered (length o.labels.items) o.labels.items o.places.items o.counts.items o.branch.items o.found × (o.waiting ≡ record { blocks = length o.labels.items; labels = length o.labels.items + 2 }) × (o.later.blocks ≡ length o.labels.items) };
 }
 
 /// A label, among the labels of all blocks.
@@ -75,6 +67,7 @@ struct Level<'a> {
 fn first_to(graph: &Graph, arcs: Range<u32>, level: Level<'_>) -> Option<u32>
     requires labels { length level.labels.now ≡ graph.now.blocks }
     requires arcs { arcs.end ≤ length graph.now.pairs }
+    ensures { IfSome result (λ k. (arcs.start ≤ k) × (k < arcs.end)) }
 {
     graph.law();
     for arc in arcs.start..arcs.end {
@@ -86,16 +79,45 @@ fn first_to(graph: &Graph, arcs: Range<u32>, level: Level<'_>) -> Option<u32>
     None
 }
 
-/// Appends the children of a block that have this label to the `count` blocks found so far, and returns their number then.
+/// Returns the least label of the predecessors in a row, or `most` if the row is empty.
+fn least_label(graph: &Graph, labels: &[u32], row: Range<u32>, most: u32) -> u32
+    requires blocks { length labels.now ≡ graph.now.blocks }
+    requires inside { row.end ≤ length graph.now.pairs }
+    ensures { result ≤ most }
+{
+    graph.law();
+    let mut least = most;
+    for arc in row.start..row.end {
+        let label = labels[graph.needed(arc) as usize];
+        if label == 0 {
+            return 0;
+        }
+        least = least.min(label);
+    }
+    least
+}
+
+/// Returns whether a block has the label, or `true` if any label will do.
+fn has_label(level: Option<Level<'_>>, block: u32) -> bool
+    requires { IfSome level (λ l. block < length l.labels.now) }
+{
+    match level {
+        Some(level) => level.labels[block as usize] == level.label,
+        None => true,
+    }
+}
+
+/// Appends the children of a block that have this label, or all children, to the `found` blocks found so far, and returns their
+/// number then.
 fn add_children(
     forest: &Forest,
     block: u32,
-    level: Level<'_>,
+    level: Option<Level<'_>>,
     branch: &mut [u32],
     found: usize,
 ) -> usize
     requires block { block < size forest.now }
-    requires labels { length level.labels.now ≡ size forest.now }
+    requires labels { IfSome level (λ l. length l.labels.now ≡ size forest.now) }
     requires room { length branch.old ≡ size forest.now }
     requires found { found ≤ size forest.now }
     requires branch { AreBelow branch.old (size forest.now) }
@@ -108,7 +130,7 @@ fn add_children(
     for _child in 0..forest.blocks() {
         match next {
             Some(child) if found < branch.len() => {
-                if level.labels[child as usize] == level.label {
+                if has_label(level, child) {
                     branch[found] = child;
                     found += 1;
                 }
@@ -120,43 +142,25 @@ fn add_children(
     found
 }
 
-/// Returns the number of blocks with each label.
-fn counts_of(alloc: Global, labels: &[u32]) -> Result<Vec<u32>, AllocError>
-    requires few { length labels.now ≤ most_blocks }
-    requires in_range { AreBelow labels.now (length labels.now + 2) }
-    ensures { IfOk result (λ v. length v.items ≡ length labels.now + 2) }
+/// Returns whether a block is a root with an excess above 0.
+fn is_strong_root(tree: &BareTree, block: u32) -> bool
+    requires { block < tree.now.mine.blocks }
 {
-    let mut counts: Vec<u32> = vec![in alloc; 0; labels.len() + 2]?;
-    for &label in labels {
-        counts[label as usize] = counts[label as usize].saturating_add(1);
-    }
-    Ok(counts)
+    tree.parent(block).is_none() && tree.excess(block) > 0
+}
+
+/// Returns the place of an arc in its row, or the end of the row without an arc; at most 65,535, so that longer rows are read again
+/// from there.
+fn place_in(row: Range<u32>, arc: Option<u32>) -> u16
+    requires order { row.start ≤ row.end }
+    requires arc { IfSome arc (λ k. row.start ≤ k) }
+{
+    let end = arc.unwrap_or(row.end);
+    u16::try_from(end - row.start).unwrap_or(u16::MAX)
 }
 
 impl LowestLabel {
-    /// Returns the order with the distance of each block as its label, and no root waiting.
-    ///
-    /// # Errors
-    ///
-    /// If memory runs out.
-    fn opening(alloc: Global, tree: &BareTree) -> Result<LowestLabel, Fault>
-        ensures blocks { IfOk result (λ o. o ≡ tree.now.mine.blocks) }
-        ensures no_memory { IfErr result (λ e. e ≡ no_memory) }
-    {
-        tree.law();
-        let graph = tree.instance().graph();
-        let labels = distances_of(alloc, tree)?;
-        Ok(LowestLabel {
-            arcs: first_arcs(alloc, graph)?,
-            counts: counts_of(alloc, &labels)?,
-            labels,
-            branch: vec![in alloc; 0; graph.n() as usize]?,
-            found: 0,
-            waiting: LabelBuckets::new(alloc, graph.n())?,
-        })
-    }
-
-    /// Returns the order for a tree: its strong roots wait.
+    /// Returns the order for an opening tree: no block is in.
     ///
     /// # Errors
     ///
@@ -165,28 +169,71 @@ impl LowestLabel {
         ensures blocks { IfOk result (λ o. o ≡ tree.now.mine.blocks) }
         ensures no_memory { IfErr result (λ e. e ≡ no_memory) }
     {
+        tree.law();
         let graph = tree.instance().graph();
-        let mut order = LowestLabel::opening(alloc, tree)?;
-        for root in 0..graph.n() {
-            order.wait(tree, root);
-        }
-        Ok(order)
+        let later = blocks_by_level(alloc, graph)?;
+        let blocks = graph.n() as usize;
+        Ok(LowestLabel {
+            labels: vec![in alloc; 0; blocks]?,
+            places: vec![in alloc; 0u16; blocks]?,
+            counts: vec![in alloc; 0; blocks + 2]?,
+            branch: vec![in alloc; 0; blocks]?,
+            found: 0,
+            waiting: LabelBuckets::new(alloc, graph.n(), graph.n() + 2)?,
+            later,
+        })
     }
 
-    /// Lets a block wait if it is a strong root.
+    /// Lets a block in. A strong root gets one more than the least label of its predecessors, and waits; any other block gets 0.
+    fn enter(&mut self, tree: &BareTree, block: u32)
+        requires same { self.old ≡ tree.now.mine.blocks }
+        requires block { block < self.old }
+        ensures { self.new ≡ self.old }
+    {
+        let mut label = 0;
+        if is_strong_root(tree, block) {
+            let graph = tree.instance().graph();
+            label = least_label(graph, &self.labels, graph.arcs_of(block), graph.n()) + 1;
+        }
+        self.labels[block as usize] = label;
+        self.counts[label as usize] = self.counts[label as usize].saturating_add(1);
+        self.wait(tree, block);
+    }
+
+    /// Lets the blocks of the next level in, and returns whether there is one.
+    fn enter_level(&mut self, tree: &BareTree) -> bool
+        requires same { self.old ≡ tree.now.mine.blocks }
+        ensures { self.new ≡ self.old }
+    {
+        let Some((level, first)) = self.later.pop() else {
+            return false;
+        };
+        self.enter(tree, first);
+        for _block in 0..tree.forest().blocks() {
+            match self.later.pop_from(level) {
+                Some(block) => self.enter(tree, block),
+                None => break,
+            }
+        }
+        true
+    }
+
+    /// Lets a block wait if it is a strong root whose branch is not finished.
     fn wait(&mut self, tree: &BareTree, block: u32)
         requires same { self.old ≡ tree.now.mine.blocks }
         requires block { block < self.old }
         ensures { self.new ≡ self.old }
     {
-        if tree.parent(block).is_some() || tree.excess(block) <= 0 {
+        if !is_strong_root(tree, block) {
             return;
         }
         if self.labels[block as usize] == 0 {
             self.relabel(block, 1);
         }
         let label = self.labels[block as usize];
-        self.waiting.push(label, block);
+        if label as usize <= self.labels.len() {
+            self.waiting.push(label, block);
+        }
     }
 
     /// Changes the label of a block.
@@ -201,20 +248,22 @@ impl LowestLabel {
         self.labels[block as usize] = label;
     }
 
-    /// Returns the first arc of a block, from its current arc on, that leads to a block with this label.
+    /// Returns the first arc of a block, from its current place on, that leads to a block with this label.
     fn scan(&mut self, graph: &Graph, block: u32, label: u32) -> Option<u32>
         requires same { self.old ≡ graph.now.blocks }
         requires block { block < self.old }
         ensures same { self.new ≡ self.old }
+        ensures arc { IfSome result (λ k. (k < length graph.now.pairs) × (first_of graph.now.pairs k ≡ block)) }
     {
-        let end = graph.arcs_of(block).end;
-        let from = self.arcs[block as usize];
+        graph.law();
+        let row = graph.arcs_of(block);
+        let from = row.start + u32::from(self.places[block as usize]);
         let level = Level {
             labels: &self.labels,
             label,
         };
-        let arc = first_to(graph, from..end, level);
-        self.arcs[block as usize] = arc.unwrap_or(end);
+        let arc = first_to(graph, from..row.end, level);
+        self.places[block as usize] = place_in(row, arc);
         arc
     }
 
@@ -238,52 +287,49 @@ impl LowestLabel {
         }
     }
 
-    /// Appends the children of a block that have this label to the blocks found.
-    fn find_children(&mut self, forest: &Forest, block: u32, label: u32)
+    /// Appends the children of a block that have this label, or all children, to the blocks found.
+    fn find_children(&mut self, forest: &Forest, block: u32, label: Option<u32>)
         requires same { self.old ≡ size forest.now }
         requires block { block < self.old }
         ensures { self.new ≡ self.old }
     {
-        let level = Level {
-            labels: &self.labels,
-            label,
-        };
+        let labels = &self.labels;
+        let level = label.map(|label| Level { labels, label });
         self.found = add_children(forest, block, level, &mut self.branch, self.found);
     }
 
-    /// Searches the branch of a root, along blocks with its label, for an arc to a block one label lower.
-    fn look(&mut self, tree: &BareTree, root: u32, label: u32) -> Option<u32>
+    /// Searches the branch of a root, along blocks with its label, for an arc to a block one label lower. Returns the block from
+    /// which it leads, and the arc.
+    fn look(&mut self, tree: &BareTree, root: u32, label: u32) -> Option<(u32, u32)>
         requires same { self.old ≡ tree.now.mine.blocks }
         requires root { root < self.old }
         requires label { 0 < label }
-        ensures { self.new ≡ self.old }
+        ensures same { self.new ≡ self.old }
+        ensures arc { IfSome result (λ r. (r.1 < arcs tree.now.mine) × (source tree.now.mine r.1 ≡ r.0)) }
     {
         tree.law();
         self.begin(root);
         for place in 0..tree.forest().blocks() as usize {
             let block = self.found_at(place)?;
-            let arc = self.scan(tree.instance().graph(), block, label - 1);
-            if arc.is_some() {
-                return arc;
+            if let Some(arc) = self.scan(tree.instance().graph(), block, label - 1) {
+                return Some((block, arc));
             }
-            self.find_children(tree.forest(), block, label);
+            self.find_children(tree.forest(), block, Some(label));
         }
         None
     }
 
     /// Raises the labels of the blocks found by one, and lets their root wait.
-    fn raise(&mut self, graph: &Graph, root: u32, label: u32)
-        requires same { self.old ≡ graph.now.blocks }
+    fn raise(&mut self, root: u32, label: u32)
         requires root { root < self.old }
         requires label { label + 1 < self.old + 2 }
         ensures { self.new ≡ self.old }
     {
-        graph.law();
-        for place in 0..graph.n() as usize {
+        for place in 0..self.labels.len() {
             match self.found_at(place) {
                 Some(block) => {
                     self.relabel(block, label + 1);
-                    self.arcs[block as usize] = graph.arcs_of(block).start;
+                    self.places[block as usize] = 0;
                 }
                 None => break,
             }
@@ -291,30 +337,38 @@ impl LowestLabel {
         self.waiting.push(label + 1, root);
     }
 
-    /// Lets exactly the strong roots of a tree wait, except those that `finish` named. Labels stay, since increased values keep
-    /// them lower bounds.
+    /// Finishes a branch: excludes its blocks from all later turns, by a label that no other label is one below.
+    fn finish(&mut self, forest: &Forest, root: u32)
+        requires same { self.old ≡ size forest.now }
+        requires root { root < self.old }
+        ensures { self.new ≡ self.old }
+    {
+        let last = self.labels.len() as u32 + 1;
+        self.begin(root);
+        for place in 0..self.labels.len() {
+            match self.found_at(place) {
+                Some(block) => {
+                    self.relabel(block, last);
+                    self.find_children(forest, block, None);
+                }
+                None => break,
+            }
+        }
+    }
+
+    /// Lets exactly the strong roots of a tree wait whose branch is not finished, after a run over all levels. Labels stay, since
+    /// increased values keep them lower bounds. Before that run no root waits.
     pub fn wait_anew(&mut self, tree: &BareTree)
         requires same { self.old ≡ tree.now.mine.blocks }
         ensures { self.new ≡ self.old }
     {
         tree.law();
-        self.waiting.clear();
-        let blocks = tree.instance().graph().n();
-        for root in 0..blocks {
-            if self.labels[root as usize] <= blocks {
-                self.wait(tree, root);
-            }
+        if !self.later.is_empty() {
+            return;
         }
-    }
-
-    /// Excludes these blocks from all later turns, by a label that no other label is one below.
-    pub fn finish(&mut self, blocks: &[u32])
-        requires { All (λ u. u < self.old) blocks.now }
-        ensures { self.new ≡ self.old }
-    {
-        let last = self.labels.len() as u32 + 1;
-        for &block in blocks {
-            self.relabel(block, last);
+        self.waiting.clear();
+        for root in 0..tree.instance().graph().n() {
+            self.wait(tree, root);
         }
     }
 
@@ -329,13 +383,15 @@ impl LowestLabel {
         }
     }
 
-    /// Merges over the arc, and lets the strong roots of its path wait.
-    fn merge(&mut self, tree: &mut BareTree, arc: u32) -> Turn
+    /// Merges over the arc, which leads from this block, and lets the strong roots of its path wait.
+    fn merge(&mut self, tree: &mut BareTree, from: u32, arc: u32) -> Turn
         requires same { self.old ≡ tree.old.mine.blocks }
+        requires arc { arc < arcs tree.old.mine }
+        requires source { source tree.old.mine arc ≡ from }
         ensures same { self.new ≡ self.old }
         ensures mine { tree.new.mine ≡ tree.old.mine }
     {
-        if !tree.try_merge(arc) {
+        if !tree.merge_from(from, arc) {
             return Turn::Last;
         }
         tree.instance().counters().merged();
@@ -343,28 +399,34 @@ impl LowestLabel {
         Turn::Merged(arc)
     }
 
-    /// Takes one turn. The last turn is when no block is one label lower than the lowest strong root: then no strong branch reaches
-    /// a weak block.
+    /// Takes one turn. The last turn is when no root waits and all blocks are in. If no block is one label lower than the lowest
+    /// strong root, its branch reaches no weak block.
     fn turn(&mut self, tree: &mut BareTree) -> Turn
         requires same { self.old ≡ tree.old.mine.blocks }
         ensures same { self.new ≡ self.old }
         ensures mine { tree.new.mine ≡ tree.old.mine }
     {
+        tree.law();
         let Some((label, root)) = self.waiting.pop() else {
-            return Turn::Last;
+            return if self.enter_level(tree) {
+                Turn::Labelled
+            } else {
+                Turn::Last
+            };
         };
         if label == 0
             || self.counts[label as usize - 1] == 0
             || label > tree.instance().graph().n()
         {
-            return Turn::Last;
+            self.finish(tree.forest(), root);
+            return Turn::Labelled;
         }
         match self.look(tree, root, label) {
-            Some(arc) => self.merge(tree, arc),
+            Some((from, arc)) => self.merge(tree, from, arc),
             None => {
                 tree.instance().counters().relabelled(self.found as u64);
-                self.raise(tree.instance().graph(), root, label);
-                Turn::Raised
+                self.raise(root, label);
+                Turn::Labelled
             }
         }
     }
@@ -381,7 +443,7 @@ pub(crate) fn take_turns(order: &mut LowestLabel, tree: &mut BareTree)
 {
     for _turn in 0..MOST_TURNS {
         match order.turn(tree) {
-            Turn::Merged(_) | Turn::Raised => {}
+            Turn::Merged(_) | Turn::Labelled => {}
             Turn::Last => break,
         }
     }
@@ -414,7 +476,7 @@ pub(crate) fn mergers_by_lowest_label(alloc: Global, tree: &mut BareTree) -> Res
     for _turn in 0..MOST_TURNS {
         match order.turn(tree) {
             Turn::Merged(arc) => arcs.push(arc)?,
-            Turn::Raised => {}
+            Turn::Labelled => {}
             Turn::Last => break,
         }
     }

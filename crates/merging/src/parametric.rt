@@ -94,7 +94,6 @@ impl ParametricSolver {
         let solved = merge_remaining(NormTree::from_guess(tree, strong)?)?;
         solved.law();
         let pit = solved.pit()?;
-        order.finish(&pit);
         let (tree, strong) = solved.into_bare();
         let mine = ParametricSolver {
             tree,

@@ -15,3 +15,4 @@ mod Stale
 mod Ranking
 mod Rising
 mod Over
+mod Ends

@@ -67,3 +67,8 @@ pub returns-in_err-push-2-clause-refused : goal.returns-in_err-push-2-clause-ref
 returns-in_err-push-2-clause-refused c =
     let p = err_from_is_err_and c.from_residual-in_err-push-2.result c.from_residual-in_err-push-2.ensures.1 in
     rw p.1 p.2
+
+pub returns-in_err-push-clause-refused : goal.returns-in_err-push-clause-refused
+returns-in_err-push-clause-refused c =
+    let p = err_from_is_err_and c.from_residual-in_err-push.result c.from_residual-in_err-push.ensures.1 in
+    rw p.1 p.2

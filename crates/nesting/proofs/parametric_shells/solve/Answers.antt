@@ -3,6 +3,7 @@ use Rattle.std.proofs.Common.{◌≡◌, ◌<◌, ◌≤◌, ◌∙◌, ℕ, Lis
 use Rattle.std.specs.List.{All}
 use Rattle.std.specs.Int.{w128}
 use Rattle.std.proofs.lemmas.Int.{to_z-of_z}
+use Rattle.std.proofs.lemmas.Result.{err_from_is_err_and}
 use mir.Val.{SFits}
 use Rattle.pit_model.specs.Sum.{total}
 use Rattle.pit_model.specs.Mine.{members}
@@ -70,3 +71,13 @@ returns-clause-solved c =
       worth_is = to_z-of_z w128 c.worth-worth.result fits ∙ c.worth-worth.ensures
           ∙ ap (λ (xs : List ℕ). total (length xs) (λ i. price_of c.args.plan.now.columns.now c.args.factor (get_or xs i 0))) c.deref-3.ensures.value;
     }
+
+pub returns-in_err-marks-clause-refused : goal.returns-in_err-marks-clause-refused
+returns-in_err-marks-clause-refused c =
+    let p = err_from_is_err_and c.from_residual-in_err-marks.result c.from_residual-in_err-marks.ensures.1 in
+    rw p.1 p.2
+
+pub returns-in_err-pit-clause-refused : goal.returns-in_err-pit-clause-refused
+returns-in_err-pit-clause-refused c =
+    let p = err_from_is_err_and c.from_residual-in_err-pit.result c.from_residual-in_err-pit.ensures.1 in
+    rw p.1 p.2
