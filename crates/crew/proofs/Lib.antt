@@ -1,3 +1,4 @@
 pub mod FirstFound
 pub mod Meeting
 pub mod Seats
+pub mod Working

@@ -1,1 +1,2 @@
 pub mod Solved
+pub mod Working

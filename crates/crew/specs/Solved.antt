@@ -1,18 +1,13 @@
 -- What a solve by workers at one tree gives.
-use Rattle.std.specs.Prelude.{◌≡◌, ◌⊎◌, ℕ, Bool, true, false, List, Option, Some, None, IsTrue, IfSome}
-use mathlib.Core.List.{IsPrefix}
+use Rattle.std.specs.Prelude.{◌≡◌, ◌⊎◌, ℕ, Bool, true, false, List, Option, Some, None, IsTrue}
 use Rattle.pit_model.specs.declared.journal.Entry.{Entry}
 use Rattle.pit_model.specs.declared.journal.Verdict.{Verdict}
 use Rattle.pit_model.specs.declared.journal.Verdict.TheVariants.{Applied, Spent}
 use Rattle.pit_model.specs.Mine.{Instance}
-use Rattle.pit_model.specs.Tree.{is_merger}
 use Rattle.pit_model.specs.Journal.{is_used_up, applied_count, IsLawful, AreSeated, replay}
 use Rattle.pit_model.specs.FirstRun.{HasMerger, HasNoMerger, IsFirstMerger}
 use Rattle.optimality.specs.Certificate.{IsCertificateOf}
-use Rattle.pit_model.specs.Version.{applied_arcs, version_tree}
-use Rattle.proposals.specs.declared.seat_state.WorkerLedger.{WorkerLedger}
 use Rattle.tree_lock.specs.HolderState.{HolderState, Decides}
-use Rattle.tree_lock.specs.Served.{MeetsJournal}
 use Rattle.merging.specs.declared.outcome.Outcome.{Outcome}
 use Rattle.merging.specs.declared.outcome.Outcome.TheVariants.{Pit, Exhausted}
 
@@ -36,24 +31,8 @@ abbrev pub DecidesFirst : HolderState → HolderState → Option Verdict → Typ
 DecidesFirst old new None = HasNoMerger old.mine old.tree × (new ≡ old)
 DecidesFirst old new (Some verdict) = (arc : ℕ) × IsFirstMerger old.mine old.tree (Some arc) × Decides arc old new verdict
 
--- a worker's seats have met the holder's: what it asked and collected agrees with the entries under its seat, and its seat to look
--- from, which is None only while it is lent, is told of all mergers
-abbrev pub IsSynchronised : List Entry → WorkerLedger → Option (List ℕ) → Type 0
-IsSynchronised journal asks looks = MeetsJournal asks journal × IfSome looks (λ list. list ≡ applied_arcs journal)
-
 -- how a round ends, from the holder that the workers met: the driver found no merger arc or no budget for it, and nothing more is to be
 -- done; or it merged over the first one
 abbrev pub RoundEnds : HolderState → HolderState → Bool → Type 0
 RoundEnds met after true = IsEnded after × (DecidesFirst met after None ⊎ DecidesFirst met after (Some Spent))
 RoundEnds met after false = DecidesFirst met after (Some Applied)
-
--- how a worker's look for an arc ends: it saw a version, with all that its seat knew before, and answers whether that shows the arc as
--- a merger arc; or there was none to be had, its seat knows what it knew, and the answer is no
-pub data LooksFor (mine : Instance) (arc : ℕ) (before after : Option (List ℕ)) (answer : Bool) : Type 0 where
-  seen : (old new : List ℕ) → before ≡ Some old → after ≡ Some new → IsPrefix old new → answer ≡ is_merger mine (version_tree mine new) arc
-      → LooksFor mine arc before after answer
-  unseen : after ≡ before → answer ≡ false → LooksFor mine arc before after answer
-
--- the version that a seat saw last shows the arc as a merger arc
-abbrev pub HasSeen : Instance → ℕ → Option (List ℕ) → Type 0
-HasSeen mine arc looks = (list : List ℕ) × (looks ≡ Some list) × IsTrue (is_merger mine (version_tree mine list) arc)

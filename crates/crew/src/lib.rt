@@ -8,6 +8,7 @@ mod shared;
 mod sweeps;
 mod work_chunks;
 mod worker;
+mod worker_seats;
 
 pub use gate::{Gate, OpenGate};
 pub use shared::solve_shared;

@@ -1,6 +1,7 @@
 //! Many workers solve one instance at one tree. Each asks for merger arcs on the board, and the holder of the lock decides the asks
 //! (flat combining: Hendler, Incze, Shavit and Tzafrir 2010). The driver makes the mergers that are left.
-ghost use Rattle.std.specs.Prelude.{◌≡◌, ◌≤◌, IfOk, IfErr};
+ghost use Rattle.std.specs.Prelude.{◌≡◌, ◌≤◌, [], IfOk, IfErr};
+ghost use Rattle.std.specs.List.{All};
 ghost use Rattle.faults.specs.Refused.{no_seat, IsNoRoom};
 ghost use Rattle.pit_model.specs.JournalText.{most_seat};
 ghost use Rattle.pit_model.specs.Mine.{arcs};
@@ -12,6 +13,7 @@ use crate::gate::Gate;
 use crate::sweeps::Crew;
 use crate::work_chunks::WorkChunks;
 use crate::worker::Worker;
+use crate::worker_seats::WorkerSeats;
 use faults::Fault;
 use merging::Outcome;
 use mine_graph::Instance;
@@ -34,19 +36,21 @@ struct Setup {
     unnamed: UnnamedBoard,
 }
 
-/// A worker for each seat at the board, with a seat to look from.
+/// A worker for each seat at the board, with a seat to look from. Nothing was asked yet.
 fn workers_of<S: LockId>(
     alloc: Global,
     shared: &SharedTree<S>,
     seats: Vec<WorkerSeat<S>>,
 ) -> Result<Vec<Worker<S>>, Fault>
+    requires { All (λ seat. seat.asked ≡ []) seats.items }
     ensures { IfErr result IsNoRoom }
 {
     let mut workers = Vec::with_capacity(alloc, seats.len())?;
     let mut number = 0u32;
     for seat in seats {
         number = number.saturating_add(1);
-        workers.push(Worker::new(number, seat, shared.look_seat()?))?;
+        let seats = WorkerSeats::new(seat, shared.look_seat()?);
+        workers.push(Worker { number, seats })?;
     }
     Ok(workers)
 }
@@ -58,6 +62,7 @@ fn with_workers<S: LockId, R: Wait>(
     shared: SharedTree<S>,
     seats: Vec<WorkerSeat<S>>,
 ) -> Result<(Vec<Worker<S>>, Holder<S>), Fault>
+    requires { All (λ seat. seat.asked ≡ []) seats.items }
     ensures { IfErr result IsNoRoom }
 {
     let workers = workers_of(alloc, &shared, seats);

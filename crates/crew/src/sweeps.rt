@@ -5,7 +5,8 @@ ghost use Rattle.faults.specs.Refused.{no_memory, no_seat, IsNoRoom};
 ghost use Rattle.pit_model.specs.Mine.{arcs};
 ghost use Rattle.std.specs.List.{All};
 ghost use Rattle.tree_lock.specs.HolderState.{HolderState};
-ghost use Rattle.crew.specs.Solved.{IsSynchronised, IsEnded, RoundEnds};
+ghost use Rattle.crew.specs.Solved.{IsEnded, RoundEnds};
+ghost use Rattle.crew.specs.Working.{IsSynchronised};
 
 use crate::driver::is_ended;
 use crate::gate::Gate;
@@ -75,10 +76,10 @@ fn as_count(length: usize) -> u32 {
 /// The seats of each meet the holder's.
 fn synchronise_all<S: LockId>(board: &Board<S>, workers: &mut [Worker<S>], holder: &mut Holder<S>)
     ensures same { holder.new ≡ holder.old }
-    ensures met { All (λ worker. IsSynchronised holder.old.journal worker.asks worker.looks) workers.new }
+    ensures met { All (λ worker. IsSynchronised S.mine holder.old.journal worker.seats) workers.new }
 {
     for worker in workers.iter_mut() {
-        worker.synchronise(board, holder);
+        worker.seats.synchronise(board, holder);
     }
 }
 
@@ -107,7 +108,7 @@ impl<'a, S: LockId + Send + Sync, G: Gate + Sync> Crew<'a, S, G> {
         draws.close(draw_seats);
         swept?;
         for worker in self.workers.iter_mut() {
-            worker.take_back(self.board);
+            worker.seats.take_back(self.board);
         }
         Ok(())
     }
@@ -115,7 +116,7 @@ impl<'a, S: LockId + Send + Sync, G: Gate + Sync> Crew<'a, S, G> {
     /// Each worker's seats meet the holder's.
     fn synchronise(&mut self, holder: &mut Holder<S>)
         ensures same { holder.new ≡ holder.old }
-        ensures met { All (λ worker. IsSynchronised holder.old.journal worker.asks worker.looks) self.new.workers.items }
+        ensures met { All (λ worker. IsSynchronised S.mine holder.old.journal worker.seats) self.new.workers.items }
     {
         synchronise_all(self.board, &mut self.workers, holder);
     }
@@ -153,7 +154,7 @@ impl<'a, S: LockId + Send + Sync, G: Gate + Sync> Crew<'a, S, G> {
         holder: &mut Holder<S>,
     ) -> Result<bool, Fault>
         ensures ended { IfOk result (RoundEnds holder.old holder.new) }
-        ensures met { All (λ worker. IsSynchronised holder.old.journal worker.asks worker.looks) self.new.workers.items }
+        ensures met { All (λ worker. IsSynchronised S.mine holder.old.journal worker.seats) self.new.workers.items }
         ensures refused { IfErr result IsNoRoom }
     {
         self.synchronise(holder);
@@ -174,7 +175,7 @@ impl<'a, S: LockId + Send + Sync, G: Gate + Sync> Crew<'a, S, G> {
         holder: Holder<S>,
     ) -> Result<(Holder<S>, bool), Fault>
         requires { S.arcs ≡ arcs S.mine }
-        ensures ended { IfOk result (λ r. (met : HolderState) × RoundEnds met r.0 r.1 × All (λ worker. IsSynchronised met.journal worker.asks worker.looks) self.new.workers.items) }
+        ensures ended { IfOk result (λ r. (met : HolderState) × RoundEnds met r.0 r.1 × All (λ worker. IsSynchronised S.mine met.journal worker.seats) self.new.workers.items) }
         ensures refused { IfErr result IsNoRoom }
     {
         let shared = SharedTree::of_holder(holder);

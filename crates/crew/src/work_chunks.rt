@@ -2,7 +2,7 @@
 //! divides a branch of the solved tree: mergers in different branches do not touch each other, so no worker asks for what another's
 //! merger made stale. A later one goes over the merger arcs that the tree has when it begins. No answer depends on it: asks are
 //! decided under the lock.
-ghost use Rattle.std.specs.Prelude.{◌≡◌, IfErr};
+ghost use Rattle.std.specs.Prelude.{◌≡◌, [], slice_index_or, IfErr};
 ghost use Rattle.faults.specs.Refused.{no_memory};
 
 use counters::Phase;
@@ -10,6 +10,7 @@ use faults::Fault;
 use merging::{Plan, Planned, plan_mergers};
 use norm_tree::NormTree;
 use std::alloc::{AllocError, Global};
+use std::marker::Model;
 
 /// A plan of fewer mergers leaves most workers nothing to ask for, so a sweep over all merger arcs is made in its place.
 const LEAST_PLAN: usize = 8;
@@ -18,6 +19,14 @@ const LEAST_PLAN: usize = 8;
 #[derive(Drop)]
 pub struct WorkChunks {
     chunks: Vec<Vec<u32>>,
+}
+
+impl Model for WorkChunks {
+    ghost use Rattle.std.specs.Prelude.{ℕ, List, map};
+
+    ghost Value = { List (List ℕ) };
+
+    ghost view = { λ w. map (λ chunk. chunk.items) w.chunks.items };
 }
 
 /// How many mergers of a plan lie in each branch.
@@ -126,7 +135,9 @@ impl WorkChunks {
     }
 
     /// The arcs of the chunk with that number; none where no chunk has it.
-    pub fn chunk(&self, number: u32) -> &[u32] {
+    pub fn chunk(&self, number: u32) -> &[u32]
+        ensures { result.now ≡ slice_index_or self.now number [] }
+    {
         match self.chunks.get(number as usize) {
             Some(chunk) => chunk.as_slice(),
             None => &[],

@@ -1,14 +1,15 @@
 //! One worker of mode shared. In a sweep it draws chunks of arcs, reads the published version, and asks for a merger arc that it
 //! sees there. It serves the board under the lock if nobody else did, and collects its reply.
-ghost use Rattle.std.specs.Prelude.{◌≡◌, ◌<◌, ◌≤◌, suc, None, IfSome, IsTrue};
+ghost use Rattle.std.specs.Prelude.{◌≡◌, ◌<◌, ◌≤◌, ◌++◌, suc, ℕ, List, None, IfSome, IsTrue, MatchOption};
 ghost use Rattle.pit_model.specs.Mine.{arcs};
-ghost use Rattle.crew.specs.Solved.{IsSynchronised, HasSeen, LooksFor};
+ghost use Rattle.crew.specs.Working.{arcs_of_chunks, CollectsVerdict, EndsAsk, HasSeen, Proposes, ServesBoard, WorksOn};
 
 use crate::gate::Gate;
 use crate::work_chunks::WorkChunks;
-use proposals::{Board, CounterId, DrawSeat, Draws, WorkerSeat};
+use crate::worker_seats::WorkerSeats;
+use proposals::{Board, CounterId, DrawSeat, Draws};
 use std::sync::{MutexGuard, Wait};
-use tree_lock::{Holder, LockId, LookSeat, SharedTree, Verdict};
+use tree_lock::{Holder, LockId, SharedTree, Verdict};
 
 /// How many asks of its own a worker serves before it releases the lock. Two workers that hand the lock over at each ask sleep and
 /// wake one another each time, which takes longer than what is done with it.
@@ -27,7 +28,8 @@ struct HeldLock<'a, S: LockId> {
 
 impl<'a, S: LockId> HeldLock<'a, S> {
     fn begin(holder: MutexGuard<'a, Holder<S>>) -> HeldLock<'a, S>
-        ensures { result.asks ≡ 64 }
+        ensures asks { result.asks ≡ 64 }
+        ensures holder { result.holder ≡ holder.entry }
     {
         HeldLock {
             holder,
@@ -39,6 +41,7 @@ impl<'a, S: LockId> HeldLock<'a, S> {
     fn left(self) -> Option<HeldLock<'a, S>>
         ensures ends { self.entry.asks ≤ 1 → result ≡ None }
         ensures fewer { IfSome result (λ held. suc held.asks ≡ self.entry.asks) }
+        ensures holder { IfSome result (λ held. held.holder ≡ self.entry.holder) }
     {
         let HeldLock { holder, asks } = self;
         if asks <= 1 {
@@ -58,12 +61,11 @@ impl<'a, S: LockId> HeldLock<'a, S> {
     }
 }
 
-/// A worker's number, from 1, and its seats. The reader's seat is absent while it is lent, and never between calls.
+/// A worker's number, from 1, and its seats.
 #[derive(Drop)]
 pub struct Worker<S: LockId> {
-    number: u32,
-    asks: WorkerSeat<S>,
-    looks: Option<LookSeat<S>>,
+    pub number: u32,
+    pub seats: WorkerSeats<S>,
 }
 
 /// What all workers have in common in a sweep.
@@ -78,59 +80,49 @@ pub struct Sweep<'a, S: LockId, G: Gate, L: CounterId> {
 }
 
 impl<S: LockId> Worker<S> {
-    pub fn new(number: u32, asks: WorkerSeat<S>, looks: LookSeat<S>) -> Worker<S> {
-        Worker {
-            number,
-            asks,
-            looks: Some(looks),
-        }
-    }
-
-    /// Returns whether the published version shows the arc as a merger arc; no if there is no version. The version is left before
-    /// an ask, so that the publisher waits for one test at most.
-    fn sees_merger(&mut self, arc: u32) -> bool
-        ensures shown { LooksFor S.mine arc self.old.looks self.new.looks result }
-        ensures seen { IsTrue result → HasSeen S.mine arc self.new.looks }
-        ensures inside { IsTrue result → arc < arcs S.mine }
-    {
-        let Some(seat) = self.looks.take() else {
-            return false;
-        };
-        match seat.look() {
-            Ok(version) => {
-                let is_merger = version.is_merger(arc);
-                self.looks = Some(version.leave());
-                is_merger
-            }
-            Err(seat) => {
-                self.looks = Some(seat);
-                false
-            }
-        }
-    }
-
     /// Collects the reply to its ask, and answers whether the worker is to go on: not where the budget is used up. None where
     /// there is no reply.
-    fn collect<G: Gate, L: CounterId>(&mut self, sweep: &Sweep<S, G, L>) -> Option<bool> {
-        let reply = sweep.board.collect(&mut self.asks)?;
+    fn collect<G: Gate, L: CounterId>(&mut self, sweep: &Sweep<S, G, L>) -> Option<bool>
+        ensures { MatchOption result (self.new.seats ≡ self.old.seats) (λ goes_on. CollectsVerdict self.old.seats self.new.seats goes_on) }
+    {
+        let reply = self.seats.collect(sweep.board)?;
         sweep.gate.served(self.number);
-        Some(reply.verdict != Verdict::Spent)
+        Some(match reply.verdict {
+            Verdict::Applied | Verdict::Stale => true,
+            Verdict::Spent => false,
+        })
     }
 
-    /// Serves the board with the lock, and collects the reply to its ask. It answers whether the worker is to go on, and the lock
-    /// where it keeps it. It is not to go on where memory was refused; an ask that was not answered then stays open.
-    fn serve<'a, G: Gate, L: CounterId, R: Wait>(
+    /// Serves the board with the lock, and collects the reply to its ask. It answers whether the worker is to go on. It is not to go
+    /// on where memory was refused; an ask that was not answered then stays open.
+    fn serve<G: Gate, L: CounterId, R: Wait>(
+        &mut self,
+        rt: &R,
+        sweep: &Sweep<S, G, L>,
+        holder: &mut Holder<S>,
+    ) -> bool
+        ensures served { ServesBoard S.workers holder.old holder.new result }
+        ensures ended { EndsAsk self.old.seats self.new.seats result }
+    {
+        let served = holder.serve(rt, sweep.board);
+        match self.collect(sweep) {
+            Some(goes_on) => served.is_ok() && goes_on,
+            None => false,
+        }
+    }
+
+    /// Serves with the lock, and answers the lock too where the worker keeps it.
+    fn serve_held<'a, G: Gate, L: CounterId, R: Wait>(
         &mut self,
         rt: &R,
         sweep: &Sweep<'a, S, G, L>,
         held: HeldLock<'a, S>,
-    ) -> (bool, Option<HeldLock<'a, S>>) {
+    ) -> (bool, Option<HeldLock<'a, S>>)
+        ensures ended { EndsAsk self.old.seats self.new.seats result.0 }
+        ensures kept { IfSome result.1 (λ after. (suc after.asks ≡ held.entry.asks) × ServesBoard S.workers held.entry.holder.value after.holder.value result.0) }
+    {
         let mut held = held;
-        let served = held.holder.serve(rt, sweep.board);
-        let goes_on = match self.collect(sweep) {
-            Some(goes_on) => served.is_ok() && goes_on,
-            None => false,
-        };
+        let goes_on = self.serve(rt, sweep, &mut held.holder);
         (goes_on, held.left())
     }
 
@@ -140,10 +132,12 @@ impl<S: LockId> Worker<S> {
         &mut self,
         rt: &R,
         sweep: &Sweep<'a, S, G, L>,
-    ) -> (bool, Option<HeldLock<'a, S>>) {
+    ) -> (bool, Option<HeldLock<'a, S>>)
+        ensures { EndsAsk self.old.seats self.new.seats result.0 }
+    {
         for _look in 0..LOOKS_BEFORE_WAITING {
             match sweep.shared.try_lock() {
-                Some(holder) => return self.serve(rt, sweep, HeldLock::begin(holder)),
+                Some(holder) => return self.serve_held(rt, sweep, HeldLock::begin(holder)),
                 None => {}
             }
             match self.collect(sweep) {
@@ -151,7 +145,7 @@ impl<S: LockId> Worker<S> {
                 None => {}
             }
         }
-        self.serve(rt, sweep, HeldLock::begin(sweep.shared.lock(rt)))
+        self.serve_held(rt, sweep, HeldLock::begin(sweep.shared.lock(rt)))
     }
 
     /// Asks for an arc that the worker saw as a merger arc, serves where nobody answered yet, and collects. It answers whether
@@ -165,13 +159,14 @@ impl<S: LockId> Worker<S> {
         arc: u32,
     ) -> (bool, Option<HeldLock<'a, S>>)
         requires inside { arc < S.arcs }
-        requires seen { HasSeen S.mine arc self.old.looks }
+        requires seen { HasSeen S.mine arc self.old.seats.looks }
+        ensures { Proposes arc self.old.seats self.new.seats result.0 }
     {
-        sweep.board.ask(&mut self.asks, arc);
+        self.seats.ask(sweep.board, arc);
         sweep.gate.asked(self.number);
         match (self.collect(sweep), held) {
             (Some(goes_on), held) => (goes_on, held),
-            (None, Some(held)) => self.serve(rt, sweep, held),
+            (None, Some(held)) => self.serve_held(rt, sweep, held),
             (None, None) => self.synchronise_with_holder(rt, sweep),
         }
     }
@@ -182,11 +177,13 @@ impl<S: LockId> Worker<S> {
         rt: &R,
         sweep: &Sweep<'a, S, G, L>,
         arcs: &[u32],
-    ) -> bool {
+    ) -> bool
+        ensures { WorksOn arcs.now self.old.seats self.new.seats result }
+    {
         let mut held = None;
         let mut goes_on = true;
         for &arc in arcs {
-            if goes_on && self.sees_merger(arc) {
+            if goes_on && self.seats.sees_merger(arc) {
                 (goes_on, held) = self.propose(rt, sweep, held, arc);
             }
         }
@@ -197,13 +194,15 @@ impl<S: LockId> Worker<S> {
         goes_on
     }
 
-    /// The worker's part of a sweep, until no chunk is left.
+    /// The worker's part of a sweep, until no chunk is left. It asks only for arcs of the chunks that it drew.
     pub fn sweep<G: Gate, L: CounterId, R: Wait>(
         &mut self,
         rt: &R,
         sweep: &Sweep<S, G, L>,
         draw_seat: &mut DrawSeat<L>,
-    ) {
+    )
+        ensures { (drawn : List ℕ) × (goes_on : _) × (draw_seat.new.drawn ≡ draw_seat.old.drawn ++ drawn) × WorksOn (arcs_of_chunks sweep.now.work.now drawn) self.old.seats self.new.seats goes_on }
+    {
         for _drawn in 0..u32::MAX {
             let Some(number) = sweep.draws.draw(draw_seat) else {
                 return;
@@ -211,30 +210,6 @@ impl<S: LockId> Worker<S> {
             if !self.go_over(rt, sweep, sweep.work.chunk(number)) {
                 return;
             }
-        }
-    }
-
-    /// Takes back an ask that no one answered, or collects the reply. The worker has no ask open then, unless its ask is
-    /// claimed.
-    pub fn take_back(&mut self, board: &Board<S>) {
-        if !board.withdraw(&mut self.asks) {
-            board.collect(&mut self.asks);
-        }
-    }
-
-    /// Synchronises its seats with the holder's after a sweep. What it asked and collected then agrees with the entries under its
-    /// seat, and it knows all mergers that were made.
-    pub fn synchronise(&mut self, board: &Board<S>, holder: &mut Holder<S>)
-        ensures same { holder.new ≡ holder.old }
-        ensures asks { self.new.asks ≡ self.old.asks }
-        ensures met { IsSynchronised holder.old.journal self.new.asks self.new.looks }
-    {
-        holder.settle(board, &mut self.asks);
-        match &mut self.looks {
-            Some(seat) => {
-                holder.tell(seat);
-            }
-            None => {}
         }
     }
 }
