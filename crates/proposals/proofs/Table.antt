@@ -1,18 +1,25 @@
 -- The table, phase by phase: a row is what its phase says, and the seats know what the row says.
 use Rattle.std.proofs.Common.{ℕ, List, sym, refl, subst, inl, inr, get_or}
 use Rattle.atomic_table.specs.Table.{State}
+use Rattle.pit_model.specs.declared.journal.Verdict.{Verdict}
+use Rattle.pit_model.specs.declared.journal.Verdict.TheVariants.{Applied, Stale, Spent}
 use Rattle.proposals.specs.declared.verdict.Reply.{Reply}
 use Rattle.proposals.specs.declared.seat_state.Served.{Served}
 use Rattle.proposals.specs.declared.seat_state.SeatState.{SeatState}
-use Rattle.proposals.specs.Ledger.{Phase, idle, asks, claims, gave, took, SmallAt, word_at, cell_word, asked_at, answered_at, collected_at, claimed_at, asked, collected, served_of, nothing_served, Boarded}
-use Rattle.proposals.specs.Law.{Stands, LedgerStands}
+use Rattle.proposals.specs.Ledger.{code, Phase, idle, asks, claims, gave, took, SmallAt, word_at, cell_word, asked_at, answered_at, collected_at, claimed_at, asked, collected, served_of, nothing_served, Boarded}
+use Rattle.proposals.specs.Law.{IsWordOf, Stands, LedgerStands}
 use Rattle.proposals.proofs.Turns.{word_is}
 use Rattle.proposals.proofs.Holders.{row_of}
 
+code_is_word : (v : Verdict) → IsWordOf v (code v)
+code_is_word Applied = refl
+code_is_word Stale = refl
+code_is_word Spent = refl
+
 by_phase : (done : List Reply) (p : Phase) → SmallAt p → Stands (word_at p) (asked_at done p) (answered_at done p) (collected_at done p) (claimed_at p)
 by_phase done idle small = inl (refl, refl, refl, refl)
-by_phase done (gave r) small = inr (inl (r.verdict, done, r, refl, refl, refl, refl, refl, inr refl))
-by_phase done (took r) small = inr (inl (r.verdict, done, r, refl, refl, refl, refl, refl, inl refl))
+by_phase done (gave r) small = inr (inl (r.verdict, done, r, code_is_word r.verdict, refl, refl, refl, refl, inr refl))
+by_phase done (took r) small = inr (inl (r.verdict, done, r, code_is_word r.verdict, refl, refl, refl, refl, inl refl))
 by_phase done (asks a) small = inr (inr (inl (a, small, refl, refl, refl, refl)))
 by_phase done (claims a) small = inr (inr (inr (a, small, refl, refl, refl, refl)))
 

@@ -4,19 +4,26 @@ use mathlib.Core.Option.{some}
 use lib.ListN.{get_elem?}
 use Rattle.atomic_table.specs.Table.{State}
 use Rattle.pit_model.specs.declared.journal.Verdict.{Verdict}
+use Rattle.pit_model.specs.declared.journal.Verdict.TheVariants.{Applied, Stale, Spent}
 use Rattle.proposals.specs.declared.verdict.Reply.{Reply}
 use Rattle.proposals.specs.declared.seat_state.WorkerLedger.{WorkerLedger}
 use Rattle.proposals.specs.declared.seat_state.HolderLedger.{HolderLedger}
 use Rattle.proposals.specs.declared.seat_state.SeatState.{SeatState}
-use Rattle.proposals.specs.Ledger.{code, arcs_in, answered_to, claimed_from}
+use Rattle.proposals.specs.Ledger.{arcs_in, answered_to, claimed_from}
 
 -- 0: all that was asked is answered, all that was answered is collected
 abbrev pub IdleRow : ℕ → List ℕ → List Reply → List Reply → Option ℕ → Type 0
 IdleRow word q r k c = (word ≡ 0) × (q ≡ arcs_in r) × (k ≡ r) × (c ≡ None)
 
+-- the word of an answered ask
+abbrev pub IsWordOf : Verdict → ℕ → Type 0
+IsWordOf Applied word = word ≡ 1
+IsWordOf Stale word = word ≡ 2
+IsWordOf Spent word = word ≡ 3
+
 -- 1, 2, 3: all that was asked is answered, the last by this verdict, and at most the last is not collected
 abbrev pub AnsweredRow : ℕ → List ℕ → List Reply → List Reply → Option ℕ → Type 0
-AnsweredRow word q r k c = (v : Verdict) × (d : List Reply) × (last : Reply) × (word ≡ code v) × (q ≡ arcs_in r) × (r ≡ d ++ last ∷ []) × (last.verdict ≡ v) × (c ≡ None) × ((k ≡ r) ⊎ (k ≡ d))
+AnsweredRow word q r k c = (v : Verdict) × (d : List Reply) × (last : Reply) × IsWordOf v word × (q ≡ arcs_in r) × (r ≡ d ++ last ∷ []) × (last.verdict ≡ v) × (c ≡ None) × ((k ≡ r) ⊎ (k ≡ d))
 
 -- 2^32 and an arc: it was asked last, and is not answered
 abbrev pub AskedRow : ℕ → List ℕ → List Reply → List Reply → Option ℕ → Type 0
