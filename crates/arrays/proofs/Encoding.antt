@@ -23,6 +23,24 @@ row_exists n m starts rows u k row = ⊎_elim
     absurd (omega arith))
     (cases_lt u n)
 
+-- a place of the row of u lies in no later row
+not_later : (n m : ℕ) (starts : List ℕ) → IsCsr n m starts → (u v k : ℕ) → IsInRow starts u k → IsInRow starts v k → v ≤ u
+not_later n m starts rows u v k here there = ⊎_elim
+    (λ (later : u < v).
+    let exists : v < n = row_exists n m starts rows v k there in
+    let between = csr_rise starts n m rows (u + 1) v (omega arith) (omega arith) in
+    let high : k < get_or starts (u + 1) 0 = here.1 in
+    let low : get_or starts v 0 ≤ k = there.0 in
+    absurd (omega arith))
+    (λ (l : v ≤ u). l)
+    (cases_lt u v)
+
+pub one_row : (n m : ℕ) (starts : List ℕ) → IsCsr n m starts → (u v k : ℕ) → IsInRow starts u k → IsInRow starts v k → u ≡ v
+one_row n m starts rows u v k here there =
+    let a = not_later n m starts rows u v k here there in
+    let b = not_later n m starts rows v u k there here in
+    omega arith
+
 pub in_range : (n : ℕ) (starts needs : List ℕ) (pairs : List (ℕ × ℕ)) → IsCsr n (length needs) starts → EncodesPairs starts needs pairs
     → ((k : ℕ) → k < length needs → get_or needs k 0 < n) → AreInRange pairs n
 in_range n starts needs pairs rows is below k l =

@@ -3,9 +3,12 @@ use Rattle.std.proofs.Common.{◌≡◌, inl, inr, ℕ, ◌+◌, ◌<◌, ◌≤
 use Rattle.std.proofs.lemmas.Bool.{cases_eq, cases_lt}
 use Rattle.std.proofs.lemmas.List.{get_or-set_same, get_or-set_other}
 use Rattle.pit_model.specs.Graph.{first_of, second_of, AreInRange}
+use Rattle.csr.specs.Rows.{IsCsr, pairs_of}
 use Rattle.csr.proofs.Offsets.{AreOffsets}
-use Rattle.csr.proofs.Spelled.{pair_same, starts_rise}
+use Rattle.csr.proofs.Spelled.{length-pairs_of, pair_same, starts_rise}
 use Rattle.arrays.specs.Named.{AreNamed, IsRepeated}
+use Rattle.arrays.specs.Refused.{IsNamedTwice}
+use Rattle.arrays.proofs.Encoding.{ends_within, one_row, row_exists, spell}
 
 -- a pair before one of a row is of its block or of one before
 pub sooner_first : (pairs : List (ℕ × ℕ)) (starts : List ℕ) (n u i k : ℕ) → AreInRange pairs n → AreOffsets pairs starts n → u < n → k < get_or starts (u + 1) 0 → i < k → first_of pairs i ≤ u
@@ -74,3 +77,23 @@ module _ (pairs : List (ℕ × ℕ)) (named : List ℕ) (k u p : ℕ) (sooner : 
             (λ (ne : j ≡ k → ⊥). is.apart i j l (omega arith) same)
             (cases_eq j k);
       }
+
+-- where a row names a block again, its pair stands before
+pub twice_repeats : (n : ℕ) (starts needs : List ℕ) → IsCsr n (length needs) starts → (k : ℕ) → IsNamedTwice starts needs k → IsRepeated (pairs_of starts needs) k
+twice_repeats n starts needs rows k twice =
+    let pairs = pairs_of starts needs in
+    let encoded = spell n starts needs rows in
+    let long = length-pairs_of starts needs in
+    let exists = row_exists n (length needs) starts rows twice.block k twice.here in
+    let end = ends_within n (length needs) starts rows (twice.block + 1) (omega arith) in
+    let high = twice.here.1 in
+    let sooner = twice.sooner in
+    let inside : k < length needs = omega arith in
+    let earlier : twice.before < length needs = omega arith in
+    let here = one_row n (length needs) starts rows (first_of pairs k) twice.block k (encoded.block k inside) twice.here in
+    let there = one_row n (length needs) starts rows (first_of pairs twice.before) twice.block twice.before (encoded.block twice.before earlier) twice.there in (
+      twice.before,
+      sooner,
+      omega arith,
+      pair_same (get_or pairs twice.before (0, 0)) (get_or pairs k (0, 0)) (there ∙ sym here) (encoded.needed twice.before earlier ∙ twice.same ∙ sym (encoded.needed k inside)),
+    )

@@ -9,7 +9,7 @@ use Rattle.pit_model.specs.Mine.{Instance, IsPit, worth}
 use Rattle.optimality.specs.Check.{most_amount}
 use Rattle.csr.specs.Rows.{RowsRise}
 use Rattle.arrays.specs.Halves.{AreHalves, RefusesHalves}
-use Rattle.arrays.specs.Refused.{RefusesRows}
+use Rattle.arrays.specs.Refused.{IsFirstPlace, RefusesRows}
 use Rattle.arrays.specs.Solved.{AreMarks}
 use Rattle.arrays.specs.Encoded.{EncodesMine}
 
@@ -44,11 +44,12 @@ RefusesFlow amounts (NegativeColumn least) place = (least ≡ place) × (place <
 RefusesFlow amounts OverLimit place = (place < length amounts) × (most_amount <ℤ get_or amounts place (pos 0)) × AreFlowsBefore amounts place
 RefusesFlow amounts _ place = ⊥
 
--- why a flow is not looked at: or there is not an amount for each need; or a mark is neither 0 nor 1; or an amount is not as it must be
+-- why a flow is not looked at: or there is not an amount for each need; or the first mark that is neither 0 nor 1; or the first amount that is
+-- not as it must be
 pub data RefusesCertificateArrays (blocks : ℕ) (starts needs marks : List ℕ) (amounts : List ℤ) (refusal : Refusal) (place : ℕ) : Type 0 where
   by_arrays : RefusesCertified blocks starts needs marks refusal place → RefusesCertificateArrays blocks starts needs marks amounts refusal place
   by_count : refusal ≡ CountsDiffer → place ≡ 0 → (length amounts ≡ length needs → ⊥) → RefusesCertificateArrays blocks starts needs marks amounts refusal place
-  by_mark : refusal ≡ WrongHeader → place < length marks → 1 < get_or marks place 0 → RefusesCertificateArrays blocks starts needs marks amounts refusal place
+  by_mark : refusal ≡ WrongHeader → place < length marks → IsFirstPlace (λ k. 1 < get_or marks k 0) place → RefusesCertificateArrays blocks starts needs marks amounts refusal place
   by_flow : RefusesFlow amounts refusal place → RefusesCertificateArrays blocks starts needs marks amounts refusal place
 
 -- the number of why no flow is made

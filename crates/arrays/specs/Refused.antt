@@ -14,6 +14,10 @@ use Rattle.arrays.specs.Fixing.{AreForBlocks, RefusesFixing}
 use Rattle.csr.specs.Rows.{IsCsr}
 use Rattle.arrays.specs.Encoded.{IsInRow, PricedRows, EncodesPairs}
 
+-- this is so of a place, and of no place before it
+abbrev pub IsFirstPlace : (ℕ → Type 0) → ℕ → Type 0
+IsFirstPlace Is place = Is place × ((k : ℕ) → k < place → Is k → ⊥)
+
 -- too many blocks, or too many pairs
 abbrev pub AreTooMany : ℕ → List ℕ → Type 0
 AreTooMany blocks needs = (most_blocks < blocks) ⊎ (most_pairs < length needs)
@@ -33,22 +37,22 @@ RefusesNeedArrays pairs blocks NoMemory place = place ≡ 0
 RefusesNeedArrays pairs blocks (Cycle list) place = IsCycleList pairs blocks list.items × (place ≡ 0)
 RefusesNeedArrays pairs blocks _ place = ⊥
 
--- no memory; or a fault of the arrays, with the place of `needs` where it lies, and 0 for one that lies at no place
+-- no memory; or a fault of the arrays, with the first place of `needs` where it lies, and 0 for one that lies at no place
 abbrev pub RefusesRows : ℕ → List ℕ → List ℕ → Refusal → ℕ → Type 0
 RefusesRows blocks starts needs NoMemory place = place ≡ 0
 RefusesRows blocks starts needs OverLimit place = AreTooMany blocks needs × (place ≡ 0)
 RefusesRows blocks starts needs IdOutOfPlace place = (IsCsr blocks (length needs) starts → ⊥) × (place ≡ 0)
-RefusesRows blocks starts needs PredecessorOutOfRange place = (place < length needs) × (blocks ≤ get_or needs place 0)
-RefusesRows blocks starts needs NeedsItself place = IsInRow starts (get_or needs place 0) place
-RefusesRows blocks starts needs PredecessorTwice place = IsNamedTwice starts needs place
+RefusesRows blocks starts needs PredecessorOutOfRange place = (place < length needs) × IsFirstPlace (λ k. blocks ≤ get_or needs k 0) place
+RefusesRows blocks starts needs NeedsItself place = IsFirstPlace (λ k. IsInRow starts (get_or needs k 0) k) place
+RefusesRows blocks starts needs PredecessorTwice place = IsFirstPlace (IsNamedTwice starts needs) place
 RefusesRows blocks starts needs (Cycle list) place = (pairs : List (ℕ × ℕ)) × EncodesPairs starts needs pairs × IsCycleList pairs blocks list.items × (place ≡ 0)
 RefusesRows blocks starts needs _ place = ⊥
 
--- or there is not a mark for each block, or neither a number for each block nor none; or a number says nothing; or a barred
--- block must be dug, by the pairs in whatever order
+-- or there is not a mark for each block, or neither a number for each block nor none; or the first number that says nothing; or a
+-- barred block must be dug, by the pairs in whatever order
 abbrev pub RefusesPitArrays : ℕ → List ℕ → List ℕ → List ℕ → List ℕ → Refusal → ℕ → Type 0
 RefusesPitArrays blocks starts needs numbers marks CountsDiffer place = ((length marks ≡ blocks) × AreForBlocks blocks numbers → ⊥) × (place ≡ 0)
-RefusesPitArrays blocks starts needs numbers marks WrongHeader place = (place < length numbers) × (2 < get_or numbers place 0)
+RefusesPitArrays blocks starts needs numbers marks WrongHeader place = (place < length numbers) × IsFirstPlace (λ k. 2 < get_or numbers k 0) place
 RefusesPitArrays blocks starts needs numbers marks (FixedClash block) place =
     (encoded pairs : List (ℕ × ℕ)) × EncodesPairs starts needs encoded × AreSamePairs encoded pairs × RefusesFixing pairs numbers (FixedClash block) place
 RefusesPitArrays blocks starts needs numbers marks refusal place = RefusesRows blocks starts needs refusal place

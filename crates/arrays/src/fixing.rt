@@ -5,6 +5,7 @@ ghost use Rattle.pit_model.specs.Fixed.{fixed_of};
 ghost use Rattle.pit_model.specs.Mine.{members};
 ghost use Rattle.mine_graph.specs.FixedBlocks.{IsFixedOf};
 ghost use Rattle.arrays.specs.Fixing.{AreForBlocks, RefusesFixing, fixed_by, toward};
+ghost use Rattle.arrays.specs.Refused.{IsFirstPlace};
 
 use crate::array_error::ArrayError;
 use faults::Refusal;
@@ -26,7 +27,7 @@ pub fn toward(greatest: bool) -> Direction
 /// The first place of a number above the most that says something.
 pub fn first_above(numbers: &[u8], most: u8) -> Option<u32>
     requires { length numbers.now ≤ most_blocks }
-    ensures some { IfSome result (λ k. (k < length numbers.now) × (most < get_or numbers.now k 0)) }
+    ensures some { IfSome result (λ k. (k < length numbers.now) × IsFirstPlace (λ i. most < get_or numbers.now i 0) k) }
     ensures none { IfNone result ((k : ℕ) → k < length numbers.now → get_or numbers.now k 0 ≤ most) }
 {
     for k in 0..numbers.len() {

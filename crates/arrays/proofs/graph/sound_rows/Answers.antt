@@ -6,7 +6,9 @@ use Rattle.csr.proofs.Begun.{csr_sized}
 use Rattle.csr.proofs.Spelled.{length-pairs_of, second_at}
 use Rattle.arrays.specs.Named.{IsRepeated}
 use Rattle.arrays.specs.Encoded.{IsInRow, EncodesPairs}
+use Rattle.arrays.specs.Refused.{IsFirstPlace, IsNamedTwice}
 use Rattle.arrays.proofs.Encoding.{rows_in_range, spell}
+use Rattle.arrays.proofs.Repeats.{twice_repeats}
 use Rattle.arrays.proofs.graph.sound_rows.Goals as goal
 
 pub returns-in-Some-2-clause-refused : goal.returns-in-Some-2-clause-refused
@@ -15,20 +17,21 @@ returns-in-Some-2-clause-refused c =
     let seconds = c.args.rows.targets.now in
     let pairs = pairs_in c.args.rows in
     let place : ℕ = c.in-Some-2.place in
-    let is = subst (λ o. IfSome o (IsRepeated pairs)) c.in-Some-2.is c.in_ok-place.ensures.some in
+    let is = subst (λ o. IfSome o (IsFirstPlace (IsRepeated pairs))) c.in-Some-2.is c.in_ok-place.ensures.some in
     let long = length-pairs_of starts seconds in
     let encoded = spell c.args.blocks starts seconds c.requires.rows in
-    let before : ℕ = is.0 in
-    let sooner = is.1 in
-    let inside = is.2 in
-    record {
+    let before : ℕ = is.0.0 in
+    let sooner = is.0.1 in
+    let inside = is.0.2 in
+    let twice : IsNamedTwice starts seconds place = record {
       block = first_of pairs place;
       before = before;
       sooner = sooner;
       here = encoded.block place (omega arith);
-      there = subst (λ u. IsInRow starts u before) (ap (λ (q : ℕ × ℕ). q.0) is.3) (encoded.block before (omega arith));
-      same = sym (second_at starts seconds before (omega arith)) ∙ ap (λ (q : ℕ × ℕ). q.1) is.3 ∙ second_at starts seconds place (omega arith);
-    }
+      there = subst (λ u. IsInRow starts u before) (ap (λ (q : ℕ × ℕ). q.0) is.0.3) (encoded.block before (omega arith));
+      same = sym (second_at starts seconds before (omega arith)) ∙ ap (λ (q : ℕ × ℕ). q.1) is.0.3 ∙ second_at starts seconds place (omega arith);
+    } in
+    (twice, λ k less again. is.1 k less (twice_repeats c.args.blocks starts seconds c.requires.rows k again))
 
 pub from_view-requires : goal.from_view-requires
 from_view-requires c = let rows = c.args.rows in csr_sized rows.offsets.now c.args.blocks (length rows.targets.now) (length rows.targets.now) c.requires.rows refl

@@ -47,8 +47,10 @@ returns-then-named-needed-clause-some c =
     let second : second_of pairs k ≡ get_or seconds k 0 = second_at starts seconds k inside in
     let own : first_of pairs k ≡ u = (csr_offsets c.args.rows.offsets.now c.args.rows.targets.now _ c.requires.rows).owns u k c.requires.block c.loop-k.invariant.from c.loop-k-test.true in
     let range = (c.requires.in_range k (omega arith)).1 in
-    let sooner = λ (i : ℕ) (l : i < k). sooner_first pairs starts n u i k c.requires.in_range (csr_offsets c.args.rows.offsets.now c.args.rows.targets.now _ c.requires.rows) c.requires.block c.loop-k-test.true l in
-    named_twice pairs c.loop-k.named k u (get_or seconds k 0) sooner own second c.loop-k.invariant.named (omega arith) c.if-named-needed.true
+    let sooner = λ (i : ℕ) (l : i < k). sooner_first pairs starts n u i k c.requires.in_range (csr_offsets c.args.rows.offsets.now c.args.rows.targets.now _ c.requires.rows) c.requires.block c.loop-k-test.true l in (
+      named_twice pairs c.loop-k.named k u (get_or seconds k 0) sooner own second c.loop-k.invariant.named (omega arith) c.if-named-needed.true,
+      λ j less again. c.loop-k.invariant.named.apart again.0 j again.1 less again.3,
+    )
 
 pub loop-k-preserved : goal.loop-k-preserved
 loop-k-preserved c =
