@@ -7,9 +7,6 @@ ghost use Rattle.schedule_model.specs.Bound.{IsLagrangianBound};
 ghost use Rattle.schedule_bound.specs.Worth.{AreNodesAt, HasNodes, IsWorthOfPit, RefusesBound};
 ghost use Rattle.scheduling.specs.Limits.{ArePriceNumbers};
 
-#[cfg(test)]
-mod tests;
-
 use faults::Fault;
 use merging::solve_pit;
 use mine_graph::Instance;

@@ -7,3 +7,4 @@ pub mod OneBound
 pub mod OneSchedule
 pub mod OneAnswer
 pub mod ExampleTexts
+pub mod ExampleRefusals

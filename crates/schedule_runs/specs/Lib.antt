@@ -7,3 +7,4 @@ pub mod Runs
 pub mod OneAnswer
 pub mod Status
 pub mod ExampleTexts
+pub mod ExampleRefusals

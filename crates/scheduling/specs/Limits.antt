@@ -45,31 +45,6 @@ pub record IsTermOf (destinations columns limits : ℕ) (term : Term) : Type 0 w
 abbrev pub IsTerm : Problem → Term → Type 0
 IsTerm problem term = IsTermOf problem.destinations problem.columns problem.limits term
 
--- how large a problem may be
-pub record AreSizes (blocks pairs periods destinations columns limits : ℕ) : Type 0 where
-  pub few_nodes : periods * blocks ≤ most_blocks
-  pub few_pairs : periods * (pairs + blocks) ≤ most_pairs
-  pub some_periods : 0 < periods
-  pub few_periods : periods ≤ 2 ^ 16
-  pub some_destinations : 0 < destinations
-  pub few_destinations : destinations ≤ 2 ^ 6
-  pub few_columns : columns ≤ 2 ^ 10
-  pub few_limits : limits ≤ 2 ^ 16
-  pub few_capacities : limits * periods ≤ 2 ^ 16
-
--- as many numbers as the sizes say
-pub record AreCounts (problem : Problem) : Type 0 where
-  pub few_terms : length problem.terms ≤ 2 ^ 10
-  pub amount_count : length problem.amounts ≡ problem.blocks * problem.columns
-  pub discount_count : length problem.discounts ≡ problem.periods
-  pub capacity_count : length problem.capacities ≡ problem.limits * problem.periods
-
--- numbers within their limits
-pub record AreNumbers (amounts discounts capacities : List ℤ) : Type 0 where
-  pub amounts_within : AreWithinDistance most_column amounts
-  pub discounts_within : AreWithinDistance most_discount discounts
-  pub capacities_within : AreWithinDistance most_capacity capacities
-
 pub record IsBoundedProblem (problem : Problem) : Type 0 where
   pub graph : IsGraph problem.blocks problem.pairs
   pub few_blocks : problem.blocks ≤ most_blocks

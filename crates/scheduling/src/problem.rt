@@ -1,17 +1,13 @@
 //! A scheduling problem in memory.
-ghost use Rattle.std.specs.Prelude.{◌≡◌, ◌<◌, false, IfNone, IfSome, IsTrue, length};
+ghost use Rattle.std.specs.Prelude.{◌≡◌, ◌<◌, length};
 ghost use Rattle.schedule_model.specs.Problem.{amount_in, discount, term_at};
-ghost use Rattle.scheduling.specs.Limits.{AreCounts, AreNumbers, AreSizes, IsBoundedProblem};
+ghost use Rattle.scheduling.specs.Limits.{IsBoundedProblem};
 ghost use Rattle.scheduling.specs.Parts.{problem_of};
 
-use crate::limits::{are_sizes, are_terms, are_within};
 use crate::parts::{Numbers, Sizes};
 use mine_graph::Graph;
 use schedule_model::Term;
 use std::marker::Model;
-
-/// The most terms of a problem.
-const MOST_TERMS: usize = 1024;
 
 /// Blocks with precedence, amounts in columns, terms of destinations, discount factors and capacities.
 #[derive(Drop)]
@@ -33,30 +29,6 @@ impl Model for Problem {
     ghost invariant = { λ p. IsBoundedProblem (problem_of p.graph p.sizes p.numbers) };
 }
 
-/// Returns whether there are as many numbers as the sizes say.
-fn are_counts(graph: &Graph, sizes: Sizes, numbers: &Numbers) -> bool
-    requires { AreSizes graph.now.blocks (length graph.now.pairs) sizes.periods sizes.destinations sizes.columns sizes.limits }
-    ensures yes { IsTrue result → AreCounts (problem_of graph.now sizes numbers.now) }
-    ensures no { result ≡ false → AreCounts (problem_of graph.now sizes numbers.now) → ⊥ }
-{
-    graph.law();
-    let periods = sizes.periods as usize;
-    numbers.terms.len() <= MOST_TERMS
-        && numbers.amounts.len() == graph.n() as usize * sizes.columns as usize
-        && numbers.discounts.len() == periods
-        && numbers.capacities.len() == sizes.limits as usize * periods
-}
-
-/// Returns whether all numbers are within their limits.
-fn are_numbers(numbers: &Numbers) -> bool
-    ensures yes { IsTrue result → AreNumbers numbers.now.amounts.items numbers.now.discounts.items numbers.now.capacities.items }
-    ensures no { result ≡ false → AreNumbers numbers.now.amounts.items numbers.now.discounts.items numbers.now.capacities.items → ⊥ }
-{
-    are_within(&numbers.amounts, 10_000_000_000_000_000)
-        && are_within(&numbers.discounts, 1_000_000)
-        && are_within(&numbers.capacities, 1_000_000_000_000_000_000)
-}
-
 impl Problem {
     /// Returns the problem of these parts. It takes no memory.
     pub fn new(graph: Graph, sizes: Sizes, numbers: Numbers) -> Problem
@@ -68,21 +40,6 @@ impl Problem {
             sizes,
             numbers,
         }
-    }
-
-    /// Returns the problem of these parts if it is within the limits of `specs/Limits`.
-    pub fn checked(graph: Graph, sizes: Sizes, numbers: Numbers) -> Option<Problem>
-        ensures some { IfSome result (λ p. p ≡ problem_of graph sizes numbers) }
-        ensures none { IfNone result (IsBoundedProblem (problem_of graph sizes numbers) → ⊥) }
-    {
-        graph.law();
-        if !are_sizes(&graph, sizes) || !are_counts(&graph, sizes, &numbers) {
-            return None;
-        }
-        if !are_terms(sizes, &numbers.terms) || !are_numbers(&numbers) {
-            return None;
-        }
-        Some(Problem::new(graph, sizes, numbers))
     }
 
     /// What is true of each problem.
