@@ -14,6 +14,7 @@ shared    mode shared next to mode parts, and what the workers did
 shapes    mines of odd shapes, each next to the pit that its shape gives
 malice    adversarial texts next to lawful ones
 library   the library on arrays next to the program on text
+layer     the planner's layer, by command, next to pandas' own reading of the table
 
 A suite of its own writes build/bench.md unless --results names another file. --small tries the machinery on small mines, with one run of
 each, and writes build/bench.md too.
@@ -24,7 +25,7 @@ import importlib
 import pathlib
 import sys
 
-SUITES = ("table", "peers", "fixed", "greatest", "shells", "shared", "shapes", "malice", "library")
+SUITES = ("table", "peers", "fixed", "greatest", "shells", "shared", "shapes", "malice", "library", "layer")
 
 
 def run_all(words: list[str]) -> None:

@@ -13,6 +13,9 @@ from typing import NamedTuple
 from kit import WORK, Mine, keep, mine_of, options, parsed
 from timing import Run, timed
 
+# A solve of less processor seconds counts as this many, so that small mines have ratios.
+TICK = 0.001
+
 DRIVER, STALE = "0", "2"
 
 
@@ -56,7 +59,7 @@ def rows(program: object, mine: Mine, workers: list[int], count: int) -> list[st
     own = [min(run.processor for run in runs) - reading for runs in solved]
     made = []
     for mode, solve, runs, seconds in zip(modes, solves, solved, own):
-        row = f"{' '.join(mode)} | {seconds:.3f} | {seconds / own[0]:.1f} | {min(run.elapsed for run in runs):.3f} | "
+        row = f"{' '.join(mode)} | {seconds:.3f} | {seconds / max(own[0], TICK):.1f} | {min(run.elapsed for run in runs):.3f} | "
         said = None if mode == ["parts"] else decisions_of(solve)
         made.append(row + ("| | |" if said is None else f"{said.asks} | {said.stale} ({100 * said.stale / max(said.asks, 1):.1f} %) | {said.of_driver} |"))
     return made

@@ -18,7 +18,7 @@ def test_the_tables_are_made_from_the_results() -> None:
     assert (ran.returncode, ran.stdout, ran.stderr) == (0, "", "")
 
 
-@pytest.mark.parametrize("suite", ["fixed", "greatest", "shared"])
+@pytest.mark.parametrize("suite", ["fixed", "greatest", "shared", "layer"])
 def test_a_suite_writes_its_section_and_keeps_the_others(suite: str, tmp_path: pathlib.Path) -> None:
     results = tmp_path / "bench.md"
     results.write_text("# Measurements\n\n## other\n\nWords.\n\n| a | b |\n|---|---|\n| 1 | 2 |\n")

@@ -98,6 +98,7 @@ MADE: dict[str, tuple[str, Callable[[str], Rows]]] = {
     "fixed": ("fixed", first),
     "greatest": ("greatest", first),
     "library": ("library", library),
+    "layer": ("layer", first),
 }
 
 
