@@ -52,7 +52,7 @@ def dug() -> np.ndarray:
         plan = pitplan.prepare(path, table=table)
     ore = np.zeros(plan.grid.count, dtype=bool)
     ore[plan.grid.count - plan.grid.per_level + (COLUMNS // 2) * COLUMNS + COLUMNS // 2] = True
-    return plan.grid.cube(closure.used_blocks(plan.grid, plan.walls, ore))
+    return plan.grid.cube(closure.used_blocks(plan.grid, plan.domains, ore))
 
 
 def draw(path: pathlib.Path) -> None:

@@ -40,8 +40,8 @@ Functions `plot_...` draw on your own axes, return them, and leave the backend o
 
 - `pit_by_pit`: `shells.table`
 - `annual.plot_years`: `shells.years`
-- `plans_sections`: its `scene_of(shells.plan, shells.solution)`
-- `pushbacks`: its `scene_of(pushbacks.found)`
+- `plans_sections`: its `scene_of(shells)`
+- `pushbacks`: its `scene_of(pushbacks)`
 - `scenarios`: `found.likely(1.0)` or `found.table`
 - `sensitivity`: a table of cases
 
@@ -63,9 +63,7 @@ if TYPE_CHECKING:
     from pitplan.studies.dask_pool import Where
     from pitplan.studies.scenarios.result import ScenarioResult
 
-    from .api.block_model import BlockModel
-    from .api.plan import Plan
-    from .api.results import BlockSchedule, Pushbacks, PushbackSchedule, Shells
+    from .blockmodel.block_model import BlockModel
     from .commands.compare import Comparison, compare
     from .commands.outputs import audit, view, write_export, write_report
     from .commands.plans import check, write_pit, write_pushbacks, write_shells
@@ -75,6 +73,11 @@ if TYPE_CHECKING:
     from .commands.verification import Rule, verify
     from .commands.writing import Writing
     from .errors import BudgetUsedUp, InputWarning, MissingPackage, PlanError, PlanWarning, ProgramError, ResultWarning
+    from .pits.shells import Shells
+    from .plan import Plan
+    from .pushbacks.nested import Pushbacks
+    from .scheduling.blocks.tables import BlockSchedule
+    from .scheduling.pushback_schedule import PushbackSchedule
     from .studies.scenarios.run import Request
 else:
 
@@ -94,9 +97,7 @@ __version__ = "0.2.0"
 
 # The public names by their modules, which are imported on first use: `import pitplan` alone takes neither pandas nor matplotlib.
 MODULES = {
-    "api.block_model": ("BlockModel",),
-    "api.plan": ("Plan",),
-    "api.results": ("BlockSchedule", "Pushbacks", "PushbackSchedule", "Shells"),
+    "blockmodel.block_model": ("BlockModel",),
     "commands.compare": ("Comparison", "compare"),
     "commands.outputs": ("audit", "view", "write_export", "write_report"),
     "commands.plans": ("check", "write_pit", "write_pushbacks", "write_shells"),
@@ -110,7 +111,12 @@ MODULES = {
         *("BudgetUsedUp", "InputWarning", "MissingPackage", "PlanError", "PlanWarning", "ProgramError"),
         "ResultWarning",
     ),
+    "pits.shells": ("Shells",),
+    "plan": ("Plan",),
+    "pushbacks.nested": ("Pushbacks",),
     "results.pit_states": ("Shape",),
+    "scheduling.blocks.tables": ("BlockSchedule",),
+    "scheduling.pushback_schedule": ("PushbackSchedule",),
     "solver.program": ("Solution",),
     "studies.dask_pool": ("Where",),
     "studies.scenarios.run": ("Request",),

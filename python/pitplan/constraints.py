@@ -1,7 +1,7 @@
 """Must-mine and excluded blocks: by columns of the table, the as-mined surface, and areas on the map.
 
 Cells without tonnes are neither, except mined-out ones. All predecessors of a must-mine block are mined with it, and all successors of an
-excluded block are sterilised with it. The remaining blocks are the reduced mine: its optimal pit together with the forced blocks is the
+excluded block are sterilised with it. The remaining blocks are the reduced mine: its optimal pit together with the must-mine blocks is the
 optimal pit within the constraints.
 """
 
@@ -22,7 +22,7 @@ from pitplan.config.project import Project
 from pitplan.core import byte_lines
 from pitplan.economics.block_values import Values
 from pitplan.slopes.closure import used_blocks, users_of
-from pitplan.slopes.domains import Walls
+from pitplan.slopes.domains import SlopeDomains
 from pitplan.survey import readers
 
 from .blockmodel import topography
@@ -35,16 +35,16 @@ class FixedBlocks:
 
     Attributes
     ----------
-    forced : int array
+    must_mine : int array
         Cells of must-mine blocks, rising.
-    barred : int array
+    excluded : int array
         Cells of excluded blocks, rising.
     notes : tuple of str
         Notes for the planner.
     """
 
-    forced: NDArray[Any]
-    barred: NDArray[Any]
+    must_mine: NDArray[Any]
+    excluded: NDArray[Any]
     notes: tuple[str, ...] = ()
 
 
@@ -53,15 +53,15 @@ NOTHING = FixedBlocks(np.zeros(0, dtype=np.int64), np.zeros(0, dtype=np.int64))
 
 @dataclass(frozen=True)
 class Settled:
-    """Boolean masks over the cells: forced into every shell, and sterilised, by the constraints and their slope cones."""
+    """Boolean masks over the cells: must-mine into every shell, and sterilised, by the constraints and their slope cones."""
 
-    dug: NDArray[Any]
+    mined: NDArray[Any]
     left: NDArray[Any]
 
     @property
     def rest(self) -> NDArray[Any]:
         """The mask of the cells that the constraints leave open."""
-        rest: NDArray[Any] = ~(self.dug | self.left)
+        rest: NDArray[Any] = ~(self.mined | self.left)
         return rest
 
 
@@ -75,10 +75,10 @@ def nodes_of_rest(values: Values, settled: Settled) -> tuple[NDArray[Any], NDArr
     return np.where(is_open, revenue, 0), np.where(is_open, cost, 0)
 
 
-def settled(fixed: FixedBlocks, grid: Grid, walls: Walls) -> Settled:
+def settled(fixed: FixedBlocks, grid: Grid, domains: SlopeDomains) -> Settled:
     """Returns the blocks that the constraints force in or sterilise through the precedences."""
-    dug = used_blocks(grid, walls, marks(grid, fixed.forced))
-    return Settled(dug, users_of(grid, walls, marks(grid, fixed.barred)))
+    mined = used_blocks(grid, domains, marks(grid, fixed.must_mine))
+    return Settled(mined, users_of(grid, domains, marks(grid, fixed.excluded)))
 
 
 def marks(grid: Grid, cells: NDArray[Any]) -> NDArray[Any]:
@@ -102,20 +102,20 @@ def of_table(frame: pd.DataFrame, grid: Grid, project: Project, source: str = "t
     if rules is None:
         return NOTHING
     rock = frame[project.table.tonnes].to_numpy() > 0
-    forced, barred = marked(frame, rules.must_mine) & rock, marked(frame, rules.exclude) & rock
+    must_mine, excluded = marked(frame, rules.must_mine) & rock, marked(frame, rules.exclude) & rock
     notes = []
-    forced |= topography.is_mined(frame)
+    must_mine |= topography.is_mined(frame)
     for area in rules.areas:
         inside, told = in_area(grid, area)
-        barred |= inside & rock
+        excluded |= inside & rock
         notes += told
-    both = forced & barred
+    both = must_mine & excluded
     if both.any():
         raise PlanError(
             f"{source}: {called(frame, project, int(both.argmax()), source)} is both must-mine and excluded"
         )
-    notes.insert(0, f"{int(forced.sum()):,} must-mine blocks and {int(barred.sum()):,} excluded blocks")
-    return FixedBlocks(np.sort(grid.rows[forced]), np.sort(grid.rows[barred]), tuple(notes))
+    notes.insert(0, f"{int(must_mine.sum()):,} must-mine blocks and {int(excluded.sum()):,} excluded blocks")
+    return FixedBlocks(np.sort(grid.rows[must_mine]), np.sort(grid.rows[excluded]), tuple(notes))
 
 
 def marked(frame: pd.DataFrame, column: Optional[str]) -> NDArray[Any]:
@@ -132,18 +132,18 @@ def in_area(grid: Grid, area: Area) -> tuple[NDArray[Any], list[str]]:
     count = np.zeros(grid.per_level, dtype=np.int64)
     for polygon in areas.polygons:
         count += np.logical_xor.reduce([within(x, y, ring) for ring in polygon])
-    barred, notes = (count > 0)[grid.rows % grid.per_level], list(areas.notes)
+    excluded, notes = (count > 0)[grid.rows % grid.per_level], list(areas.notes)
     if (count > 1).any():
         twice = (
             f"{np.count_nonzero(count > 1):,} columns of blocks lie in several polygons, which are not read as holes"
         )
         notes.append(f"WARNING: {file}: {twice}")
-    if not barred.any():
+    if not excluded.any():
         said = f"{file}: no block lies in its polygons: {topography.beside(np.concatenate([polygon[0] for polygon in areas.polygons]), grid)}"
         if area.exclude == "outside":
             raise PlanError(said)
         notes.append(f"WARNING: {said}")
-    return barred == (area.exclude == "inside"), notes
+    return excluded == (area.exclude == "inside"), notes
 
 
 def within(x: NDArray[Any], y: NDArray[Any], corners: NDArray[Any]) -> NDArray[Any]:
@@ -162,13 +162,13 @@ def within(x: NDArray[Any], y: NDArray[Any], corners: NDArray[Any]) -> NDArray[A
 def numbers(fixed: FixedBlocks, nodes: int) -> NDArray[Any]:
     """Returns for each node 1 (must-mine), 2 (excluded) or 0 (neither); uint8, shape (nodes,)."""
     found = np.zeros(nodes, dtype=np.uint8)
-    found[fixed.forced], found[fixed.barred] = 1, 2
+    found[fixed.must_mine], found[fixed.excluded] = 1, 2
     return found
 
 
 def write(path: Path, fixed: FixedBlocks) -> None:
     """Writes the program's file of fixed blocks: lines `in id` and `out id` by rising id."""
-    ids = np.concatenate([fixed.forced, fixed.barred])
-    words = np.array([b"in"] * len(fixed.forced) + [b"out"] * len(fixed.barred), dtype="S3")
+    ids = np.concatenate([fixed.must_mine, fixed.excluded])
+    words = np.array([b"in"] * len(fixed.must_mine) + [b"out"] * len(fixed.excluded), dtype="S3")
     order = np.argsort(ids, kind="stable")
     path.write_bytes(byte_lines.lines([words[order].view(np.uint8).reshape(-1, 3), byte_lines.whole(ids[order])]))

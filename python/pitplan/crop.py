@@ -20,7 +20,7 @@ from pitplan.config.economics import PER_REVENUE_FACTOR
 from pitplan.config.project import Project
 from pitplan.errors import PlanError
 from pitplan.slopes import closure
-from pitplan.slopes.domains import Walls
+from pitplan.slopes.domains import SlopeDomains
 
 from .economics import block_values
 
@@ -31,7 +31,7 @@ class Model:
 
     frame: pd.DataFrame
     grid: Grid
-    region: np.ndarray
+    domain_code: np.ndarray
     source: str
     known: int
 
@@ -64,18 +64,18 @@ def with_metal(frame: pd.DataFrame, project: Project) -> np.ndarray:
     return found
 
 
-def left(model: Model, walls: Walls, project: Project) -> tuple[Model, str]:
+def left(model: Model, domains: SlopeDomains, project: Project) -> tuple[Model, str]:
     """Returns the cropped model and a note. Raises PlanError if no shell can reach any block, or the cropped model is too large."""
     grid = model.grid
     wanted = np.zeros(grid.count, dtype=bool)
     wanted[grid.rows[can_pay(model, project)]] = True
-    wanted[constraints.of_table(model.frame, grid, project, model.source).forced] = True
+    wanted[constraints.of_table(model.frame, grid, project, model.source).must_mine] = True
     if not wanted.any():
         most = f"the solver takes at most {grids.MOST_BLOCKS:,} blocks"
         raise PlanError(
             f"{model.source}: the grid has {grid.count:,} cells, and {most}: no block pays for its processing, so no shell holds any"
         )
-    box = box_of(closure.used_blocks(grid, walls, wanted), grid)
+    box = box_of(closure.used_blocks(grid, domains, wanted), grid)
     inside = grid.cube(np.arange(grid.count))[box.parts]
     if inside.size > grids.MOST_BLOCKS:
         raise PlanError(
@@ -123,7 +123,7 @@ def cropped(model: Model, box: Box, inside: np.ndarray) -> Model:
     small = Grid((levels, rows_of_cells, columns), (origin[0], origin[1], origin[2]), grid.size, rows, grid.azimuth)
     frame = model.frame.iloc[kept].reset_index(drop=True)
     known = int(np.count_nonzero(kept < model.known))
-    return Model(frame, small, model.region[inside.ravel()], f"of what a shell can reach in {model.source}", known)
+    return Model(frame, small, model.domain_code[inside.ravel()], f"of what a shell can reach in {model.source}", known)
 
 
 def named_anew(model: Model, project: Project) -> Model:

@@ -2,6 +2,7 @@
 
 import re
 from collections.abc import Sequence
+from dataclasses import dataclass
 from typing import Any, Optional
 
 # Characters that end a line, by str.splitlines.
@@ -19,12 +20,35 @@ def on_one_line(text: str) -> str:
     return LINE_ENDS.sub(lambda end: end[0].encode("unicode_escape").decode(), short)
 
 
+@dataclass(frozen=True)
+class ErrorPlace:
+    """The place of an error in its file, as far as it is known.
+
+    Attributes
+    ----------
+    key : str
+        The path of a key or section of a project, such as `metals 2.price`; "" if none is meant.
+    line : int, optional
+        The line of a project, from 1.
+    row : int, optional
+        The row of a table, from 1.
+    column : str
+        The column of a table; "" if none is meant.
+    """
+
+    key: str = ""
+    line: Optional[int] = None
+    row: Optional[int] = None
+    column: str = ""
+
+
 class PlanError(Exception):
     """Input that cannot be planned with. Its text is one line that names the file, and where it can the row and the column; `details` follow,
-    a line each."""
+    a line each. `place` has the key, or the row and the column, as fields."""
 
-    def __init__(self, text: str, details: Sequence[str] = ()) -> None:
+    def __init__(self, text: str, details: Sequence[str] = (), place: ErrorPlace = ErrorPlace()) -> None:
         super().__init__("\n  ".join(map(on_one_line, (text, *details))))
+        self.place = place
 
     def __reduce__(self) -> tuple[Any, ...]:
         return received, (type(self), str(self), self.__dict__)

@@ -5,35 +5,41 @@ from __future__ import annotations
 import json
 from dataclasses import dataclass, field, replace
 from functools import cached_property
-from typing import Any, Optional, Union
+from pathlib import Path
+from typing import TYPE_CHECKING, Any, Iterable, Optional, Union
 
 import numpy as np
 import pandas as pd
 from numpy.typing import NDArray
 
+from pitplan.blockmodel.block_model import BlockModel
 from pitplan.blockmodel.grid import Grid
 from pitplan.blockmodel.reader import Table
 from pitplan.config.economics import PER_REVENUE_FACTOR
 from pitplan.config.periods import PERIOD, YEAR
-from pitplan.config.project import Project
+from pitplan.config.project import Project, load, validated
 from pitplan.config.shells import IN_WORDS
 from pitplan.core.keyed_arrays import hash_of_all
-from pitplan.core.libraries import libraries
-from pitplan.core.progress import Progress, silent
+from pitplan.core.libraries import libraries, load_library
+from pitplan.core.progress import Progress, silent, warn
 from pitplan.core.revenue_factors import BASE_PRICE, factor_text
 from pitplan.economics.block_values import Values
 from pitplan.economics.cost_lines import multiplied_amounts
 from pitplan.economics.weighing import reference_level
-from pitplan.precedences import MOST_PAIRS, Needs, Pairs
+from pitplan.precedences import MOST_PAIRS, Pairs, Precedences
 from pitplan.preparation import Preparation
 from pitplan.slopes import closure
-from pitplan.slopes.domains import Walls
+from pitplan.slopes.domains import SlopeDomains
 
 from . import constraints, preparation
 from .blockmodel import missing_blocks, reader, resource_classes, summary, topography
 from .constraints import NOTHING, FixedBlocks, Settled
 from .economics import block_values, period_costs, weighing
-from .errors import PlanError
+from .errors import InputWarning, PlanError
+
+if TYPE_CHECKING:
+    from pitplan.pits.shells import Shells
+    from pitplan.scheduling.blocks.tables import BlockSchedule
 
 MILLION = 1_000_000
 # The columns that blocks.csv has of its own; one of the planner's with such a name is called planner_NAME there.
@@ -58,9 +64,9 @@ OWN_COLUMNS = (
 )
 
 
-@dataclass(repr=False, eq=False)
+@dataclass(frozen=True, repr=False, eq=False)
 class Plan:
-    """A project prepared for the solver; see `prepared`.
+    """A block model prepared for the solver. Make one by `from_project` or `from_model`.
 
     Attributes
     ----------
@@ -72,7 +78,7 @@ class Plan:
         The cells of the model; `grid.rows` is the cell of each row of `table`.
     values : Values
         Costs and revenue of each cell, in millionths of the currency.
-    walls : Walls
+    domains : SlopeDomains
         The slope precedences of each domain.
     used : array of bool, shape (cells,)
         Whether the precedences of a cell are written.
@@ -89,14 +95,22 @@ class Plan:
     left_out : int
         Number of rows that no shell can reach and that were removed from a model too large for the solver.
     read : DataFrame, optional
-        The rows as read, before reblocking, filling and removal. The independent verification starts from them.
+        The rows as read, before reblocking, filling and removal.
+    model : DataFrame, optional
+        The rows, if they were given as a DataFrame.
+    given : Project, optional
+        The project that is recorded, if `project` has other revenue factors.
+    has_file : bool
+        Whether the project is that of a file.
+    progress : Progress
+        Reports the steps of the plan and of what is made from it.
     """
 
     project: Project
     table: pd.DataFrame
     grid: Grid
     values: Values
-    walls: Walls
+    domains: SlopeDomains
     used: NDArray[Any]
     source: str
     filled: int = 0
@@ -106,6 +120,140 @@ class Plan:
     settled: Optional[Settled] = None
     left_out: int = 0
     read: Optional[pd.DataFrame] = None
+    model: Optional[pd.DataFrame] = None
+    given: Optional[Project] = None
+    has_file: bool = True
+    progress: Progress = silent
+
+    @classmethod
+    def from_project(
+        cls,
+        project: Union[str, Path, Project],
+        table: Optional[pd.DataFrame] = None,
+        progress: Progress = silent,
+        overrides: Iterable[str] = (),
+    ) -> Plan:
+        """The plan of a project.
+
+        Parameters
+        ----------
+        project : str, Path or Project
+            The path of a project.toml, or a project.
+        table : DataFrame, optional
+            Rows to plan in place of those of the project's file, under the column names that the project gives.
+        progress : Progress
+            Reports the steps; silent by default.
+        overrides : iterable of str
+            Keys to set in place of those of the file, each `KEY=VALUE`.
+
+        Raises
+        ------
+        PlanError
+            If the input is not usable, with section and key or with file, row and column.
+        """
+        if not isinstance(project, Project):
+            return prepared(load(project, overrides=overrides), table, progress).warned()
+        made = prepared(validated(project), table, progress)
+        return replace(made, has_file=project.path.is_file()).warned()
+
+    @classmethod
+    def from_model(
+        cls, model: BlockModel, folder: Union[str, Path] = ".", progress: Progress = silent, **sections: Any
+    ) -> Plan:
+        """The plan of a block model.
+
+        Parameters
+        ----------
+        model : BlockModel
+            The blocks.
+        folder : str or Path
+            Paths in the sections are relative to it.
+        progress : Progress
+            Reports the steps; silent by default.
+        **sections
+            The sections of a project.toml but `table` and `grid`: `economics`, `metals`, `slopes` and `shells`; if wanted `title`,
+            `classes`, `processes`, `haulage`, `constraints`, `pushbacks`, `schedule`, `cash_flow`, `price_paths`, `sensitivity`, `figures` and
+            `output`.
+
+        Raises
+        ------
+        PlanError
+            As `from_project` does.
+        """
+        titled = {"title": "Block model"} | sections
+        project = Project.from_dict({"table": model.table, "grid": model.grid, **titled}, folder)
+        return replace(prepared(project, model.frame, progress), has_file=False).warned()
+
+    def warned(self) -> Plan:
+        """The plan, after warnings as its notes have them."""
+        warn(self.notes, InputWarning)
+        return self
+
+    @property
+    def asked(self) -> Project:
+        """The project that is recorded."""
+        return self.given or self.project
+
+    def with_project(self, project: Project, asked: Optional[Project] = None) -> Plan:
+        """The plan of the same rows by another project. The record has `asked` in its place.
+
+        Raises
+        ------
+        PlanError
+            If the file of the block model has changed meanwhile.
+        """
+        if project == self.project:
+            return replace(self, given=asked)
+        made = replace(prepared(project, self.model, self.progress), has_file=self.has_file, given=asked)
+        warn([note for note in made.notes if note not in self.notes], InputWarning)
+        if self.read is not None and made.read is not None:
+            common = self.read.columns.intersection(made.read.columns)
+            if not made.read[common].equals(self.read[common]):
+                raise PlanError(f"{self.source}: has changed since the plan was made of it: make the plan again")
+        return made
+
+    def shells(self, **keys: Any) -> Shells:
+        """The nested shells.
+
+        Parameters
+        ----------
+        **keys
+            Keys of `[shells]` in place of the project's, such as `revenue_factors=[0.5, 1.0]`.
+
+        Raises
+        ------
+        PlanError
+            If a key is wrong, or a shell reaches a missing block.
+        ProgramError
+            If the solver is missing or refuses.
+        """
+        from pitplan.pits.shells import Shells
+
+        plan = self.with_project(self.project.changed("shells", keys, keeps_others=True)) if keys else self
+        return Shells.solved(plan).warned()
+
+    def block_schedule(self, **keys: Any) -> BlockSchedule:
+        """A schedule of single blocks by years, with an upper bound on the NPV of all such schedules.
+
+        Parameters
+        ----------
+        **keys
+            The keys of `[schedule]`. Default: those of the project.
+
+        Raises
+        ------
+        MissingPackage
+            Without the library libpitshell.so.
+        PlanError
+            If the project asks for what no schedule by block supports, or has too many blocks.
+        """
+        load_library("a schedule by block")
+        # Its modules import the library themselves.
+        from pitplan.scheduling.blocks import tables
+
+        plan = self.with_project(self.project.changed("schedule", keys)) if keys else self
+        planned = tables.collected(plan, self.progress)
+        return tables.scheduled(planned, plan.shells(), self.progress).warned()
 
     def __repr__(self) -> str:
         """Title, size, metals and number of notes."""
@@ -126,11 +274,11 @@ class Plan:
     @cached_property
     def key(self) -> str:
         """A hash of everything that the shells depend on: grid, values, slopes, constraints and revenue factors."""
-        values, walls, grid = self.values, self.walls, self.grid
-        arrays = [*values.nodes(), values.processed, walls.code, self.used, self.fixed.forced, self.fixed.barred]
+        values, domains, grid = self.values, self.domains, self.grid
+        arrays = [*values.nodes(), values.processed, domains.code, self.used, self.fixed.must_mine, self.fixed.excluded]
         record = {
             "grid": grid.as_json(),
-            "walls": [it.as_json() for it in walls.patterns],
+            "domains": [it.as_json() for it in domains.patterns],
             "revenue_factors": list(self.project.shells.revenue_factors),
         }
         return hash_of_all(json.dumps(record, default=repr), arrays)
@@ -169,14 +317,14 @@ class Plan:
         return self.grid.extent()[5] - (reference_level(self.project.economics, self.grid) + 1) * self.grid.size[2]
 
     @property
-    def needs(self) -> Needs:
+    def precedences(self) -> Precedences:
         """The slope precedences of the whole mine."""
-        return Needs(self.grid, self.walls, self.used, self.values.processed)
+        return Precedences(self.grid, self.domains, self.used, self.values.processed)
 
     @property
-    def needs_of_rest(self) -> Needs:
+    def precedences_of_rest(self) -> Precedences:
         """The slope precedences among blocks that the constraints leave open; all without constraints."""
-        return replace(self.needs, settled=self.settled)
+        return replace(self.precedences, settled=self.settled)
 
     def demand_few(self, pairs: Pairs) -> None:
         """Raises PlanError if there are more precedences than the solver takes."""
@@ -184,7 +332,7 @@ class Plan:
         if count > MOST_PAIRS:
             fewer = "reduce [slopes] precedence_benches"
             if self.project.slopes.precedence_benches is None:
-                chosen = max(pattern.levels for pattern in self.walls.patterns)
+                chosen = max(pattern.levels for pattern in self.domains.patterns)
                 fewer = f"set [slopes] precedence_benches below the {chosen} that were chosen"
             raise PlanError(
                 f"{count:,} precedences, and the solver takes at most {MOST_PAIRS:,}: {fewer}, or a smaller model"
@@ -205,13 +353,13 @@ class Plan:
                 "processing_nodes": len(self.values.processed),
                 "rounded": {name: rounding.as_json() for name, rounding in self.values.roundings.items()},
             },
-            "walls": [pattern.as_json() for pattern in self.walls.patterns],
-            "needs": self.record_of_needs(pairs),
-            "fixed": {"forced": len(self.fixed.forced), "barred": len(self.fixed.barred)},
+            "slope_domains": [pattern.as_json() for pattern in self.domains.patterns],
+            "precedences": self.record_of_precedences(pairs),
+            "constraints": {"must_mine": len(self.fixed.must_mine), "excluded": len(self.fixed.excluded)},
             "revenue_factors": list(project.shells.revenue_factors),
             "base_price_added": project.shells.base_price_added,
             "summary": self.summary,
-            "notes": [*self.notes, *self.notes_of_needs(pairs)],
+            "notes": [*self.notes, *self.notes_of_precedences(pairs)],
             "codes": codes_of(project),
             "tonnes": shown_name(project.table.tonnes),
             "metals": [{"name": m.name, "column": shown_name(m.column), "sign": m.sign} for m in project.metals],
@@ -228,7 +376,7 @@ class Plan:
             **({"rows_left_out": self.left_out} if self.left_out else {}),
         }
 
-    def notes_of_needs(self, pairs: Pairs) -> list[str]:
+    def notes_of_precedences(self, pairs: Pairs) -> list[str]:
         """Precedences that are written, and that no shell can use. A shell that reaches the edge of the model has a warning of its own."""
         left, last = self.grid.count - int(self.used.sum()), self.project.shells.revenue_factors[-1]
         notes = [f"{pairs.written:,} slope precedences for {self.grid.count - left:,} blocks"]
@@ -239,14 +387,14 @@ class Plan:
             )
         return notes
 
-    def record_of_needs(self, pairs: Pairs) -> dict[str, Any]:
+    def record_of_precedences(self, pairs: Pairs) -> dict[str, Any]:
         used = int(self.used.sum())
         return {
             "written": pairs.written,
             "of_processing_nodes": pairs.processing,
             "clipped_at_the_sides": pairs.clipped,
-            "blocks_whose_needs_are_written": used,
-            "blocks_whose_needs_are_trimmed": self.grid.count - used,
+            "blocks_with_precedences": used,
+            "blocks_without_precedences": self.grid.count - used,
             "trimmed_for_revenue_factors_up_to": self.project.shells.revenue_factors[-1],
         }
 
@@ -271,37 +419,42 @@ def prepared(project: Project, table: Union[pd.DataFrame, Table, None] = None, p
     model = preparation.take(preparation.read_table(project, table, progress), preparation.OF_PLAN)
     with progress.step("computing block values"):
         plan = plan_of(model)
-    plan.summary, plan.left_out, plan.read = model.summary, model.left_out, model.read.frame
-    return with_notes(plan, model)
+    return replace(
+        with_notes(plan, model),
+        summary=model.summary,
+        left_out=model.left_out,
+        read=model.read.frame,
+        model=table if isinstance(table, pd.DataFrame) else None,
+        progress=progress,
+    )
 
 
 def with_notes(plan: Plan, model: Preparation, price: str = "the base price") -> Plan:
-    """Adds the notes of all steps; warnings come last. `price` names the base price, at which ore pays."""
-    plan.filled = model.read.filled
-    plan.notes = [*model.notes, *notes_of(plan, price), *model.warnings]
-    return plan
+    """Returns the plan with the notes of all steps; warnings come last. `price` names the base price, at which ore pays."""
+    notes = [*model.notes, *notes_of(plan, price), *model.warnings]
+    return replace(plan, filled=model.read.filled, notes=notes)
 
 
 def plan_of(model: Preparation) -> Plan:
     """The plan of a prepared block model, without notes. Raises PlanError if a block has no value."""
-    project, frame, grid, walls, source = model.project, model.frame, model.grid, model.walls, model.source
+    project, frame, grid, domains, source = model.project, model.frame, model.grid, model.domains, model.source
     values = block_values.values_of(frame, grid, project, source)
     fixed = constraints.of_table(frame, grid, project, source)
-    used = closure.used_blocks(grid, walls, wanted(values, project, fixed))
-    plan = Plan(project, frame, grid, values, walls, used, source, fixed=fixed)
-    if project.constraints is not None:
-        plan.settled = constraints.settled(fixed, grid, walls)
-        demand_no_clash(plan, plan.settled)
+    used = closure.used_blocks(grid, domains, wanted(values, project, fixed))
+    settled = None if project.constraints is None else constraints.settled(fixed, grid, domains)
+    plan = Plan(project, frame, grid, values, domains, used, source, fixed=fixed, settled=settled)
+    if settled is not None:
+        demand_no_clash(plan, settled)
     return plan
 
 
 def demand_no_clash(plan: Plan, settled: Settled) -> None:
     """Raises PlanError if a must-mine block depends on an excluded one."""
-    forced, barred = plan.fixed.forced, plan.fixed.barred
-    clash = forced[settled.left[forced]]
+    must_mine, excluded = plan.fixed.must_mine, plan.fixed.excluded
+    clash = must_mine[settled.left[must_mine]]
     if len(clash):
-        needs = closure.used_blocks(plan.grid, plan.walls, constraints.marks(plan.grid, clash[:1]))
-        first, second = plan.called(clash[0]), plan.called(barred[needs[barred]][0])
+        precedences = closure.used_blocks(plan.grid, plan.domains, constraints.marks(plan.grid, clash[:1]))
+        first, second = plan.called(clash[0]), plan.called(excluded[precedences[excluded]][0])
         more = f" ({len(clash) - 1:,} more must-mine blocks likewise)" if len(clash) > 1 else ""
         raise PlanError(f"{plan.source}: {first} is must-mine and depends on {second}, which is excluded{more}")
 
@@ -309,7 +462,7 @@ def demand_no_clash(plan: Plan, settled: Settled) -> None:
 def wanted(values: Values, project: Project, fixed: FixedBlocks) -> NDArray[Any]:
     """The cells for which a pit mines others: those that can pay for themselves, and must-mine blocks."""
     found = np.array(values.greatest_value(project.shells.revenue_factors[-1]) > 0, dtype=bool)
-    found[fixed.forced] = True
+    found[fixed.must_mine] = True
     return found
 
 
@@ -322,7 +475,7 @@ def notes_of(plan: Plan, price: str) -> list[str]:
         f"{len(plan.table):,} blocks lie on a grid of {columns} x {rows} x {levels} = {grid.count:,} cells",
         *missing_blocks.notes(plan.table, grid, project),
         *notes_of_cutoff(plan),
-        *(pattern.sentence() for pattern in plan.walls.patterns),
+        *(pattern.sentence() for pattern in plan.domains.patterns),
         *plan.values.notes,
         *notes_of_classes(plan, price),
         *summary.of_prices(plan.values.pays, project.metals, grades, project.economics.currency),
@@ -375,8 +528,8 @@ def notes_of_settled(plan: Plan) -> list[str]:
     if plan.settled is None:
         return []
     rock = plan.values.tonnes > 0
-    dug, left = (int(np.count_nonzero(cells & rock)) for cells in (plan.settled.dug, plan.settled.left))
-    return [f"with their slope cones, {dug:,} blocks are in every shell and {left:,} in none"]
+    mined, left = (int(np.count_nonzero(cells & rock)) for cells in (plan.settled.mined, plan.settled.left))
+    return [f"with their slope cones, {mined:,} blocks are in every shell and {left:,} in none"]
 
 
 def notes_of_cash(project: Project) -> list[str]:

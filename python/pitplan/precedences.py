@@ -8,7 +8,7 @@ from typing import Optional
 import numpy as np
 
 from pitplan.blockmodel.grid import Grid
-from pitplan.slopes.domains import ABSENT, Walls, slices
+from pitplan.slopes.domains import ABSENT, SlopeDomains, slices
 
 from .constraints import Settled
 
@@ -26,14 +26,14 @@ class Pairs:
 
 
 @dataclass(frozen=True)
-class Needs:
+class Precedences:
     """The precedences that the solver gets: slope arcs of the used blocks, and the arc from each processing node to its block.
 
     `settled`, if given, limits them to the reduced mine: blocks that are mined in any case are not predecessors.
     """
 
     grid: Grid
-    walls: Walls
+    domains: SlopeDomains
     used: np.ndarray
     processed: np.ndarray
     settled: Optional[Settled] = None
@@ -43,11 +43,11 @@ class Needs:
         """The cells whose precedences are written, rising."""
         return np.flatnonzero(self.used if self.settled is None else self.used & self.settled.rest)
 
-    def open(self, needs: np.ndarray) -> np.ndarray:
+    def open(self, precedences: np.ndarray) -> np.ndarray:
         """Returns predecessors, with ABSENT in place of those that are mined in any case."""
         if self.settled is None:
-            return needs
-        return np.where((needs != ABSENT) & self.settled.dug[needs], ABSENT, needs)
+            return precedences
+        return np.where((precedences != ABSENT) & self.settled.mined[precedences], ABSENT, precedences)
 
     def binding(self) -> tuple[np.ndarray, np.ndarray]:
         """Returns the processing nodes with a predecessor, and these: their block, or the node of the step before."""
@@ -56,7 +56,7 @@ class Needs:
         needed = np.where(is_later, nodes - 1, self.processed)
         if self.settled is None:
             return nodes, needed
-        some = self.settled.rest[self.processed] | (is_later & self.settled.dug[self.processed])
+        some = self.settled.rest[self.processed] | (is_later & self.settled.mined[self.processed])
         return nodes[some], needed[some]
 
 
@@ -67,18 +67,18 @@ class Rows:
     """
 
     starts: np.ndarray
-    needs: np.ndarray
+    precedences: np.ndarray
 
 
-def rows_of(needs: Needs, most: int) -> tuple[Rows, Pairs]:
+def rows_of(precedences: Precedences, most: int) -> tuple[Rows, Pairs]:
     """Returns the precedences as compressed rows, and their number. Precedences beyond `most` are only counted."""
-    nodes, needed = needs.binding()
+    nodes, needed = precedences.binding()
     # What is not written to takes no memory.
-    found = np.empty(min(most_pairs(needs), most) + len(nodes), dtype=np.uint32)
-    lengths = np.zeros(needs.grid.count + len(needs.processed) + 1, dtype=np.uint32)
+    found = np.empty(min(most_pairs(precedences), most) + len(nodes), dtype=np.uint32)
+    lengths = np.zeros(precedences.grid.count + len(precedences.processed) + 1, dtype=np.uint32)
     written = clipped = 0
-    for part in slices(needs.grid, needs.walls, needs.blocks):
-        blocks = needs.open(part.needs)
+    for part in slices(precedences.grid, precedences.domains, precedences.blocks):
+        blocks = precedences.open(part.precedences)
         there = blocks != ABSENT
         count = int(np.count_nonzero(there))
         if written + count <= most:
@@ -92,7 +92,7 @@ def rows_of(needs: Needs, most: int) -> tuple[Rows, Pairs]:
     return Rows(np.cumsum(lengths, dtype=np.uint32), found[: written + len(nodes)]), pairs
 
 
-def most_pairs(needs: Needs) -> int:
+def most_pairs(precedences: Precedences) -> int:
     """Returns an upper bound on the number of precedences: the full lists of all blocks."""
-    blocks = np.bincount(needs.walls.list_of[needs.blocks], minlength=len(needs.walls.lists))
-    return sum(int(count) * len(steps.steps) for count, steps in zip(blocks, needs.walls.lists))
+    blocks = np.bincount(precedences.domains.list_of[precedences.blocks], minlength=len(precedences.domains.lists))
+    return sum(int(count) * len(steps.steps) for count, steps in zip(blocks, precedences.domains.lists))

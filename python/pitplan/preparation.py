@@ -18,7 +18,7 @@ from pitplan.blockmodel.reader import Table
 from pitplan.blockmodel.reblock import Parts
 from pitplan.config.project import Project
 from pitplan.core.progress import Progress, silent
-from pitplan.slopes.domains import Walls
+from pitplan.slopes.domains import SlopeDomains
 
 from . import crop
 from .blockmodel import grid, missing_blocks, reader, reblock, summary, topography
@@ -48,9 +48,9 @@ class Preparation:
         The cells; `grid.rows` has the cell of each row of `frame`.
     frame : DataFrame
         The rows of `table`, then one row for each missing block that the project gives a rock. Surfaces cut their tonnes.
-    region : ndarray
+    domain_code : ndarray
         The slope domain of each cell.
-    walls : Walls
+    domains : SlopeDomains
         The precedence patterns of the slope domains.
     source : str
         How errors name the table.
@@ -69,8 +69,8 @@ class Preparation:
     laid_by: Project = field(init=False)
     grid: Grid = field(init=False)
     frame: pd.DataFrame = field(init=False)
-    region: NDArray[np.int64] = field(init=False)
-    walls: Walls = field(init=False)
+    domain_code: NDArray[np.int64] = field(init=False)
+    domains: SlopeDomains = field(init=False)
     source: str = field(init=False)
     left_out: int = 0
     summary: list[str] = field(default_factory=list)
@@ -156,19 +156,19 @@ def cut_by_as_mined_surface(model: Preparation) -> None:
 def lay_slope_domains(model: Preparation) -> None:
     """Gives each cell its slope domain, and each domain its precedence pattern."""
     with model.progress.step("building slope precedences"):
-        model.region = domains.regions_of(model.frame, model.grid, model.project.table.domain)
-        model.walls = domains.walls_of(model.region, model.grid, model.project.slopes)
+        model.domain_code = domains.domain_codes_of(model.frame, model.grid, model.project.table.domain)
+        model.domains = domains.domains_of(model.domain_code, model.grid, model.project.slopes)
 
 
 def crop_to_reach(model: Preparation) -> None:
     """Leaves out the blocks that no shell can reach, if there are more blocks and processing nodes than the solver takes."""
-    whole = crop.Model(model.frame, model.grid, model.region, model.source, len(model.table.frame))
+    whole = crop.Model(model.frame, model.grid, model.domain_code, model.source, len(model.table.frame))
     if not crop.is_too_large(whole, model.project):
         return
     with model.progress.step("removing blocks that no shell can reach"):
-        part, note = crop.left(whole, model.walls, model.project)
-        model.walls, dropped = domains.walls_of(part.region, part.grid, model.project.slopes), [note]
-    model.frame, model.grid, model.region, model.source = part.frame, part.grid, part.region, part.source
+        part, note = crop.left(whole, model.domains, model.project)
+        model.domains, dropped = domains.domains_of(part.domain_code, part.grid, model.project.slopes), [note]
+    model.frame, model.grid, model.domain_code, model.source = part.frame, part.grid, part.domain_code, part.source
     model.left_out, model.notes = whole.known - part.known, model.notes + dropped
 
 

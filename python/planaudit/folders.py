@@ -27,13 +27,13 @@ from planaudit.rules import TOLD, Checks, Rule, rule, rules_of
 from planaudit.schedules import grade_tonnage
 
 Found = TypeVar("Found")
-OF_PITS = {"walls": slopes.verify, "shells": sums.verify, "values": sums.verify_worth, "years": years.verify}
+OF_PITS = {"slopes": slopes.verify, "shells": sums.verify, "values": sums.verify_worth, "years": years.verify}
 CHECKS = {
     "blocks": constraints.verify_places,
-    "absent": missing_blocks.verify,
-    "walls": slopes.verify,
-    "levels": slopes.verify_steepness,
-    "fixed": constraints.verify,
+    "missing blocks": missing_blocks.verify,
+    "slopes": slopes.verify,
+    "slope error": slopes.verify_steepness,
+    "constraints": constraints.verify,
     "money": block_values.verify,
     **OF_PITS,
     "conventions": conventions.verify,
@@ -86,11 +86,11 @@ def checks_of(answer: Answer) -> Checks:
         found["inputs"] = alone(hashes.verify, answer)
     found["cuts"] = lambda: depletion.verify_cuts(answer)
     if answer.beyond is not None:
-        found["reach"] = alone(pit_limits.verify, answer)
+        found["crop"] = alone(pit_limits.verify, answer)
     if answer.project.haulage:
         found["haulage"] = lambda: [haulage.verify(answer, block_values.sample(answer))]
     if free is not None:
-        found["free"] = alone(partial(verify_free, free=free), answer)
+        found["without constraints"] = alone(partial(verify_free, free=free), answer)
     if answer.pushbacks is not None:
         found.update(pushbacks.checks_of(answer))
     if grade_tonnage.is_written(answer):
@@ -145,7 +145,9 @@ def verify_free(kept: Answer, free: Answer) -> Rule:
         < Decimal(kept.shells["value_at_revenue_factor"][factor])
     ]
     holds = "without constraints slopes hold, the row of the pit adds up, its value is that of its blocks and no less"
-    return rule("free", holds, [*differences, *lost], sum(rule_of.count for rule_of in found) + len(lost))
+    return rule(
+        "without constraints", holds, [*differences, *lost], sum(rule_of.count for rule_of in found) + len(lost)
+    )
 
 
 def verify_sensitivity(written: Path, folder: Path) -> list[Rule]:

@@ -42,11 +42,11 @@ def mine(plan_folder, tmp_path):
 
 def test_a_survey_of_the_original_ground_mines_nothing(mine):
     plan = mine(slope, SURFACE, TOPOGRAPHY)
-    assert plan.fixed.forced.size == 0
+    assert plan.fixed.must_mine.size == 0
     assert any("0 blocks are mined out and 0 are partly mined" in note for note in plan.notes)
     # Neither does one that differs by 0.3 m, as two surveys do; its tonnes are the surface's.
     near = mine(lambda x, y: slope(x, y) - 0.3, SURFACE, TOPOGRAPHY)
-    assert near.fixed.forced.size == 0
+    assert near.fixed.must_mine.size == 0
     assert plan.values.tonnes.sum() - near.values.tonnes.sum() == pytest.approx(100 * 30 * 0.3 / 10, abs=1e-4)
 
 
@@ -57,12 +57,12 @@ def test_a_block_that_is_mined_in_part_is_forced_in_with_what_remains(mine):
     blocks, before = plan.blocks.set_index("id"), original.blocks.set_index("id")["tonnes"]
     gone = before - blocks["tonnes"]
     cut = blocks[(blocks["x"] > 30) & (blocks["x"] < 60) & (blocks["z"] == 25)].index
-    assert set(cut) <= set(plan.fixed.forced.tolist())
+    assert set(cut) <= set(plan.fixed.must_mine.tolist())
     assert gone[cut].tolist() == pytest.approx([40] * 9, abs=1e-4)
     # The walls of the cut are 5 m wide: beside it half of 5 m x 4 m is gone, 10 t of a block, and so it is mined in part too.
     beside = blocks[blocks["x"].isin([25, 65]) & (blocks["z"] == 25)].index
     assert gone[beside].tolist() == pytest.approx([10] * 6, abs=1e-4)
-    assert sorted(plan.fixed.forced.tolist()) == sorted([*cut, *beside])
+    assert sorted(plan.fixed.must_mine.tolist()) == sorted([*cut, *beside])
 
 
 def test_a_block_that_is_mined_out_has_no_tonnes(mine):
@@ -71,7 +71,7 @@ def test_a_block_that_is_mined_out_has_no_tonnes(mine):
     blocks = plan.blocks.set_index("id")
     upper = blocks[(blocks["x"] > 30) & (blocks["x"] < 60) & (blocks["z"] == 25)]
     second = blocks[(blocks["x"] > 30) & (blocks["x"] < 60) & (blocks["z"] == 15)]
-    assert upper["tonnes"].tolist() == [0] * 9 and set(upper.index) <= set(plan.fixed.forced.tolist())
+    assert upper["tonnes"].tolist() == [0] * 9 and set(upper.index) <= set(plan.fixed.must_mine.tolist())
     # The surface is at 7.0 - 0.08 (x - 0) above 10 m: its mean over a column is its height in the middle.
     assert second["tonnes"].tolist() == pytest.approx([10 * (slope(x, 0) - 12 - 10) for x in second["x"]], abs=1e-4)
     assert plan.values.mining[upper.index].tolist() == [0] * 9
@@ -92,7 +92,7 @@ def test_tonnes_that_the_table_has_cut_already(mine):
         for x, z in zip(inside["x"], inside["z"])
     ]
     assert inside["tonnes"].tolist() == pytest.approx(expected, abs=1e-4)
-    assert mine(slope, text, tonnes=below(slope)).fixed.forced.size == 0
+    assert mine(slope, text, tonnes=below(slope)).fixed.must_mine.size == 0
 
 
 def test_what_a_run_writes_of_it_is_verified(plan_folder, tmp_path):

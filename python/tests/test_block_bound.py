@@ -9,8 +9,8 @@ from helpers.block_problems import (
     EXACT,
     cone_of,
     linear_optimum,
-    needs_of,
     pairs_of,
+    precedences_of,
     problem_of,
     random_problem,
     without_first,
@@ -31,7 +31,7 @@ from pitplan.scheduling.blocks.relaxation import (
     priced,
     reduced,
     relaxed,
-    worth_digging,
+    worth_mining,
 )
 
 
@@ -66,7 +66,7 @@ def test_what_is_left_out_changes_no_optimum(batch):
     for seed in range(1000 + 20 * batch, 1020 + 20 * batch):
         problem = random_problem(seed, most=40)
         first, part = first_years(problem), reduced(problem)
-        assert earliest_years(problem, ranks_of(problem.needs)).tolist() == first.tolist()
+        assert earliest_years(problem, ranks_of(problem.precedences)).tolist() == first.tolist()
         bound = relaxed(part.nodes, EXACT).bound if part.problem.blocks else 0.0
         optimum = linear_optimum(problem, first)
         assert bound == pytest.approx(optimum, abs=1e-6 * max(1.0, abs(optimum))), seed
@@ -179,14 +179,14 @@ def test_what_never_pays_is_left_out():
     """Block 2 costs more than block 3 below it earns, and block 5 lies too deep for the limits: with it block 4 above it is left."""
     values = np.outer([-1.0, 5.0, -6.0, 5.0, -1.0, 9.0], [0.9, 0.8])
     problem = problem_of(values, [(1, 0), (3, 2), (5, 4)], ([1, 1, 1, 1, 1, 8], [2, 2]))
-    assert worth_digging(problem).tolist() == [True, True, False, False, True, True]
+    assert worth_mining(problem).tolist() == [True, True, False, False, True, True]
     assert reduced(problem).kept.tolist() == [0, 1]
 
 
 def test_a_price_that_rises_makes_more_blocks_worth_digging():
     """In the second year the ore pays for its waste; at the prices of the first alone it does not."""
-    assert worth_digging(problem_of([[-6, -6], [5, 5]], [(1, 0)])).tolist() == [False, False]
-    assert worth_digging(problem_of([[-6, -6], [5, 7]], [(1, 0)])).tolist() == [True, True]
+    assert worth_mining(problem_of([[-6, -6], [5, 5]], [(1, 0)])).tolist() == [False, False]
+    assert worth_mining(problem_of([[-6, -6], [5, 7]], [(1, 0)])).tolist() == [True, True]
 
 
 def test_pairs_of_many_groups_are_the_same(monkeypatch):
@@ -284,7 +284,7 @@ def test_seconds_end_the_relaxation_behind_a_round():
     ],
 )
 def test_what_has_no_bound_is_refused(change, said):
-    whole = {"values": np.ones((1, 1, 1)), "needs": needs_of(1, []), "limits": ()} | change
+    whole = {"values": np.ones((1, 1, 1)), "precedences": precedences_of(1, []), "limits": ()} | change
     with pytest.raises(PlanError, match=said):
         demand_sound(BlockProblem(**whole))
 
@@ -303,5 +303,5 @@ def test_years_together_count_a_node_for_each_block_and_year():
     """Block 1 needs block 0, and in the second year both need themselves in the third."""
     nodes = without_first(problem_of(np.ones((3, 4, 5)), [(1, 0)]))
     assert nodes.size_of(0, 5) == (15, 17) and nodes.size_of(2, 3) == (3, 1)
-    needs = nodes.of_years(1, 3)
-    assert needs.starts.tolist() == [0, 1, 3, 4, 4, 5, 5] and needs.needed.tolist() == [3, 0, 4, 5, 3]
+    precedences = nodes.of_years(1, 3)
+    assert precedences.starts.tolist() == [0, 1, 3, 4, 4, 5, 5] and precedences.needed.tolist() == [3, 0, 4, 5, 3]

@@ -163,9 +163,9 @@ def test_a_run_without_removes_an_earlier_certificate(plan_folder):
 
 def test_whole_shares_add_up():
     """Thirds of a block are 333,333 and 333,334 millionths."""
-    from pitplan.scheduling.blocks.problem import BlockSchedule
+    from pitplan.scheduling.blocks.problem import Assignment
 
-    thirds = BlockSchedule(np.array([0, 2]), np.array([[1 / 3, 1 / 3, 1 / 3], [0.5, 0.5, 0]]))
+    thirds = Assignment(np.array([0, 2]), np.array([[1 / 3, 1 / 3, 1 / 3], [0.5, 0.5, 0]]))
     found = shares_of(thirds, 2)
     assert found.share.tolist() == [333334, 333333, 333333]
     assert (found.block.tolist(), found.period.tolist(), found.destination.tolist()) == ([0] * 3, [0] * 3, [0, 1, 2])

@@ -19,7 +19,7 @@ from pitplan import Plan, PlanError, ResultWarning, load, verify
 from pitplan.cli import main
 from pitplan.figures import schedule
 from pitplan.results.folder import read_record
-from pitplan.scheduling.blocks import from_plan, tables
+from pitplan.scheduling.blocks import from_plan
 
 RULES = ["block order", "block limits", "block value", "upper bound", "inventory", "cash flow", "grade tonnage"]
 
@@ -176,7 +176,7 @@ def test_one_project_has_both_kinds_of_schedule(plan_folder):
 
 def test_too_many_blocks_are_refused_before_anything_is_solved(plan_folder, monkeypatch):
     monkeypatch.setattr("pitplan.scheduling.blocks.problem.MOST_NODES", 5)
-    for solver in ("pitplan.commands.schedule.problem.solve", "pitplan.scheduling.blocks.from_plan.pitshell.solve"):
+    for solver in ("pitplan.solver.problem.solve", "pitplan.scheduling.blocks.from_plan.pitshell.solve"):
         monkeypatch.setattr(solver, lambda *given: pytest.fail("solved"))
     with pytest.raises(PlanError, match=r"project.toml: a schedule by block would have 6 blocks and 3 precedences"):
         scheduled(plan_folder, text=with_processes())
@@ -255,8 +255,8 @@ def test_a_block_before_its_cone_is_found(copied):
     """The deepest that is dug, in the first year."""
 
     def change(table):
-        dug = table[table["year"] > 1].sort_values("z")
-        table.loc[dug.index[0], "year"] = 1
+        mined = table[table["year"] > 1].sort_values("z")
+        table.loc[mined.index[0], "year"] = 1
 
     rewrite(copied / "tables/blocks.csv", change)
     assert differing(copied, "block order")
@@ -427,7 +427,7 @@ def test_where_no_block_pays_nothing_is_mined_which_is_an_answer(plan_folder):
     assert row[["npv", "upper_bound", "years", "blocks"]].tolist() == [0, 0, 0, 0]
     notes = read_record(project.folder / "block_schedule")["notes"]
     assert "nothing is mined: at these prices and costs no block pays for itself and its predecessors" in notes
-    made = tables.make(Plan.from_project(project))
+    made = Plan.from_project(project).block_schedule()
     axes = schedule.plot(made, Figure().subplots(1, 2))
     assert [text.get_text() for text in axes[0].texts] == ["nothing is mined"]
 

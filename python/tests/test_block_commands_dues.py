@@ -149,7 +149,7 @@ def test_fixed_blocks_by_hand(plan_folder):
             folder / "tables/blocks.csv",
             lambda it: it.__setitem__("year", it["year"].where(it["name"] != name, 0 if name[1] == "3" else 3)),
         )
-        assert differing(folder, "block fixed")
+        assert differing(folder, "block constraints")
         (folder / "tables/blocks.csv").write_text(kept)
 
 

@@ -13,7 +13,7 @@ from pitplan import PlanError
 from pitplan.config.schedule import Effort
 from pitplan.scheduling.blocks import solve
 from pitplan.scheduling.blocks.problem import Due, demand_sound as demand_problem
-from pitplan.scheduling.blocks.relaxation import priced, reduced, relaxed, worth_digging
+from pitplan.scheduling.blocks.relaxation import priced, reduced, relaxed, worth_mining
 
 
 def with_dues(problem, seed):
@@ -99,7 +99,7 @@ def test_the_bound_is_the_optimum_of_the_whole_programme(batch):
 def test_what_is_left_out_changes_no_optimum(batch):
     for seed in range(500 + 20 * batch, 520 + 20 * batch):
         problem = with_dues(random_problem(seed, most=30), seed)
-        optimum, whole = linear_optimum(problem), linear_optimum(problem.of_blocks(worth_digging(problem)))
+        optimum, whole = linear_optimum(problem), linear_optimum(problem.of_blocks(worth_mining(problem)))
         assert (optimum is None) == (whole is None)
         assert optimum is None or whole == pytest.approx(optimum, abs=1e-6 * max(1.0, abs(optimum)))
 

@@ -20,7 +20,7 @@ from pitplan.config.schedule import Effort
 from pitplan.core.progress import silent
 from pitplan.scheduling.blocks import solve
 from pitplan.scheduling.blocks.filling import paying, ranks_of, schedule_of
-from pitplan.scheduling.blocks.problem import BlockSchedule, Limit, demand_sound as demand_problem
+from pitplan.scheduling.blocks.problem import Assignment, Limit, demand_sound as demand_problem
 from pitplan.scheduling.blocks.relaxation import (
     earliest_years,
     first_required,
@@ -28,7 +28,7 @@ from pitplan.scheduling.blocks.relaxation import (
     reduced,
     relaxed,
     relaxed_as_required,
-    worth_digging,
+    worth_mining,
 )
 
 
@@ -56,7 +56,7 @@ def test_the_bound_is_the_optimum_of_the_whole_programme(batch):
         slack = 1e-6 * max(1.0, abs(optimum))
         assert found.bound == pytest.approx(optimum, abs=slack), seed
         assert found.rounds[-1].value == pytest.approx(optimum, abs=slack), seed
-        kept = problem.of_blocks(worth_digging(problem))
+        kept = problem.of_blocks(worth_mining(problem))
         assert linear_optimum(kept) == pytest.approx(optimum, abs=slack), seed
 
 
@@ -125,7 +125,7 @@ def test_clean_ore_that_does_not_pay_is_fed_for_the_grade(limit, dirty, clean):
     problem = blend(limit)
     found = solve(problem, Effort(0.0, 60.0))
     value = 50 * dirty - (1 - dirty) - 5 * clean - (1 - clean) if dirty and clean else 50.0 * dirty
-    assert found.value == pytest.approx(value, abs=1e-6) and worth_digging(problem).all() == (limit > 100)
+    assert found.value == pytest.approx(value, abs=1e-6) and worth_mining(problem).all() == (limit > 100)
     assert found.schedule.share[0, 1] == pytest.approx(dirty)
     if clean:
         assert found.schedule.share[1, 1] == pytest.approx(clean)
@@ -135,8 +135,8 @@ def test_clean_ore_that_does_not_pay_is_fed_for_the_grade(limit, dirty, clean):
 def test_what_is_left_out_takes_no_clean_ore_that_a_grade_requires():
     """The clean block does not pay, so without the grade no schedule needs it."""
     problem = blend(150)
-    assert worth_digging(problem).tolist() == [True, True]
-    assert worth_digging(replace(problem, limits=())).tolist() == [True, False]
+    assert worth_mining(problem).tolist() == [True, True]
+    assert worth_mining(replace(problem, limits=())).tolist() == [True, False]
     schedule = schedule_of(problem, np.array([0, 0]), np.array([1, 1]))
     assert schedule.is_allowed(problem) and paying(problem, schedule).year.tolist() == [0, 0]
     loose = blend(200)
@@ -152,7 +152,7 @@ def test_blocks_that_a_grade_requires_are_added(batch):
         problem = replace(
             problem, values=problem.values - np.where(np.arange(problem.blocks) % 3, 60.0, 0.0)[:, None, None]
         )
-        first = earliest_years(problem, ranks_of(problem.needs))
+        first = earliest_years(problem, ranks_of(problem.precedences))
         optimum, begun = linear_optimum(problem, first), reduced(problem, first_required(problem))
         if not begun.problem.blocks:
             assert optimum == pytest.approx(0, abs=1e-6)
@@ -189,7 +189,7 @@ def test_clean_ore_stays_in_years_that_require_it_alone():
 
 def test_a_year_above_a_grade_is_not_allowed():
     problem = blend(150, years=2)
-    both, apart = (BlockSchedule(np.array(years), np.array([[0.0, 1.0]] * 2)) for years in ([0, 0], [0, 1]))
+    both, apart = (Assignment(np.array(years), np.array([[0.0, 1.0]] * 2)) for years in ([0, 0], [0, 1]))
     assert both.is_allowed(problem) and not apart.is_allowed(problem)
 
 

@@ -17,7 +17,7 @@ import pitplan
 from pitplan import PlanError
 from pitplan.config.schedule import Effort
 from pitplan.scheduling.blocks import solve
-from pitplan.scheduling.blocks.problem import BlockSchedule, demand_sound as demand_problem
+from pitplan.scheduling.blocks.problem import Assignment, demand_sound as demand_problem
 from pitplan.scheduling.blocks.relaxation import priced, relaxed
 
 
@@ -119,7 +119,7 @@ def test_the_last_years_are_left_if_they_do_not_pay():
     problem = replace(problem, costs=np.array([1.0, 2.5, 2.5]))
     found = solve(problem)
     assert found.schedule.year.tolist() == [0, 1, 3] and found.value == pytest.approx(5 - 1 + 3 - 2.5) == found.bound
-    whole = BlockSchedule(np.array([0, 1, 2]), np.ones((3, 1)))
+    whole = Assignment(np.array([0, 1, 2]), np.ones((3, 1)))
     assert whole.value(problem) == 10 - 6 and whole.shortened(problem).year.tolist() == [0, 1, 3]
     dear = replace(problem, costs=np.array([9.0, 2.5, 2.5]))
     assert whole.shortened(dear).year.tolist() == [3, 3, 3] and solve(dear).bound == 0.0

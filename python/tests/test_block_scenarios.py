@@ -141,7 +141,7 @@ def test_of_one_scenario_the_one_schedule_is_its_own(plan_folder):
     assert own["year"].tolist() == one["year"].tolist() and own["share"].tolist() == one["share"].tolist()
 
 
-def needs_of(table):
+def precedences_of(table):
     """For each block the one above it."""
     places = {tuple(place): row for row, place in enumerate(table[["x", "y", "z"]].to_numpy().tolist())}
     return [places.get((x, y, z + 10)) for x, y, z in places]
@@ -150,9 +150,9 @@ def needs_of(table):
 def every_schedule(table, years, rock):
     """Each way to dig, as the year of each block, one more than there are where it is not dug, by trying all: with what it needs, and no
     more rock in a year."""
-    needs = needs_of(table)
+    precedences = precedences_of(table)
     for year in product(range(1, years + 2), repeat=len(table)):
-        ordered = all(above is None or year[above] <= year[block] for block, above in enumerate(needs))
+        ordered = all(above is None or year[above] <= year[block] for block, above in enumerate(precedences))
         if ordered and all(100 * year.count(one) <= rock for one in range(1, years + 1)):
             yield year
 

@@ -25,7 +25,7 @@ from pitplan.scheduling.blocks.filling import (
     sequences,
     with_best_shares,
 )
-from pitplan.scheduling.blocks.problem import BlockSchedule, nothing
+from pitplan.scheduling.blocks.problem import Assignment, nothing
 from pitplan.scheduling.blocks.relaxation import reduced, relaxed
 from pitplan.scheduling.blocks.window_milp import window_of
 
@@ -141,7 +141,7 @@ def test_waste_is_moved_back_and_ore_forward():
     values = np.outer([-10.0, 20.0], [0.9, 0.8, 0.7])
     problem = problem_of(values, [(1, 0)], ([0, 1], [0, 1, 1]))
     schedule = schedule_of(problem, np.array([0, 2]), np.array([0, 0]))
-    assert moved(filling_of(problem), ranks_of(problem.needs), schedule).year.tolist() == [1, 1]
+    assert moved(filling_of(problem), ranks_of(problem.precedences), schedule).year.tolist() == [1, 1]
 
 
 def test_destinations_are_shared_where_that_earns_more():
@@ -159,7 +159,7 @@ def test_orders_hold_each_block_behind_what_it_needs():
     """Also where the relaxation has dug a hair more of a block than of what it needs."""
     problem = random_problem(3000, most=50)
     cumulative = np.sort(np.random.default_rng(1).random((problem.blocks, problem.years)), axis=1)
-    ranks = ranks_of(problem.needs)
+    ranks = ranks_of(problem.precedences)
     order = in_order(problem, ranks, problem.years - cumulative.sum(axis=1), np.zeros(problem.blocks))
     place = np.argsort(order)
     assert sorted(order.tolist()) == list(range(problem.blocks))
@@ -171,16 +171,14 @@ def test_orders_hold_each_block_behind_what_it_needs():
 
 def test_precedences_with_a_cycle_have_no_ranks():
     with pytest.raises(ValueError, match="cycle"):
-        ranks_of(problem_of(np.ones((3, 1)), [(0, 1), (1, 2), (2, 0)]).needs)
+        ranks_of(problem_of(np.ones((3, 1)), [(0, 1), (1, 2), (2, 0)]).precedences)
 
 
 def test_what_keeps_to_a_problem():
     problem = problem_of([[1.0, 1.0], [1.0, 1.0]], [(1, 0)], ([1, 1], [1, 1]))
     assert nothing(problem).keeps(problem)
     cases = [([0, 1], [1, 1]), ([1, 0], [1, 1]), ([0, 0], [1, 1]), ([0, 1], [1, 0.5]), ([2, 1], [0, 1])]
-    found = [
-        BlockSchedule(np.array(year), np.array(share, dtype=float)[:, None]).keeps(problem) for year, share in cases
-    ]
+    found = [Assignment(np.array(year), np.array(share, dtype=float)[:, None]).keeps(problem) for year, share in cases]
     assert found == [True, False, False, False, False]
 
 

@@ -171,24 +171,24 @@ def test_rows_are_the_lines_of_the_program_s_files(tmp_path, hill):
     """Of the whole mine, and of what fixed blocks leave of it."""
     plan = pitplan.Plan.from_project(hill)
     written = mine_files.write(plan, tmp_path)
-    for needs, name in (
-        (plan.needs, "mine.prec"),
-        (plan.needs_of_rest, "rest.prec" if plan.settled else "mine.prec"),
+    for precedences, name in (
+        (plan.precedences, "mine.prec"),
+        (plan.precedences_of_rest, "rest.prec" if plan.settled else "mine.prec"),
     ):
-        found, pairs = counted_rows(needs, plan)
+        found, pairs = counted_rows(precedences, plan)
         lines = (list(map(int, line.split())) for line in open(tmp_path / name))
         listed = {block: needed for block, _, *needed in lines}
         starts, ends = found.starts[:-1].tolist(), found.starts[1:].tolist()
         assert [listed.get(node, []) for node in range(len(starts))] == [
-            found.needs[a:b].tolist() for a, b in zip(starts, ends)
+            found.precedences[a:b].tolist() for a, b in zip(starts, ends)
         ]
         assert pairs == written or plan.settled
-        assert found.starts.dtype == found.needs.dtype == np.uint32
+        assert found.starts.dtype == found.precedences.dtype == np.uint32
 
 
 def test_too_many_needs_are_refused_before_anything_is_solved(plan_folder, tmp_path, monkeypatch):
     plan = pitplan.Plan.from_project(replace(load(plan_folder(deposit(), TEXT, CONE)), solver="library"))
-    counted = counted_rows(plan.needs, plan)[1]
+    counted = counted_rows(plan.precedences, plan)[1]
     pairs = counted.written + counted.processing
     for module in ("pitplan.solver.problem", "pitplan.plan"):
         monkeypatch.setattr(f"{module}.MOST_PAIRS", pairs)
@@ -207,7 +207,7 @@ def test_arrays_are_handed_over_as_they_are(monkeypatch):
     revenue, cost = np.array([0, 5], dtype=np.int64), np.array([3, 0], dtype=np.int64)
     listed = Rows(np.array([0, 0, 1], dtype=np.uint32), np.array([0], dtype=np.uint32))
     library.shells((revenue, cost), listed, (0.5, 1.0))
-    for array in (revenue, cost, listed.starts, listed.needs):
+    for array in (revenue, cost, listed.starts, listed.precedences):
         assert any(array is it for it in given)
 
 
@@ -222,8 +222,8 @@ def test_shells_of_arrays_by_hand():
         0.7: 2,
         1.0: 2,
     }
-    forced = library.pit(np.array([-3 * 10**9, 2 * 10**9]), listed, np.array([0, 1], dtype=np.uint8), 0.7)
-    assert forced.entry.tolist() == [0.7, 0.7] and forced.worth[0.7] == -1 and forced.nodes[0.7] == 2
+    must_mine = library.pit(np.array([-3 * 10**9, 2 * 10**9]), listed, np.array([0, 1], dtype=np.uint8), 0.7)
+    assert must_mine.entry.tolist() == [0.7, 0.7] and must_mine.worth[0.7] == -1 and must_mine.nodes[0.7] == 2
 
 
 def lines_of(tmp_path, *lines):
@@ -234,16 +234,16 @@ def lines_of(tmp_path, *lines):
 
 
 @pytest.mark.parametrize(
-    ("lines", "starts", "needs", "said"),
+    ("lines", "starts", "precedences", "said"),
     [
         (["0 1 1", "1 1 0"], [0, 1, 2], [1, 0], "error 14: cycle"),
         (["0 1 7"], [0, 1, 1], [7], "error 8: predecessor out of range"),
         (["0 2 1 1"], [0, 2, 2], [1, 1], "error 10: predecessor named twice"),
     ],
 )
-def test_refusals_are_those_of_the_program(tmp_path, lines, starts, needs, said):
+def test_refusals_are_those_of_the_program(tmp_path, lines, starts, precedences, said):
     told = []
-    listed = Rows(np.array(starts, dtype=np.uint32), np.array(needs, dtype=np.uint32))
+    listed = Rows(np.array(starts, dtype=np.uint32), np.array(precedences, dtype=np.uint32))
     amounts = np.array([0, 5]), np.array([3, 0])
     for solve in (
         lambda: program.solve_files(*lines_of(tmp_path, *lines)),

@@ -29,7 +29,7 @@ def said(limits, **more):
 
 def conflict_of(text):
     """The limits that a message names as an irreducible conflict."""
-    return text.split("these limits conflict, and without any one of them the others do not: ")[1].split(", the ")
+    return text.split("Conflict, relax one: ")[1].split(", the ")
 
 
 def test_mining_capacity_keeps_ore_from_the_mill():
@@ -37,7 +37,7 @@ def test_mining_capacity_keeps_ore_from_the_mill():
     programme the capacities of both years have dual values, but the first year conflicts alone."""
     limits = Limits({"feed_tonnes": 100.0, "total_tonnes": 60.0}, least={"feed_tonnes": 30.0})
     text = said(limits)
-    assert "keeps all limits; at least it misses the minimum of feed_tonnes in year 1 by 30 of 30; " in text
+    assert "cannot all be met. Smallest shortfall: the minimum of feed_tonnes in year 1 by 30 of 30; " in text
     assert "the minimum of feed_tonnes in year 2 by 10 of 30" in text
     elastic = Conflict(FlowProgramme(model_of(limits)))
     assert np.flatnonzero(elastic.priced["total_tonnes", "max"]).tolist() == [0, 1]
@@ -53,7 +53,7 @@ def test_the_filter_leaves_each_limit_that_the_conflict_needs():
         least_by_year={"feed_tonnes": (0, 30, 0)},
     )
     text = said(limits)
-    assert "at least it misses the minimum of feed_tonnes in year 2 by 10 of 30; " in text
+    assert "Smallest shortfall: the minimum of feed_tonnes in year 2 by 10 of 30. " in text
     needed = ["the minimum of feed_tonnes in year 2 (30)", "maximum of total_tonnes in years 1 to 2 (60)"]
     assert conflict_of(text) == needed
 
@@ -70,7 +70,7 @@ def test_a_slow_advance_keeps_ore_from_the_mill():
 def test_more_than_there_is_conflicts_with_no_other_limit():
     """100 t of ore for three years of 50 t; any two years could have them."""
     text = said(Limits({"feed_tonnes": 100.0}, least={"feed_tonnes": 50.0}))
-    missed = text.split("; these limits")[0].split("misses ")[1].split("; ")
+    missed = text.split(". Conflict")[0].split("shortfall: ")[1].split("; ")
     assert sum(float(part.split(" by ")[1].split(" of ")[0]) for part in missed) == pytest.approx(50)
     assert conflict_of(text) == ["the minimum of feed_tonnes in years 1 to 3 (50)"]
 
@@ -83,7 +83,7 @@ def test_a_stockpile_that_cannot_be_emptied_in_time():
     limits = Limits({"feed_tonnes": 20.0, "total_tonnes": 900.0}, stock_by_year={"old": ((0.0, 10.0),)})
     lots = OpeningOre(ore, np.zeros(1, dtype=np.int64))
     text = said(limits, stockpiles=(Stockpile(0.0, name="old"),), lots=lots)
-    assert "it misses the maximum of stockpile_old in year 1 by 20 of 10" in text
+    assert "shortfall: the maximum of stockpile_old in year 1 by 20 of 10" in text
     needed = ["the maximum of feed_tonnes in year 1 (20)", "maximum of stockpile_old in year 1 (10)"]
     assert conflict_of(text) == needed
 

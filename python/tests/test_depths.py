@@ -2,22 +2,22 @@
 
 import numpy as np
 import pytest
-from helpers.benches import benches_of, demand_diggable, problem_of, random_benches, without_flows
+from helpers.benches import benches_of, demand_minable, problem_of, random_benches, without_flows
 from helpers.programmes import integer_optimum, limits, small
 from helpers.random_tests import examples
 from hypothesis import given, strategies as st
 
 from pitplan.core import tolerances
-from pitplan.scheduling.bench_sequencing import Limits, Sequence, dig
+from pitplan.scheduling.bench_sequencing import Limits, Sequence, mine_in_order
 from pitplan.scheduling.flow import scheduler
 from pitplan.scheduling.flow.programme import FlowProgramme
 from pitplan.scheduling.flow.scheduler import whole_shares
 
 
-def improved(problem, dug):
-    model = without_flows(problem, dug.shape[1])
-    found = scheduler.improved_depths(model, dug, problem.value(dug))
-    return dug if found is None else found
+def improved(problem, mined):
+    model = without_flows(problem, mined.shape[1])
+    found = scheduler.improved_depths(model, mined, problem.value(mined))
+    return mined if found is None else found
 
 
 def test_ore_that_waits_without_need_by_hand():
@@ -53,15 +53,15 @@ def test_depths_are_of_whole_benches_and_worth_no_less(pits, limits, lag, speed)
     benches, years = random_benches(pits, lag), 4
     problem = problem_of(benches, limits)
     pace = speed * benches.of("total_tonnes").sum() / years * np.arange(1, years + 1)
-    dug = dig(problem, Sequence(np.arange(len(benches)), pace=pace), years)
-    dug = np.pad(dug, ((0, 0), (0, years - dug.shape[1])))
+    mined = mine_in_order(problem, Sequence(np.arange(len(benches)), pace=pace), years)
+    mined = np.pad(mined, ((0, 0), (0, years - mined.shape[1])))
     for deeper in (True, False):
-        least, most = scheduler.around(benches, dug.cumsum(axis=1), deeper)
-        assert (least <= dug.cumsum(axis=1) + 1e-9).all() and (dug.cumsum(axis=1) <= most + 1e-9).all()
-        demand_diggable(benches, limits, inside(problem, least, most))
-    found = improved(problem, dug)
-    demand_diggable(benches, limits, found)
-    assert problem.value(found) >= problem.value(dug) - 1e-6
+        least, most = scheduler.around(benches, mined.cumsum(axis=1), deeper)
+        assert (least <= mined.cumsum(axis=1) + 1e-9).all() and (mined.cumsum(axis=1) <= most + 1e-9).all()
+        demand_minable(benches, limits, inside(problem, least, most))
+    found = improved(problem, mined)
+    demand_minable(benches, limits, found)
+    assert problem.value(found) >= problem.value(mined) - 1e-6
     assert problem.value(found) <= integer_optimum(benches, limits, years) + 1e-6
 
 

@@ -261,7 +261,7 @@ def optimum_of(model, given, whole):
         of_ore = ore.feed[units].sum()
         for kind, tonnes in ((0, of_ore), (1, whole_bench - of_ore)):
             terms = {at(bench, kind, place, year): -1.0 for place in range(len(places))}
-            terms[stated.dug(bench, year)] = tonnes
+            terms[stated.mined(bench, year)] = tonnes
             for unit in units if kind == 0 else ():
                 sent = [stated.fed(k, unit, year) for k in range(ore.processes)]
                 sent += [stated.stocked(pile, unit, year) for pile in range(len(model.stockpiles))]
@@ -270,9 +270,9 @@ def optimum_of(model, given, whole):
     for bench, others in enumerate(stated.before()) if whole else ():
         for year in range(years):
             start = size + bench * years + year
-            add(0.0, {stated.dug(bench, year): 1.0, start: -1.0})
+            add(0.0, {stated.mined(bench, year): 1.0, start: -1.0})
             for other in others:
-                add(1e-9, {start: 1.0} | {stated.dug(other, t): -1.0 for t in range(year + 1)})
+                add(1e-9, {start: 1.0} | {stated.mined(other, t): -1.0 for t in range(year + 1)})
     upper[size:] = 1.0
     found = milp(
         -gain,
@@ -496,5 +496,5 @@ def test_what_is_wrong_is_named(plan_folder, words, said):
 def test_a_minimum_that_cannot_be_met_is_reported(plan_folder):
     """The shovels take 200 t a year, all of which may be waste."""
     words = THREE_YEARS + NEAR + "[[periods]]\ndumps = { near = { min = 250 } }\n"
-    with pytest.raises(PlanError, match=r"infeasible: .*misses the minimum of dump_near in year"):
+    with pytest.raises(PlanError, match=r"infeasible: .*Smallest shortfall: the minimum of dump_near in year"):
         pitplan.write_schedule(plan_folder(pillars(), PUSHBACKS + words))

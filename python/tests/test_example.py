@@ -14,7 +14,6 @@ import tomllib
 from conftest import ROOT
 
 import pitplan
-from pitplan.pits import shell_tables
 from pitplan.results.rounding import shown, with_discounting
 
 EXAMPLE = ROOT / "examples" / "plan"
@@ -56,7 +55,7 @@ def amounts_of(row, project, top):
 def test_tonnes_and_worth_are_the_sums_over_the_rows(solved_example, factor):
     plan, solution, table = solved_example
     project = tomllib.loads((EXAMPLE / "project.toml").read_text())
-    blocks = shell_tables.blocks(plan, solution)
+    blocks = pitplan.Shells(plan, solution).blocks
     inside = set(blocks["planner_id"][(blocks["revenue_factor"] > 0.0) & (blocks["revenue_factor"] <= factor)])
     totals = Counter()
     with open(EXAMPLE / "blocks.csv", newline="") as file:

@@ -44,8 +44,8 @@ def by_hand(rows):
     top = {}
     for i, j, k in rows:
         top[i, j] = max(top.get((i, j), 0), k)
-    forced = {(i, j, top[i, j] - down) for i in range(12, 16) for j in range(12, 15) for down in (0, 1)}
-    return forced, {(i, j, k) for i, j, k in rows if 20 <= i < 24 and 9 <= j < 13}
+    must_mine = {(i, j, top[i, j] - down) for i in range(12, 16) for j in range(12, 15) for down in (0, 1)}
+    return must_mine, {(i, j, k) for i, j, k in rows if 20 <= i < 24 and 9 <= j < 13}
 
 
 def test_the_tables_are_the_expected_ones(folder):
@@ -62,12 +62,12 @@ def test_the_tables_are_the_expected_ones(folder):
 def test_the_fixed_blocks_are_those_of_the_map():
     """24 blocks of the cut; on the plant's 16 columns stand 13 x 11 + 3 x 12 = 179."""
     rows = table_of_rows()
-    forced, barred = by_hand(rows)
+    must_mine, excluded = by_hand(rows)
     plan = Plan.from_project(EXAMPLE / "project.toml")
     called = plan.blocks.set_index("id")["planner_id"]
-    assert {rows[place]["id"] for place in forced} == set(called[plan.fixed.forced])
-    assert {rows[place]["id"] for place in barred} == set(called[plan.fixed.barred])
-    assert len(forced) == 24 and len(barred) == 179
+    assert {rows[place]["id"] for place in must_mine} == set(called[plan.fixed.must_mine])
+    assert {rows[place]["id"] for place in excluded} == set(called[plan.fixed.excluded])
+    assert len(must_mine) == 24 and len(excluded) == 179
     assert "24 must-mine blocks and 179 excluded blocks" in plan.notes
 
 
@@ -99,22 +99,22 @@ def test_without_fixed_blocks_the_pit_is_that_of_the_plain_example_less_the_cut(
 def test_each_shell_keeps_to_walls_cut_and_plant(folder, factor):
     """By the whole cone above each block that is dug, as the walls are asked for."""
     rows = table_of_rows()
-    forced, barred = by_hand(rows)
+    must_mine, excluded = by_hand(rows)
     blocks = pd.read_csv(folder / "tables/blocks.csv").set_index("planner_id")["revenue_factor"]
     pit = {place for place, row in rows.items() if 0 < blocks[row["id"]] <= factor}
-    assert forced <= pit and not barred & pit
-    cones = {region: cone(wall) for region, wall in WALLS.items()}
+    assert must_mine <= pit and not excluded & pit
+    cones = {region: cone(domain) for region, domain in WALLS.items()}
     for i, j, k in pit:
         above = {(i + east, j + north, k + up) for east, north, up in cones[rows[i, j, k]["region"]]}
         assert above & rows.keys() <= pit, (i, j, k)
 
 
-def cone(wall):
+def cone(domain):
     """The steps east, north and up to each block that one needs, on blocks of 20 x 20 x 15 m."""
     found = []
     for up, north, east in np.ndindex(LEVELS, 17, 17):
         x, y, z = 20 * (east - 8), 20 * (north - 8), 15 * (up + 1)
-        if math.hypot(x, y) <= z * cotangent(wall, math.degrees(math.atan2(x, y)) % 360) + 1e-7:
+        if math.hypot(x, y) <= z * cotangent(domain, math.degrees(math.atan2(x, y)) % 360) + 1e-7:
             found.append((east - 8, north - 8, up + 1))
     return found
 

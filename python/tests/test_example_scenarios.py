@@ -62,7 +62,7 @@ def cells():
     return [(i, j, k) for k in range(SHAPE[2]) for j in range(SHAPE[1]) for i in range(SHAPE[0])]
 
 
-def needs():
+def precedences():
     """For each cell the cells of the four levels above it that lie in a cone of 45 degrees."""
     inside = set(cells())
     steps = [
@@ -89,7 +89,7 @@ def value_at(row, grades, price, factor):
 def pits():
     """By model, price and factor the blocks of the pit, by their ids, and its worth."""
     rows = {row["id"]: row for row in rows_of(EXAMPLE / "blocks.csv")}
-    places, leads, found = {name: place_of(row) for name, row in rows.items()}, needs(), {}
+    places, leads, found = {name: place_of(row) for name, row in rows.items()}, precedences(), {}
     for path in sorted((EXAMPLE / "realisations").iterdir()):
         grades = {row["id"]: row for row in rows_of(path)}
         for price, factor in ((price, factor) for price in PRICES for factor in FACTORS):
@@ -214,7 +214,7 @@ def milled(worth, year):
 
 def test_bounds_and_what_the_one_schedule_earns_are_those_of_programmes_of_the_tests_own(scheduled):
     """Eight scenarios: each bound is the optimum of the whole linear programme within 1e-4, and no value is above that."""
-    table, leads = pd.read_csv(scheduled / "tables/schedules.csv"), needs()
+    table, leads = pd.read_csv(scheduled / "tables/schedules.csv"), precedences()
     year = pd.read_csv(scheduled / "tables/common_schedule.csv").set_index("planner_id")["year"].to_dict()
     bounds = []
     for row in table.to_dict("records"):

@@ -93,9 +93,9 @@ def test_the_record_has_hashes_of_all_that_was_read_and_written(solved):
     )
     assert dict(zip(names, (line.split()[0] for line in said if line))) == {**record["files"], **record["inputs"]}
     assert (
-        record["needs"]["written"]
+        record["precedences"]["written"]
         == sum(int(line.split()[1]) for line in open(folder / "solver/mine.prec"))
-        - record["needs"]["of_processing_nodes"]
+        - record["precedences"]["of_processing_nodes"]
     )
 
 
@@ -160,10 +160,12 @@ def test_an_audit_of_other_blocks_or_of_another_worth_is_refused(solved):
     worth = audit.demand_same(stage, folder, 1.0)
     shells = pd.read_csv(solved[1] / "tables/shells.csv", dtype={"value_at_revenue_factor": str})
     assert [worth] == shells.loc[shells["revenue_factor"] == 1.0, "value_at_revenue_factor"].map(Decimal).tolist()
-    dug = folder.blocks["revenue_factor"] == 0.5
+    mined = folder.blocks["revenue_factor"] == 0.5
     other = replace(
         folder,
-        blocks=folder.blocks.assign(revenue_factor=folder.blocks["revenue_factor"].where(~dug | (dug.cumsum() > 1), 0)),
+        blocks=folder.blocks.assign(
+            revenue_factor=folder.blocks["revenue_factor"].where(~mined | (mined.cumsum() > 1), 0)
+        ),
     )
     with pytest.raises(PlanError, match="the audited pit is not the shell of revenue factor 1.00"):
         audit.demand_same(stage, other, 1.0)
@@ -277,14 +279,14 @@ def test_dxf_has_the_area_of_the_pit_on_each_level(solved):
     _, folder = solved
     drawing = ezdxf.readfile(pitplan.write_export(folder, "dxf", 1.0, silent))
     blocks = pd.read_csv(folder / "tables/blocks.csv")
-    dug = blocks[(blocks["revenue_factor"] > 0.0) & (blocks["revenue_factor"] <= 1.0)]
+    mined = blocks[(blocks["revenue_factor"] > 0.0) & (blocks["revenue_factor"] <= 1.0)]
     areas = {}
     for line in drawing.modelspace().query("POLYLINE"):
         points = np.array([vertex.dxf.location for vertex in line.vertices])
         x, y = points[:, 0], points[:, 1]
         at = (line.dxf.layer, points[0, 2])
         areas[at] = areas.get(at, 0) + (x * np.roll(y, -1) - np.roll(x, -1) * y).sum() / 2
-    expected = {z: 100.0 * len(level) for z, level in dug.groupby("z")}
+    expected = {z: 100.0 * len(level) for z, level in mined.groupby("z")}
     toes = {(f"TOE_{z - 5:g}", z - 5): area for z, area in expected.items()}
     assert areas == toes | {(f"CREST_{z - 5:g}", z + 5): area for z, area in expected.items()}
 
@@ -454,8 +456,14 @@ def test_the_command_line_tells_table_steps_and_warnings(solved_once):
     assert [line.split()[0] for line in lines[2:5]] == ["0.50", "1.00", "1.50"]
     assert lines[-1] == str(solved_once.place / "plan" / "report.html")
     by = read_record(solved_once.place / "plan")["shells"]["solver"]["by"]
-    needs = {"library": "listing precedences", "program": "writing blocks and precedences"}[by]
-    steps = ["reading", "building slope precedences", needs, f"solving 3 revenue factors by the {by}", "verifying"]
+    precedences = {"library": "listing precedences", "program": "writing blocks and precedences"}[by]
+    steps = [
+        "reading",
+        "building slope precedences",
+        precedences,
+        f"solving 3 revenue factors by the {by}",
+        "verifying",
+    ]
     assert all(f"{step}" in solved_once.err for step in steps)
     assert "WARNING: the largest shell reaches the north side of the block model" in solved_once.err
     assert (

@@ -61,7 +61,7 @@ def test_rock_above_the_surface_must_be_dug(plan_folder, tmp_path):
     plan = Plan.from_project(
         load(plan_folder(rows(3, 1, 3), with_section('[constraints]\nas_mined = "mined.csv"\ntopography = "blocks"\n')))
     )
-    assert plan.fixed.forced.tolist() == [0, 1, 4]
+    assert plan.fixed.must_mine.tolist() == [0, 1, 4]
     assert any("1 columns of blocks lie beyond all points" in note for note in plan.notes)
 
 
@@ -76,7 +76,7 @@ def test_each_column_has_the_surface_of_its_own_points(plan_folder, tmp_path):
     )
     blocks = plan.blocks
     ground = [heights[int(x // 10), int(y // 10)] for x, y in zip(blocks["x"], blocks["y"])]
-    assert plan.fixed.forced.tolist() == blocks.loc[blocks["z"] > ground, "id"].tolist()
+    assert plan.fixed.must_mine.tolist() == blocks.loc[blocks["z"] > ground, "id"].tolist()
     assert not any("surface was interpolated" in note or "beyond all points" in note for note in plan.notes)
 
 
@@ -97,8 +97,8 @@ def test_a_surface_between_points_is_their_plane(plan_folder, tmp_path):
         load(plan_folder(table, with_section('[constraints]\nas_mined = "mined.csv"\ntopography = "blocks"\n')))
     )
     blocks = plan.blocks
-    assert plan.fixed.forced.tolist() == blocks.loc[blocks["z"] > plane(blocks["x"], blocks["y"]), "id"].tolist()
-    assert 0 < len(plan.fixed.forced) < 72
+    assert plan.fixed.must_mine.tolist() == blocks.loc[blocks["z"] > plane(blocks["x"], blocks["y"]), "id"].tolist()
+    assert 0 < len(plan.fixed.must_mine) < 72
 
 
 @pytest.mark.parametrize("points", ["3,4,0\n", "3,4,0\n3,4,2\n", "0,0,0\n10,5,0\n40,20,0\n"])
@@ -113,7 +113,7 @@ def test_points_that_make_no_triangle_say_nothing_beside_them(plan_folder, tmp_p
         for x, y, _ in np.atleast_2d(np.loadtxt(points.splitlines(), delimiter=","))
         if x < 30
     }
-    assert plan.fixed.forced.tolist() == sorted(3 * j + i for i, j in over)
+    assert plan.fixed.must_mine.tolist() == sorted(3 * j + i for i, j in over)
     assert any(f"{9 - len(over)} columns of blocks lie beyond all points" in note for note in plan.notes)
 
 
@@ -128,7 +128,7 @@ def test_a_triangle_bars_what_lies_in_it(plan_folder, tmp_path):
         )
     )
     blocks = plan.blocks
-    assert plan.fixed.barred.tolist() == blocks.loc[blocks["x"] / 60 + blocks["y"] / 40 < 1, "id"].tolist()
+    assert plan.fixed.excluded.tolist() == blocks.loc[blocks["x"] / 60 + blocks["y"] / 40 < 1, "id"].tolist()
 
 
 def test_blocks_of_less_than_a_tonne_are_rock(plan_folder, tmp_path):
@@ -145,7 +145,7 @@ def test_a_surface_of_few_points_is_laid_between_them(plan_folder, tmp_path):
     plan = Plan.from_project(
         load(plan_folder(rows(3, 1, 3), with_section('[constraints]\nas_mined = "mined.csv"\ntopography = "blocks"\n')))
     )
-    assert plan.fixed.forced.tolist() == [1, 2, 5]
+    assert plan.fixed.must_mine.tolist() == [1, 2, 5]
     assert any(
         "over 3 columns of blocks the surface was interpolated from the points around them" in note
         for note in plan.notes
@@ -158,7 +158,7 @@ def test_areas_on_the_map(plan_folder, tmp_path):
     (tmp_path / "river.csv").write_text("x,y\n10,-5\n20,-5\n20,15\n10,15\n")
     text = '[[constraints.areas]]\npolygon = "lease.csv"\nexclude = "outside"\n[[constraints.areas]]\npolygon = "river.csv"\nexclude = "inside"\n'
     plan = Plan.from_project(load(plan_folder(rows(4, 1, 2), with_section(text))))
-    assert plan.fixed.barred.tolist() == [1, 3, 5, 7]
+    assert plan.fixed.excluded.tolist() == [1, 3, 5, 7]
 
 
 def test_a_polygon_with_a_bay():
@@ -238,7 +238,7 @@ def test_a_pit_with_forced_blocks(plan_folder):
     project = load(plan_folder(ore_below_waste(), with_section('[constraints]\nmust_mine = "must"\n')))
     table = pitplan.write_pit(project, 1.0)
     assert table["blocks"].tolist() == [6, 4]
-    assert read_record(project.folder / "pit")["fixed"] == {"forced": 1, "barred": 0}
+    assert read_record(project.folder / "pit")["constraints"] == {"must_mine": 1, "excluded": 0}
     # the block at the floor and the one above it, at 2 a tonne and 100 t a block
     assert table["undiscounted_cash_flow"][0] == table["undiscounted_cash_flow"][1] - 400
 
@@ -259,8 +259,10 @@ def test_fixed_blocks_that_clash(plan_folder, capsys):
 )
 def test_shells_with_fixed_blocks_are_the_best_of_all_closed_sets_that_keep_to_them(tmp_path, by_id, words, cutoff):
     """100 t a block: mining 200, processing 1000, and 40,000 for each per cent of copper."""
-    forced, barred = ({block for block in range(9) if words[block] == word} for word in ("in", "out"))
-    allowed = [chosen for chosen in CLOSED if all(chosen[b] for b in forced) and not any(chosen[b] for b in barred)]
+    must_mine, excluded = ({block for block in range(9) if words[block] == word} for word in ("in", "out"))
+    allowed = [
+        chosen for chosen in CLOSED if all(chosen[b] for b in must_mine) and not any(chosen[b] for b in excluded)
+    ]
     at = {word: (lambda i, j, k, word=word: int(words[(2 - k) * 3 + i] == word)) for word in ("in", "out")}
     table = rows(*BOX, cu=lambda i, j, k: by_id[(2 - k) * 3 + i], must=at["in"], never=at["out"])
     project = replace(project_of(tmp_path, cutoff=cutoff), constraints=ConstraintRules("must", "never", None, ()))

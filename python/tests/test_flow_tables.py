@@ -357,7 +357,7 @@ def test_a_minimum_that_nothing_meets_is_an_error(plan_folder, capsys):
     path = hill(plan_folder, "[schedule]\nyears = 30\nminimum = { feed = 99 }\n")
     assert main(["schedule", str(path), "--quiet"]) == 1
     said = capsys.readouterr().err
-    assert "at least it misses the minimum of feed_tonnes in year 1 by " in said and "infeasible: " in said
+    assert "Smallest shortfall: the minimum of feed_tonnes in year 1 by " in said and "infeasible: " in said
     assert "project.toml" in said
 
 

@@ -1,5 +1,7 @@
 """Sections with rock types, resource classes and the topography."""
 
+from dataclasses import replace
+
 import numpy as np
 import pandas as pd
 import pytest
@@ -23,7 +25,7 @@ def hill(plan_folder, *changes):
     """Six by five columns of three blocks; the three columns in the west lack the top."""
     table = rows(6, 5, 3, **CODES)
     plan = Plan.from_project(plan_folder(table[(table["z"] < 20) | (table["x"] > 30)], PROJECT, CLASS, *changes))
-    return plan, plans_sections.scene_of(plan, plan.shells().solution, 1.0)
+    return plan, replace(plans_sections.scene_of(plan.shells()), selected=1.0)
 
 
 def test_sections_show_rock_and_class(plan_folder):

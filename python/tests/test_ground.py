@@ -33,9 +33,9 @@ def random_pit(seed):
     """Columns of rock of random heights, some without any, dug from their tops; truths for each level from the top, row and column."""
     rng = np.random.default_rng(seed)
     levels, height = 6, rng.integers(0, 7, size=(7, 8))
-    dug = np.minimum(rng.integers(0, 4, size=height.shape), height)
+    mined = np.minimum(rng.integers(0, 4, size=height.shape), height)
     up = np.arange(levels)[::-1, None, None]
-    return up < height, (up < height) & (up >= height - dug)
+    return up < height, (up < height) & (up >= height - mined)
 
 
 def edges_of(faces):
@@ -45,10 +45,10 @@ def edges_of(faces):
 def test_a_hole_of_one_block_by_hand():
     """Nine tops and four walls, of two triangles each. The sides of the model are open: its twelve sides of blocks belong to one triangle, and
     all others to two. The floor and the walls are of the bench of level 1, and what is not dug is of none."""
-    rock, dug = np.ones((2, 3, 3), dtype=bool), np.zeros((2, 3, 3), dtype=bool)
-    dug[0, 1, 1] = True
+    rock, mined = np.ones((2, 3, 3), dtype=bool), np.zeros((2, 3, 3), dtype=bool)
+    mined[0, 1, 1] = True
     grid = grid_of((2, 3, 3))
-    surface, said = mesh.of_stage(rock, Stage("revenue_factor", 1.0, dug), grid, False)
+    surface, said = mesh.of_stage(rock, Stage("revenue_factor", 1.0, mined), grid, False)
     assert len(surface.faces) == 26 and Counter(surface.bench.tolist()) == {mesh.NONE: 16, 1: 10}
     uses = Counter(edges_of(surface.faces).values())
     assert uses == {1: 12, 2: (26 * 3 - 12) // 2}
@@ -57,30 +57,30 @@ def test_a_hole_of_one_block_by_hand():
     assert prisms(triangles) == pytest.approx(8 * 1000 + 500)
     normal = np.cross(triangles[:, 1] - triangles[:, 0], triangles[:, 2] - triangles[:, 0])
     # Tops look upwards, walls to the middle of the hole.
-    walls = normal[:, 2] == 0
-    assert (normal[~walls, 2] > 0).all() and walls.sum() == 8
-    middle = triangles[walls].mean(axis=1)[:, :2] - 15
-    assert (np.einsum("ij,ij->i", middle, normal[walls, :2]) < 0).all()
+    domains = normal[:, 2] == 0
+    assert (normal[~domains, 2] > 0).all() and domains.sum() == 8
+    middle = triangles[domains].mean(axis=1)[:, :2] - 15
+    assert (np.einsum("ij,ij->i", middle, normal[domains, :2]) < 0).all()
 
 
 @pytest.mark.parametrize("seed", range(8))
 def test_random_pits_hold_what_is_dug(seed):
-    rock, dug = random_pit(seed)
+    rock, mined = random_pit(seed)
     grid = grid_of(rock.shape, (20.0, 10.0, 5.0))
-    parts = [mesh.of_stage(rock, Stage("year", k, dug & bool(k)), grid, False)[0] for k in (0, 1)]
+    parts = [mesh.of_stage(rock, Stage("year", k, mined & bool(k)), grid, False)[0] for k in (0, 1)]
     found = [pit_states.places_of(grid, part.corners)[part.faces] for part in parts]
     before, after = (prisms(triangles) for triangles in found)
-    assert before - after == pytest.approx(1000 * dug.sum())
+    assert before - after == pytest.approx(1000 * mined.sum())
     assert before == pytest.approx(1000 * rock.sum()), "nothing lies below ground without rock"
     lowest = found[1][..., 2].min()
-    left = (rock & ~dug).sum(axis=0)[rock.any(axis=0)]
+    left = (rock & ~mined).sum(axis=0)[rock.any(axis=0)]
     assert lowest == 5 * left.min()
 
 
 @pytest.mark.parametrize("seed", range(4))
 def test_smoothing_moves_no_corner_by_more_than_half_a_block_and_no_rim(seed):
-    rock, dug = random_pit(seed)
-    heights = mesh.heights_of(rock, Stage("year", 1, dug), grid_of(rock.shape))
+    rock, mined = random_pit(seed)
+    heights = mesh.heights_of(rock, Stage("year", 1, mined), grid_of(rock.shape))
     stepped = mesh.stepped(heights)
     smooth = mesh.smoothed(stepped)
     moved = abs(smooth.corners - stepped.corners)
@@ -101,35 +101,35 @@ def test_stairs_become_a_slope():
 
 
 def test_the_difference_after_smoothing_is_told():
-    rock, dug = random_pit(1)
+    rock, mined = random_pit(1)
     grid = grid_of(rock.shape)
-    surface, said = mesh.of_stage(rock, Stage("year", 1, dug), grid, True)
-    before, _ = mesh.of_stage(rock, Stage("year", 0, dug & False), grid, True)
+    surface, said = mesh.of_stage(rock, Stage("year", 1, mined), grid, True)
+    before, _ = mesh.of_stage(rock, Stage("year", 0, mined & False), grid, True)
     held = prisms(pit_states.places_of(grid, before.corners)[before.faces]) - prisms(
         pit_states.places_of(grid, surface.corners)[surface.faces]
     )
-    expected = 500 * int(dug.sum())
+    expected = 500 * int(mined.sum())
     assert f"smoothed within half a block, {held:,.0f} m3 lie between it and the original ground, also smoothed" in said
-    assert said.endswith(f"the {dug.sum():,} mined cells hold {expected:,} m3, {100 * (held / expected - 1):+.2f} %")
+    assert said.endswith(f"the {mined.sum():,} mined cells hold {expected:,} m3, {100 * (held / expected - 1):+.2f} %")
 
 
 def test_rock_over_what_is_dug_is_refused():
-    rock, dug = np.ones((3, 2, 2), dtype=bool), np.zeros((3, 2, 2), dtype=bool)
-    dug[1, 1, 0] = True
+    rock, mined = np.ones((3, 2, 2), dtype=bool), np.zeros((3, 2, 2), dtype=bool)
+    mined[1, 1, 0] = True
     with pytest.raises(
         PlanError, match="the block at 5, 15, 12.5 remains above a mined one: the ground is not a surface"
     ):
-        mesh.heights_of(rock, Stage("revenue_factor", 1.0, dug), grid_of((3, 2, 2)))
+        mesh.heights_of(rock, Stage("revenue_factor", 1.0, mined), grid_of((3, 2, 2)))
 
 
 def test_faces_that_hold_something_else_are_not_kept(monkeypatch):
-    rock, dug = random_pit(2)
+    rock, mined = random_pit(2)
     monkeypatch.setattr(mesh, "volume_under", lambda surface, was=mesh.volume_under: 1.002 * was(surface))
     with pytest.raises(PlanError, match="year-1: .* m3 lie between .*: please report this"):
-        mesh.of_stage(rock, Stage("year", 1, dug), grid_of(rock.shape), False)
+        mesh.of_stage(rock, Stage("year", 1, mined), grid_of(rock.shape), False)
 
 
-def volume_dug(folder, name, number):
+def volume_mined(folder, name, number):
     """Of the blocks of rock up to a pushback or year; they have 1,000 cubic metres."""
     blocks = pd.read_csv(folder / "tables/blocks.csv")
     return 1000.0 * int(((blocks[name] > 0) & (blocks[name] <= number)).sum())
@@ -152,11 +152,11 @@ def test_each_pushback_and_each_year_has_a_surface(folder, kind, name, capsys):
     for number in range(1, last + 1):
         after = triangles_of(target / f"{name}-{number}.{kind}")
         assert prisms(before - corner) - prisms(after - corner) == pytest.approx(
-            volume_dug(folder, name, number), rel=1e-3
+            volume_mined(folder, name, number), rel=1e-3
         )
         assert (after[..., 0].min(), after[..., 0].max(), after[..., 1].min()) == (430_000.5, 430_110.5, 6_512_000.25)
         assert (
-            f"{name}-{number}.{kind}: {len(after):,} triangles; {volume_dug(folder, name, number):,.0f} m3 lie between it"
+            f"{name}-{number}.{kind}: {len(after):,} triangles; {volume_mined(folder, name, number):,.0f} m3 lie between it"
             in said.err
         )
 
@@ -176,7 +176,7 @@ def test_pushbacks_have_closed_bodies_too(folder):
     target = pitplan.write_export(folder, "stl", shape=Shape("pushback"))
     for number in (1, 2):
         assert volume_of(triangles_of(target / f"pushback-{number}.stl")) == pytest.approx(
-            volume_dug(folder, "pushback", number)
+            volume_mined(folder, "pushback", number)
         )
     assert len(list(target.iterdir())) == 2
 
@@ -192,8 +192,8 @@ def test_a_drawing_has_a_layer_a_bench_and_pushback(folder):
     )
     blocks = pd.read_csv(folder / "tables/blocks.csv")
     for number in (1, 2):
-        dug = blocks[(blocks["pushback"] > 0) & (blocks["pushback"] <= number)]
-        layers = {f"PUSHBACK_{number}_BENCH_{z - 5:g}" for z in dug["z"].unique()}
+        mined = blocks[(blocks["pushback"] > 0) & (blocks["pushback"] <= number)]
+        layers = {f"PUSHBACK_{number}_BENCH_{z - 5:g}" for z in mined["z"].unique()}
         assert layers == {name for name in faces if name.startswith(f"PUSHBACK_{number}_BENCH")}
         parts = [
             np.array(sum((faces[name] for name in faces if name.startswith(start)), []))
@@ -201,7 +201,7 @@ def test_a_drawing_has_a_layer_a_bench_and_pushback(folder):
         ]
         corner = parts[1].reshape(-1, 3).min(axis=0)
         assert prisms(parts[1] - corner) - prisms(parts[0] - corner) == pytest.approx(
-            volume_dug(folder, "pushback", number)
+            volume_mined(folder, "pushback", number)
         )
         for name in layers:
             bench = np.array(faces[name])[..., 2]

@@ -139,8 +139,8 @@ def test_sensitivity_to_haulage(plan_folder):
     table = pitplan.write_sensitivity(path, path.parent / "hang").set_index("parameter")
     plan = pitplan.Plan.from_project(path)
     entry = plan.shells().solution.entry[: plan.grid.count]
-    dug = (entry > 0) & (entry <= 1.0)
-    cost = plan.values.hauled.waste[dug].sum() + plan.values.hauled.ore_more[dug & plan.values.pays].sum()
+    mined = (entry > 0) & (entry <= 1.0)
+    cost = plan.values.hauled.waste[mined].sum() + plan.values.hauled.ore_more[mined & plan.values.pays].sum()
     lost = table["kept_undiscounted_cash_flow"].iloc[0] - table.loc["haulage", "kept_undiscounted_cash_flow"]
     assert cost > 0 and lost == pytest.approx(0.1 * cost / MILLION, rel=1e-6)
 

@@ -88,7 +88,7 @@ def test_grams_a_tonne_and_regions(tmp_path):
         "gram_per_tonne",
         Decimal("0.009"),
     )
-    assert [wall.domains for wall in project.slopes.domains] == [("NE",), ("SW",)]
+    assert [domain.domains for domain in project.slopes.domains] == [("NE",), ("SW",)]
     assert project.table.domain == "slope_region" and project.table.tonnes == "tonnage"
 
 

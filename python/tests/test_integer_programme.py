@@ -8,7 +8,7 @@ import numpy as np
 import pandas as pd
 import pytest
 from conftest import rows
-from helpers.benches import THREE, benches_of, demand_diggable, problem_of, random_benches, without_flows
+from helpers.benches import THREE, benches_of, demand_minable, problem_of, random_benches, without_flows
 from helpers.programmes import integer_optimum, limits, small
 from helpers.pushbacks import PUSHBACKS, pillars, with_pushbacks
 from helpers.random_tests import examples
@@ -33,7 +33,7 @@ def test_it_is_the_best_schedule_of_all(pit, limits, lag):
     flows, bound = scheduler.best_schedule(model, Effort(0.0, 60.0))
     best, slack = integer_optimum(benches, limits, years), 2e-6 * max(1.0, np.abs(benches.of("cash_flow")).sum())
     assert flows is not None
-    demand_diggable(benches, limits, flows.dug)
+    demand_minable(benches, limits, flows.mined)
     assert flows.value == pytest.approx(best, abs=slack) and bound == pytest.approx(best, abs=slack)
 
 

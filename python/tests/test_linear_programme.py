@@ -12,7 +12,7 @@ from conftest import ROOT
 from helpers.benches import (
     THREE,
     benches_of,
-    demand_diggable,
+    demand_minable,
     made_of,
     optimum_of,
     pits,
@@ -86,8 +86,8 @@ def test_rule_and_programme_are_at_most_the_best_schedule_and_this_at_most_the_b
     problem = problem_of(benches, limits)
     rule, _ = by_rule(problem, years)
     model, optimum = without_flows(problem, years), optimum_of(problem, years)
-    shares = scheduler.from_optimum(model, optimum, none_of(replace(model, years=rule.shape[1]), rule)).dug
-    demand_diggable(benches, limits, shares)
+    shares = scheduler.from_optimum(model, optimum, none_of(replace(model, years=rule.shape[1]), rule)).mined
+    demand_minable(benches, limits, shares)
     best, value = integer_optimum(benches, limits, years), problem.value(shares)
     slack = 2e-6 * max(1.0, np.abs(benches.of("cash_flow")).sum())
     assert problem.value(rule) <= value + slack

@@ -2,6 +2,7 @@
 
 import hashlib
 import json
+from dataclasses import replace
 from pathlib import Path
 
 import numpy as np
@@ -118,7 +119,7 @@ def test_the_lines_of_sections_are_where_they_go():
 def test_sections_and_levels_are_those_asked_for():
     """A level holds its upper edge no more, and at the model's ends the last is taken."""
     asked = scene(FigureRules(levels=(99.0, 90.0, 60.0), north=6_512_015.0, east=430_149.0))
-    assert plans_sections.levels_to_show(asked) == [0, 1, 3] and (asked.section_row, asked.section_column) == (0, 5)
+    assert asked.levels == [0, 1, 3] and (asked.section_row, asked.section_column) == (0, 5)
     figure = Figure()
     found = plans_sections.plot_plans(asked, figure.subplots(2, 2))
     assert [ax.get_title(loc="left") or ax.get_title() for ax in found[1:]] == [
@@ -226,12 +227,9 @@ def project(plan_folder):
 
 def test_grades_are_those_of_the_metal_asked_for(project):
     plan = pitplan.Plan.from_project(project('metal = "gold"'))
-    scene_of = plans_sections.scene_of(plan, plan.shells().solution, 1.0)
+    scene_of = replace(plans_sections.scene_of(plan.shells()), selected=1.0)
     assert scene_of.metal.name == "gold" and scene_of.grade[0, 0].tolist() == [1, 2, 3, 4, 5]
-    assert (
-        plans_sections.scene_of(pitplan.Plan.from_project(project("")), plan.shells().solution, 1.0).metal.name
-        == "copper"
-    )
+    assert plans_sections.scene_of(pitplan.Plan.from_project(project("")).shells()).metal.name == "copper"
 
 
 @pytest.mark.slow
@@ -256,7 +254,7 @@ def test_figures_are_written_as_pdf_and_svg_too(project, with_figures, monkeypat
 def test_a_figure_has_the_same_bytes_each_time_in_each_format(project, tmp_path):
     """The floor of a pit has an image, lines, texts, a colour bar and marks."""
     plan = pitplan.Plan.from_project(project(""))
-    scene_of = plans_sections.scene_of(plan, plan.shells().solution, 1.0)
+    scene_of = replace(plans_sections.scene_of(plan.shells()), selected=1.0)
     written = []
     for name in ("one", "two"):
         (tmp_path / name).mkdir()
@@ -279,7 +277,7 @@ def test_pushbacks_are_drawn_where_the_project_asks_for(project, with_blank_figu
         pitplan.write_pushbacks(
             project("levels = [5]\nnorth = 49\n[pushbacks]\ncount = 1"), writing=pitplan.Writing(verifies=False)
         )
-    assert [pushbacks.levels_to_show(scene) for scene in shown] == [[2]] * 2 and shown[0].section_row == 4
+    assert [scene.levels for scene in shown] == [[2]] * 2 and shown[0].section_row == 4
 
 
 @pytest.mark.parametrize(
@@ -315,5 +313,5 @@ def test_places_beyond_the_model_are_refused(project, words, said):
 
 def test_the_models_ends_are_within_it(project):
     plan = pitplan.Plan.from_project(project("levels = [0, 30]\nnorth = 50\neast = 0"))
-    shown = plans_sections.scene_of(plan, plan.shells().solution, 1.0)
-    assert plans_sections.levels_to_show(shown) == [2, 0] and (shown.section_row, shown.section_column) == (4, 0)
+    shown = replace(plans_sections.scene_of(plan.shells()), selected=1.0)
+    assert shown.levels == [2, 0] and (shown.section_row, shown.section_column) == (4, 0)

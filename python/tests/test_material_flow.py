@@ -4,7 +4,7 @@ from dataclasses import replace
 
 import numpy as np
 import pytest
-from helpers.benches import demand_diggable
+from helpers.benches import demand_minable
 from helpers.flow_cases import blended, lying, slack_of, two_benches
 from helpers.flows import (
     blending,
@@ -53,7 +53,7 @@ def test_two_benches_by_hand(cost, years, value, reclaimed):
     model = two_benches(Limits({"feed_tonnes": 100}, vertical_advance_rate=1.0), years, cost)
     optimum = FlowProgramme(model).solved()
     flows = scheduler.from_optimum(model, optimum)
-    assert optimum.value == pytest.approx(value) and flows.dug[:, :2].tolist() == [[1, 0], [0, 1]]
+    assert optimum.value == pytest.approx(value) and flows.mined[:, :2].tolist() == [[1, 0], [0, 1]]
     assert upper_bound(model, model.ore, optimum.prices) == pytest.approx(value)
     assert flows.direct[0, :, :2].tolist() == [[0, 0], [1, 0], [0, 1]]
     assert flows.reclaimed.sum() == pytest.approx(reclaimed) == flows.stocked.sum()
@@ -74,7 +74,7 @@ def test_a_limit_on_metal_is_one_on_feed():
 def test_a_mill_that_stands_still_in_all_years():
     model = two_benches(Limits({"feed_tonnes": 100}, (0.0, 0.0, 1.0)), 2, 0.5)
     optimum = FlowProgramme(model).solved()
-    assert optimum.value == pytest.approx(0) and scheduler.from_optimum(model, optimum).dug.shape == (2, 0)
+    assert optimum.value == pytest.approx(0) and scheduler.from_optimum(model, optimum).mined.shape == (2, 0)
 
 
 @pytest.mark.parametrize(("cost", "dirty"), [(None, 0.0), (0.0, 50.0), (4.0, 50.0), (11.0, 0.0)])
@@ -86,7 +86,7 @@ def test_arsenic_is_blended_from_the_stockpile_by_hand(cost, dirty):
     flows = scheduler.from_optimum(model, optimum)
     found = [optimum.value, flows.value, upper_bound(model, model.ore, optimum.prices)]
     assert found == pytest.approx([value] * 3)
-    assert flows.dug.tolist() == [[1, 0], [0, 1]] and flows.direct[0].tolist() == [[0, 0], [0, 1]]
+    assert flows.mined.tolist() == [[1, 0], [0, 1]] and flows.direct[0].tolist() == [[0, 0], [0, 1]]
     assert flows.reclaimed.sum(axis=(0, 1)).tolist() == [[0, pytest.approx(dirty / 100)], [0, 0]]
     assert flows.used("grade_as_max").max() < 1e-6
 
@@ -135,7 +135,7 @@ def test_the_bound_and_what_is_made_of_it(pits, limits, several, lag, piles):
     assert upper_bound(model, model.ore, optimum.prices) == pytest.approx(optimum.value, abs=slack)
     flows = scheduler.from_optimum(model, optimum)
     if flows.years:
-        demand_diggable(model.benches, model.of_mining, flows.dug)
+        demand_minable(model.benches, model.of_mining, flows.mined)
     demand_kept(flows)
     assert -slack <= flows.value <= optimum.value + slack
 
@@ -153,11 +153,11 @@ def test_ore_that_is_never_reclaimed_does_not_fill_a_stockpile():
 
 def demand_kept(flows):
     """No limit is exceeded, and no more of a parcel flows than is mined and stocked."""
-    model, dug = flows.model, flows.dug[flows.model.ore.bench]
+    model, mined = flows.model, flows.mined[flows.model.ore.bench]
     for number, (name, _) in enumerate(model.problem.limits.most.items()):
         most = model.problem.limits.of_years(max(flows.years, 1))[: flows.years, number]
         assert (flows.used(name) <= most * (1 + 1e-8) + 1e-6).all(), name
-    assert (flows.direct.sum(axis=0) + flows.stocked.sum(axis=0) <= dug + 1e-12).all()
+    assert (flows.direct.sum(axis=0) + flows.stocked.sum(axis=0) <= mined + 1e-12).all()
     out = flows.reclaimed.sum(axis=1)
     lies = (flows.stocked - out).cumsum(axis=2)
     assert (out <= np.pad(lies, ((0, 0), (0, 0), (1, 0)))[..., :-1] + 1e-9).all()

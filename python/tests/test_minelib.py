@@ -225,8 +225,8 @@ def test_the_reduction_leads_to_the_same_needs_and_has_no_pair_to_spare(drawn):
     # Numbers are mixed so that needs do not always rise.
     order = [3, 6, 0, 5, 1, 7, 2, 4]
     pairs = {(order[max(pair)], order[min(pair)]) for pair in drawn}
-    needs = {a: array("i", sorted(b for c, b in pairs if c == a)) for a in range(8)}
-    kept = precedence.reduced({block: needed for block, needed in needs.items() if needed})
+    precedences = {a: array("i", sorted(b for c, b in pairs if c == a)) for a in range(8)}
+    kept = precedence.reduced({block: needed for block, needed in precedences.items() if needed})
     least = {(a, b) for a, needed in kept.items() for b in needed}
     whole = closure(pairs, 8)
     assert least <= pairs and closure(least, 8) == whole

@@ -23,8 +23,6 @@ from hypothesis import given, strategies as st
 
 import pitplan
 from pitplan import Plan, PlanError
-from pitplan.pushbacks import nested
-from pitplan.scheduling import pushback_schedule
 from pitplan.scheduling.bench_sequencing import Limits
 from pitplan.scheduling.flow import scheduler
 from pitplan.scheduling.flow.bound import Lagrangian, upper_bound
@@ -148,7 +146,7 @@ def test_a_higher_factor_never_raises_optimum_and_bound(plan_folder):
     for texts in (("", ""), ("", "1.3"), ("1.3", ""), ("1.3", "1.3"), ("1.3", "2.5"), ("2.5", "2.5")):
         words = entries(*(f"mining_cost_factor = {it}" if it else "" for it in texts), "")
         project = pitplan.load(plan_folder(pillars(), PUSHBACKS + "[schedule]\nyears = 4\n" + words))
-        model = pushback_schedule.make(nested.divide(Plan.from_project(nested.ending(project)))).model
+        model = Plan.from_project(project).shells().pushbacks().schedule().model
         optimum = FlowProgramme(model).solved()
         prices = prices or optimum.prices
         key = tuple(float(it or 1) for it in texts)

@@ -167,7 +167,7 @@ def test_costs_that_are_not_paid_are_found(plan_folder, monkeypatch):
     """Nothing is taken in any file, or in the schedule alone."""
     text = with_pushbacks(ADDED, AT_ENDS) + "[schedule]\nyears = 5\n"
     path = plan_folder(pillars(), text)
-    monkeypatch.setattr(nested.Pushbacks, "mining_cost_added", property(lambda made: np.zeros(made.plan.grid.count)))
+    monkeypatch.setattr(nested, "cost_added", lambda plan, pushback: np.zeros(plan.grid.count))
     with pytest.raises(PlanError) as error:
         pitplan.write_schedule(path)
     assert all(f"{name}: " in str(error.value) for name in ("pushbacks", "years"))

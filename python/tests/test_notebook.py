@@ -174,7 +174,7 @@ def test_the_notebook_from_a_frame_to_a_schedule_runs(monkeypatch):
     given = pd.read_csv("plan/blocks.csv").set_index("id")
     blocks = names["plan"].blocks.set_index("planner_id")
     assert blocks["cu_pct"].to_numpy() == pytest.approx(0.9 * given["cu_pct"][blocks.index].to_numpy())
-    inside = names["pushbacks"].found.pushback[blocks["id"]] > 0
+    inside = names["pushbacks"].pushback[blocks["id"]] > 0
     ways = names["schedule"].methods
     assert (ways["tonnes"] + ways["unmined_tonnes"]).tolist() == pytest.approx(
         [given["tonnes"][blocks.index[inside]].sum()] * len(ways)

@@ -130,8 +130,8 @@ def test_a_pit_with_its_constraints_and_without_is_the_oracles(tmp_path, seed):
 def test_maximum_flow_and_trying_every_set_agree(seed):
     """The oracle's own two ways to a pit, and its two maximum flows."""
     rng = projects.Random(seed)
-    needs = {at: [to for to in range(at) if rng.random() < 0.25] for at in range(10)}
-    values = {at: rng.randint(-5, 5) for at in needs}
-    pit = closures.least_best_by_trying(values, needs)
-    assert closures.least_best_pit(values, needs) == pit
-    assert closures.least_best_pit({at: value * 10**12 for at, value in values.items()}, needs) == pit
+    precedences = {at: [to for to in range(at) if rng.random() < 0.25] for at in range(10)}
+    values = {at: rng.randint(-5, 5) for at in precedences}
+    pit = closures.least_best_by_trying(values, precedences)
+    assert closures.least_best_pit(values, precedences) == pit
+    assert closures.least_best_pit({at: value * 10**12 for at, value in values.items()}, precedences) == pit

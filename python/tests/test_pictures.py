@@ -231,8 +231,8 @@ def test_the_bar_of_pushbacks_has_eleven_numbers_at_most(count, ticks):
 
 def test_what_is_dug_of_pushbacks_is_rock_that_is_in_one():
     shown = pushback_scene()
-    assert np.array_equal(shown.dug, at_a_zone()[1] > 0)
-    assert not dataclasses.replace(shown, solid=np.zeros_like(shown.solid)).dug.any()
+    assert np.array_equal(shown.mined, at_a_zone()[1] > 0)
+    assert not dataclasses.replace(shown, solid=np.zeros_like(shown.solid)).mined.any()
 
 
 def test_sections_of_pushbacks_are_as_high_as_the_ground_is_deep(monkeypatch):
@@ -303,10 +303,17 @@ EACH = {
     "pit by pit": (1, lambda axes, project: [plot_pit_by_pit(SHELLS, "USD", 1.0, axes[0])]),
     "floor": (1, lambda axes, project: [plans_sections.plot_floor(scene(), axes[0])]),
     "level": (1, lambda axes, project: [plans_sections.plot_level(scene(), 2, axes[0])]),
-    "shells": (1, lambda axes, project: [plans_sections.plot_shells(scene(), scene().from_west_to_east(10), axes[0])]),
+    "shells": (
+        1,
+        lambda axes, project: [
+            plans_sections.plot_shells(scene(), scene().plane(scene().from_west_to_east(10)), axes[0])
+        ],
+    ),
     "grades": (
         1,
-        lambda axes, project: [plans_sections.plot_grades(scene(), scene().from_south_to_north(12), axes[0])],
+        lambda axes, project: [
+            plans_sections.plot_grades(scene(), scene().plane(scene().from_south_to_north(12)), axes[0])
+        ],
     ),
     "pushbacks on the ground": (1, lambda axes, project: [pushbacks.plot_surface(pushback_scene(), axes[0])]),
     "pushbacks on a level": (1, lambda axes, project: [pushbacks.plot_level(pushback_scene(), 2, axes[0])]),
@@ -386,9 +393,9 @@ def test_sections_show_a_grade_in_one_colour():
 def test_what_plans_show_of_a_solved_plan(solved):
     """The pit of a hill of ten by nine columns; its scene is what blocks.csv says."""
     plan = pitplan.Plan.from_project(solved[0])
-    scene = plans_sections.scene_of(plan, plan.shells().solution, 1.5)
+    scene = dataclasses.replace(plans_sections.scene_of(plan.shells()), selected=1.5)
     blocks = pd.read_csv(solved[1] / "tables/blocks.csv")
-    assert scene.dug.sum() == (blocks["revenue_factor"] > 0.0).sum() and scene.solid.sum() == len(blocks)
+    assert scene.mined.sum() == (blocks["revenue_factor"] > 0.0).sum() and scene.solid.sum() == len(blocks)
     places = [((45 - blocks["z"]) // 10).astype(int), (blocks["y"] // 10).astype(int), (blocks["x"] // 10).astype(int)]
     assert scene.grade[tuple(places)].tolist() == blocks["cu"].tolist()
     figure, axes = plt.subplots()
@@ -403,5 +410,5 @@ def test_what_plans_show_of_a_solved_plan(solved):
     assert {(row, column): drawn[int(row), int(column)] for row, column in deepest.index} == (deepest - 5).to_dict()
     assert np.ma.count(np.ma.masked_invalid(drawn)) == len(deepest)
     plt.close(figure)
-    chosen = plans_sections.scene_of(plan, plan.shells().solution).selected
+    chosen = plans_sections.scene_of(plan.shells()).selected
     assert chosen == json.loads((solved[1] / "plan.json").read_text())["shells"]["selected"]

@@ -232,8 +232,8 @@ def test_a_specified_case_is_in_tables_figures_and_the_report(plan_folder):
     folder = path.parent / "plan"
     years = pd.read_csv(folder / "tables/years.csv")
     sums = years[years["case"] == SPECIFIED].groupby("revenue_factor")["discounted_cash_flow"].sum()
-    dug = shells[shells["tonnes"] > 0].set_index("revenue_factor")
-    assert sums.tolist() == pytest.approx(dug["npv_specified"].tolist(), abs=0.01) and len(sums) > 1
+    mined = shells[shells["tonnes"] > 0].set_index("revenue_factor")
+    assert sums.tolist() == pytest.approx(mined["npv_specified"].tolist(), abs=0.01) and len(sums) > 1
     assert not [rule for rule in pitplan.verify(folder) if rule.differences]
     assert "specified = { pushbacks = [0.5], bench_lag = 1 }" in (folder / "project-as-run.toml").read_text()
     assert "Net present value, specified case" in (folder / "report.html").read_text()

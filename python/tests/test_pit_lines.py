@@ -107,8 +107,8 @@ def test_a_geopackage_is_one_for_those_who_read_its_tables(folder):
             "select table_name, min_x, min_y, max_x, max_y from gpkg_contents"
         ).fetchall()
         count = base.execute("select count(*) from lines where kind = 'toe'").fetchone()[0]
-    dug = pd.read_csv(folder / "tables/blocks.csv").query("year > 0")
-    ends = [dug["x"].min() - 5, dug["y"].min() - 5, dug["x"].max() + 5, dug["y"].max() + 5]
+    mined = pd.read_csv(folder / "tables/blocks.csv").query("year > 0")
+    ends = [mined["x"].min() - 5, mined["y"].min() - 5, mined["x"].max() + 5, mined["y"].max() + 5]
     assert name == "lines" and [west, south, east, north] == pytest.approx(ends)
     assert count == sum(
         1 for string in strings_of(pitplan.write_export(folder, "str", shape=Shape("year"))) if string[0][4] == "toe"

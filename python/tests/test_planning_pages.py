@@ -14,7 +14,6 @@ from pitplan.cli import main
 from pitplan.config.material import Stockpile
 from pitplan.config.shells import PushbackRules
 from pitplan.config.studies import SensitivityRules
-from pitplan.scheduling import pushback_schedule
 from pitplan.scheduling.flow.tables import cutoffs
 from pitplan.solver import mine_files
 
@@ -55,20 +54,20 @@ def test_the_table_of_cutoffs_is_that_of_the_example():
 
 
 @pytest.mark.parametrize(
-    "levels, steeper, needs", [(2, 11.3, 9), (3, 3.4, 21), (8, 1.7, 25), (17, 0.5, 37), (20, 0.3, 61)]
+    "levels, steeper, precedences", [(2, 11.3, 9), (3, 3.4, 21), (8, 1.7, 25), (17, 0.5, 37), (20, 0.3, 61)]
 )
-def test_the_angles_of_the_west_walls_are_those_of_the_page(levels, steeper, needs):
+def test_the_angles_of_the_west_walls_are_those_of_the_page(levels, steeper, precedences):
     project = pitplan.load(EXAMPLE)
     plan = pitplan.Plan.from_project(replace(project, slopes=replace(project.slopes, precedence_benches=levels)))
-    west = plan.walls.patterns[0]
-    assert len(west.offsets) == needs and west.errors.max() == pytest.approx(steeper, abs=0.05)
-    assert re.search(rf"{steeper} (degrees )?with {levels} (benches )?\({needs}", PAGES["slopes"])
+    west = plan.domains.patterns[0]
+    assert len(west.offsets) == precedences and west.errors.max() == pytest.approx(steeper, abs=0.05)
+    assert re.search(rf"{steeper} (degrees )?with {levels} (benches )?\({precedences}", PAGES["slopes"])
 
 
 def test_the_levels_that_the_page_says_are_chosen():
     project = pitplan.load(EXAMPLE)
     plan = pitplan.Plan.from_project(replace(project, slopes=replace(project.slopes, precedence_benches=None)))
-    chosen = [pattern.levels for pattern in plan.walls.patterns]
+    chosen = [pattern.levels for pattern in plan.domains.patterns]
     assert "for the example's domains {} and {} benches".format(*chosen) in PAGES["slopes"]
 
 
@@ -103,11 +102,7 @@ def test_the_schedule_of_the_page_is_that_of_the_example():
     project = pitplan.load(EXAMPLE)
     rules = project.schedule
     plain, stocked = (
-        pushback_schedule.make(
-            pitplan.pushbacks.nested.divide(
-                pitplan.Plan.from_project(pitplan.pushbacks.nested.ending(replace(project, schedule=asked)))
-            )
-        )
+        pitplan.Plan.from_project(replace(project, schedule=asked)).shells().pushbacks().schedule()
         for asked in (rules, replace(rules, stockpiles=(Stockpile(1.0),)))
     )
     assert f"By the rule each pushback is {plain.lead} benches behind the one before" in PAGES["schedules"]
@@ -125,17 +120,14 @@ def test_the_widths_of_the_page_are_those_of_the_example():
     project = pitplan.load(EXAMPLE)
 
     def divided(*rules):
-        plan = pitplan.Plan.from_project(
-            pitplan.pushbacks.nested.ending(replace(project, pushbacks=PushbackRules(*rules)))
-        )
-        return pitplan.pushbacks.nested.divide(plan)
+        return pitplan.Plan.from_project(replace(project, pushbacks=PushbackRules(*rules))).shells().pushbacks()
 
     shells, wide, four = (
         divided(2, None, None, 1.0),
         divided(2, None, None, 1.0, 40, 40),
         divided(4, None, None, 1.0, 40, 40),
     )
-    before, after, many = (pitplan.pushbacks.nested.table(it) for it in (shells, wide, four))
+    before, after, many = (it.table for it in (shells, wide, four))
     (note,) = [note for note in wide.notes if "blocks moved" in note]
     later, more = (int(re.search(rf"([\d,]+) {word}", note)[1]) for word in ("later", "additionally"))
     assert (

@@ -21,7 +21,6 @@ from pitplan.config.studies import PricePath
 from pitplan.figures import price_paths as figure
 from pitplan.report import statements
 from pitplan.scheduling import price_paths
-from pitplan.scheduling.blocks import tables
 
 COPPER = PricePath(Decimal(9000), Decimal("0.4"), Decimal("0.25"))
 PATHS = """[price_paths]
@@ -207,10 +206,7 @@ def test_the_report_has_the_quantiles_as_cells(written):
 
 
 def test_the_figure_shows_prices_and_npvs(plan_folder, tmp_path):
-    made = tables.make(pitplan.Plan.from_project(plan_folder(pillars(), YEARLY + PATHS)))
-    from pitplan.commands.schedule_tables import of_blocks
-
-    found = of_blocks(made).prices
+    found = pitplan.Plan.from_project(plan_folder(pillars(), YEARLY + PATHS)).block_schedule().on_price_paths
     price, npv = figure.plot(found, Figure().subplots(1, 2))
     labels = [line.get_label() for line in npv.lines]
     due = [f"P{share}: {np.quantile(found.npv, share / 100):,.1f}" for share in (10, 50, 90)]

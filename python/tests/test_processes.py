@@ -14,7 +14,7 @@ import pitplan
 from pitplan import PlanError, verify, write_schedule
 from pitplan.economics import block_values
 from pitplan.economics.block_values import Way, best_way, steps_of
-from pitplan.pits import best_worst_case, ore_kinds, shell_tables
+from pitplan.pits import best_worst_case, ore_kinds
 from pitplan.solver import mine_files
 
 
@@ -195,7 +195,7 @@ def test_shells_are_those_of_the_best_process_at_each_factor(plan_folder, cutoff
     """One factor after the other, each block with one node that has what its best process is worth there."""
     path = plan_folder(deposit(), PROJECT, *MORE, ("decimals = 2\n", f'decimals = 2\ncutoff = "{cutoff}"\n'))
     plan = pitplan.Plan.from_project(path)
-    entry = shell_tables.cells_of(plan, plan.shells().solution).factor
+    entry = plan.shells().cells.factor
     for factor in plan.project.shells.revenue_factors:
         best = best_way(plan.values.by_process, factor if cutoff == "per_revenue_factor" else 1.0)
         alone = tuple(
@@ -209,7 +209,9 @@ def test_shells_are_those_of_the_best_process_at_each_factor(plan_folder, cutoff
             for way in plan.values.by_process[:1]
         )
         one = replace(plan, values=replace(plan.values, by_process=alone, best=np.zeros_like(best)))
-        one.project = replace(plan.project, shells=replace(plan.project.shells, revenue_factors=(factor,)))
+        one = replace(
+            one, project=replace(plan.project, shells=replace(plan.project.shells, revenue_factors=(factor,)))
+        )
         inside = one.shells().solution.entry[: plan.grid.count] > 0
         assert ((entry > 0) & (entry <= factor)).tolist() == inside.tolist()
 

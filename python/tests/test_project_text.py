@@ -177,7 +177,7 @@ def test_scenarios_read_back_as_themselves(plan_folder, tmp_path, text):
 
 
 @pytest.mark.parametrize(
-    "wall",
+    "domain",
     [
         "azimuths = [[10, 40], [200.5, 47.25]]",
         "azimuths = [[45, 50]]",
@@ -186,9 +186,9 @@ def test_scenarios_read_back_as_themselves(plan_folder, tmp_path, text):
         "angle = 45\ndomain = [1, 'A \"b\"']",
     ],
 )
-def test_walls_read_back_as_themselves(plan_folder, tmp_path, wall):
-    more = "" if "region" not in wall else '\n[[slopes.domains]]\npattern = "1:9"'
-    demand_same(load(plan_folder("", PROJECT, ('pattern = "1:5"', wall + more))), tmp_path / "plan")
+def test_walls_read_back_as_themselves(plan_folder, tmp_path, domain):
+    more = "" if "region" not in domain else '\n[[slopes.domains]]\npattern = "1:9"'
+    demand_same(load(plan_folder("", PROJECT, ('pattern = "1:5"', domain + more))), tmp_path / "plan")
 
 
 @pytest.mark.parametrize("ground", ["blocks", "./blocks", "was.csv"])

@@ -178,7 +178,7 @@ def random_plan(seed, plan_text):
     pushback = np.zeros(plan.grid.count, dtype=np.int16)
     for number in (3, 2, 1):
         pushback[
-            closure.used_blocks(plan.grid, plan.walls, (0 < first) & (first <= number) | plan.settled.dug)
+            closure.used_blocks(plan.grid, plan.domains, (0 < first) & (first <= number) | plan.settled.mined)
         ] = number
     return plan, pushback
 
@@ -199,7 +199,7 @@ def test_random_pushbacks_are_wide_closed_and_nested(tmp_path_factory, seed, ask
 
     plan, pushback = random_plan(seed, write)
     found = plan.grid.cube(mining_width.widened(pushback, plan, PushbackRules(3, None, None, None, *asked))[0])
-    solid, must, left = (plan.grid.cube(it) for it in (plan.values.tonnes > 0, plan.settled.dug, plan.settled.left))
+    solid, must, left = (plan.grid.cube(it) for it in (plan.values.tonnes > 0, plan.settled.mined, plan.settled.left))
     assert (found[must] == 1).all() and (found[left] == 0).all()
     for level, row, column in np.argwhere((found > 0) & solid):
         for north, east in ((0, 0), (1, 0), (-1, 0), (0, 1), (0, -1)):

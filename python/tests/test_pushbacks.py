@@ -274,8 +274,8 @@ def test_what_is_right_passes(copied, capsys):
     assert verdict == f"verified: all {len(told)} rules hold"
     assert [line.split(":")[0] for line in told][-6:] == [
         "pushback of blocks",
-        "pushback walls",
-        "pushback fixed",
+        "pushback slopes",
+        "pushback constraints",
         "pushbacks",
         "pushback widths",
         "grade tonnage",
@@ -305,11 +305,11 @@ def test_each_number_of_a_pushback_that_is_bent_is_found(copied, column, rule):
         (
             lambda it: (it["pushback"] == 1) & (it["z"] == 35) & (it["must"] == 0),
             3,
-            {"pushback of blocks", "pushback walls", "pushbacks"},
+            {"pushback of blocks", "pushback slopes", "pushbacks"},
         ),
-        (lambda it: it["must"] == 1, 2, {"pushback of blocks", "pushback fixed", "pushbacks"}),
-        (lambda it: it["never"] == 1, 1, {"pushback of blocks", "pushback fixed", "pushbacks"}),
-        (lambda it: (it["pushback"] == 2) & (it["z"] == 35), 0, {"pushback of blocks", "pushback walls", "pushbacks"}),
+        (lambda it: it["must"] == 1, 2, {"pushback of blocks", "pushback constraints", "pushbacks"}),
+        (lambda it: it["never"] == 1, 1, {"pushback of blocks", "pushback constraints", "pushbacks"}),
+        (lambda it: (it["pushback"] == 2) & (it["z"] == 35), 0, {"pushback of blocks", "pushback slopes", "pushbacks"}),
     ],
 )
 def test_a_block_in_another_pushback_is_found(copied, where, number, rules):
@@ -362,8 +362,9 @@ def test_pushbacks_of_a_project_that_asks_for_none_are_found(copied):
 
 def test_nothing_is_written_where_a_pushback_is_wrong(plan_folder, monkeypatch):
     """All blocks of the last pushback in the first."""
-    whole = nested.blocks
-    monkeypatch.setattr(nested, "blocks", lambda it: whole(it).replace({"pushback": {3: 1}}))
+    whole = nested.Pushbacks.blocks.fget
+    wrong = property(lambda it: whole(it).replace({"pushback": {3: 1}}))
+    monkeypatch.setattr(nested.Pushbacks, "blocks", wrong)
     project = load(plan_folder(pillars(), with_pushbacks("count = 3")))
     with pytest.raises(PlanError, match="verification failed"):
         pitplan.write_pushbacks(project)

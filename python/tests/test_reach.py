@@ -12,7 +12,6 @@ import pitplan
 from pitplan import PlanError, crop, verify
 from pitplan.blockmodel.grid import Grid
 from pitplan.crop import Box
-from pitplan.pits import shell_tables
 
 ANGLES = ('pattern = "1:5"', "angle = 50")
 
@@ -39,7 +38,7 @@ def few(monkeypatch):
 def solved(path):
     """By the blocks' names the factor at which each comes in, of those that do."""
     plan = pitplan.Plan.from_project(path)
-    blocks = shell_tables.blocks(plan, plan.shells().solution).set_index("name")
+    blocks = plan.shells().blocks.set_index("name")
     return plan, blocks["revenue_factor"][blocks["revenue_factor"] > 0.0].sort_index()
 
 
@@ -61,8 +60,7 @@ def test_shells_are_the_same(plan_folder, monkeypatch):
 
 def test_no_shell_touches_a_side_that_is_none_of_the_model(plan_folder, few):
     plan = pitplan.Plan.from_project(plan_folder(deposit(), PROJECT, ANGLES))
-    solution = plan.shells().solution
-    assert shell_tables.edge_notes(plan, solution) == []
+    assert plan.shells().notes == []
 
 
 def test_costs_rise_from_the_top_of_the_whole_model(plan_folder, monkeypatch):
@@ -134,7 +132,7 @@ def test_the_second_look_agrees(plan_folder, few, without_figures):
     path = plan_folder(deposit(), PROJECT, ANGLES)
     pitplan.write_shells(path, writing=UNVERIFIED)
     assert wrong(path) == {}
-    assert "reach" in {rule.name for rule in verify(path.parent / "plan")}
+    assert "crop" in {rule.name for rule in verify(path.parent / "plan")}
     assert len(pd.read_csv(path.parent / "plan" / "tables/blocks.csv")) < 1000
 
 
@@ -159,7 +157,7 @@ def test_ground_that_shells_need_and_is_left_out_is_found(plan_folder, few, monk
     path = plan_folder(deposit(), PROJECT, ANGLES)
     monkeypatch.setattr(crop, "box_of", narrower)
     pitplan.write_shells(path, writing=pitplan.Writing(verifies=False))
-    assert "depends on ground that was removed" in wrong(path)["reach"][0]
+    assert "depends on ground that was removed" in wrong(path)["crop"][0]
 
 
 def test_ore_that_is_left_out_is_found(plan_folder, few, monkeypatch, without_figures):
@@ -167,7 +165,7 @@ def test_ore_that_is_left_out_is_found(plan_folder, few, monkeypatch, without_fi
     can_pay = crop.can_pay
     monkeypatch.setattr(crop, "can_pay", lambda model, project: can_pay(model, project)[:2])
     pitplan.write_shells(path, writing=pitplan.Writing(verifies=False))
-    assert wrong(path)["reach"] == ("block b20-15-7 was removed, and pays at revenue factor 1.50",)
+    assert wrong(path)["crop"] == ("block b20-15-7 was removed, and pays at revenue factor 1.50",)
 
 
 def test_a_table_that_has_changed_where_it_was_left_out_is_found(plan_folder, few, without_figures):
@@ -190,4 +188,4 @@ def test_rows_that_are_put_together_and_cells_without_rows(plan_folder, monkeypa
     table = deposit()
     path = plan_folder(table[~table["name"].isin(["b20-2-0", "b9-8-6"])], PROJECT, ANGLES, change)
     pitplan.write_shells(path, writing=UNVERIFIED)
-    assert wrong(path) == {} and "reach" in {rule.name for rule in verify(path.parent / "plan")}
+    assert wrong(path) == {} and "crop" in {rule.name for rule in verify(path.parent / "plan")}

@@ -90,7 +90,7 @@ def test_sides_that_are_not_full_and_fixed_blocks(plan_folder):
         and (table["y"] == 5).all()
     )
     assert table["tonnes"].tolist() == [400, 400, 200, 200, 200, 100] and table["cu"].tolist() == [0.5, 2.5, 4] * 2
-    assert table["must"].tolist() == [0, 0, 0, 1, 0, 0] and plan.fixed.forced.tolist() == [0]
+    assert table["must"].tolist() == [0, 0, 0, 1, 0, 0] and plan.fixed.must_mine.tolist() == [0]
 
 
 def sub_blocks():

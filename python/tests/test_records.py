@@ -43,7 +43,7 @@ def called(place):
 READ = {
     "title",
     "grid",
-    "walls",
+    "slope_domains",
     "revenue_factors",
     "summary",
     "notes",
@@ -73,7 +73,7 @@ def test_each_part_of_a_record_is_of_its_kind_or_named(solved):
         if (
             place[0] not in READ
             or called(place) in TOLD
-            or (place[0] == "walls" and place[-1] not in ("walls", 0, "levels"))
+            or (place[0] == "slope_domains" and place[-1] not in ("slope_domains", 0, "precedence_benches"))
         ):
             continue
         for value in OTHERS:
@@ -164,7 +164,7 @@ def bends():
     yield ("codes",), ["id"]
     yield ("metals", 0, "column"), "rock"
     yield ("metals", 0, "name"), "gold"
-    yield ("walls",), []
+    yield ("slope_domains",), []
     yield ("revenue_factors",), [500]
     yield ("shells", "revenue_factors"), [500]
     yield ("shells", "solver", "version"), ""

@@ -203,12 +203,12 @@ def test_ways_are_the_sums_of_their_years(written):
     folder = written / "plan" / "schedule"
     rows_of, told = pd.read_csv(folder / "tables/schedule.csv").groupby("method"), read_json(folder / "schedule.json")
     for way in pd.read_csv(folder / "tables/methods.csv").itertuples():
-        dug = rows_of.get_group(way.method)
+        mined = rows_of.get_group(way.method)
         assert (way.tonnes, way.feed_tonnes) == (
-            pytest.approx(dug["total_tonnes"].sum()),
-            pytest.approx(dug["feed_tonnes"].sum()),
+            pytest.approx(mined["total_tonnes"].sum()),
+            pytest.approx(mined["feed_tonnes"].sum()),
         )
-        assert way.recovered_gold == pytest.approx(dug["recovered_gold"].sum(), abs=0.05)
+        assert way.recovered_gold == pytest.approx(mined["recovered_gold"].sum(), abs=0.05)
         assert (way.npv, way.years, way.unmined_tonnes) == tuple(
             told["methods"][way.method][name] for name in ("npv", "years", "unmined_tonnes")
         )

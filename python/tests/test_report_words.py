@@ -12,7 +12,7 @@ from pitplan.report.statements import risks
 
 RECORD = {
     "notes": ["WARNING: the pit reaches the edge", "a note"],
-    "verified": ["walls"],
+    "verified": ["slopes"],
     "summary": ["7 blocks", "more"],
     "files": {"tables/cutoffs.csv": ""},
     "shells": {"selected": 0.8},
@@ -89,7 +89,7 @@ def test_assumptions_of_processes_curves_and_periods(project):
 
 
 @pytest.mark.parametrize(
-    ("wall", "value"),
+    ("domain", "value"),
     [
         ("angle = 45", "45 degrees"),
         ('pattern = "1:9"', "pattern 1:9"),
@@ -100,9 +100,9 @@ def test_assumptions_of_processes_curves_and_periods(project):
         ),
     ],
 )
-def test_slopes_in_words(project, wall, value):
+def test_slopes_in_words(project, domain, value):
     text = PROJECT[PROJECT.index("[[slopes.domains]]") :].split("\n")[1]
-    assert said(project((f"{text}\n", f"{wall}\n")))["Slopes", "all domains"] == value
+    assert said(project((f"{text}\n", f"{domain}\n")))["Slopes", "all domains"] == value
 
 
 def test_risks_by_hand(project):

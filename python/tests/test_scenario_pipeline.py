@@ -16,7 +16,6 @@ from pitplan import PlanError, load, verify as verify_folder
 from pitplan.blockmodel import reblock, topography
 from pitplan.core.progress import silent
 from pitplan.economics import block_values
-from pitplan.pits import shell_tables
 from pitplan.solver import problem
 from pitplan.solver.choice import LIBRARY, PROGRAM
 from pitplan.studies.scenarios import pit_probability, prepare, realisations, worker
@@ -109,7 +108,7 @@ def demand_plans_of_their_own(path, table, grades, solver=None):
     for scenario in shared.scenarios:
         own = alone(path, scenario, table, grades)
         expected = own.shells().solution
-        cells = shell_tables.cells_of(own, expected)
+        cells = own.shells().cells
         assert shared.grid.as_json() == own.grid.as_json() and (shared.grid.rows == own.grid.rows).all()
 
         assert worker.solve(str(shared.folder), scenario.number).status == 0, scenario.label
@@ -118,12 +117,12 @@ def demand_plans_of_their_own(path, table, grades, solver=None):
         factors = np.array([0, *own.project.shells.revenue_factors])
         assert (factors[places] == cells.factor[own.grid.rows]).all(), scenario.label
         assert [Decimal(it) for it in answer["value_at_revenue_factor"]] == expected.worth.tolist()
-        amounts = shell_tables.amounts(own, cells)
+        amounts = own.shells().amounts
         pd.testing.assert_frame_equal(answer[list(amounts)].astype(float), amounts.astype(float), check_exact=True)
 
         plan = worker.plan_of(shared, scenario)
         found = problem.joined(worker.shells_of(shared, plan), plan.settled, plan.values)
-        assert (shell_tables.cells_of(plan, found).processed == cells.processed).all()
+        assert (pitplan.Shells(plan, found).cells.processed == cells.processed).all()
         demand_same_steps(plan, found, own, expected)
     return shared
 
@@ -228,7 +227,7 @@ def test_all_together_with_missing_blocks(plan_folder, tmp_path, solver):
     pitplan.gather(shared.folder, writing=UNVERIFIED)
     assert len(shared.frame) == 18
     said = {rule.name: rule.differences for rule in verify(shared.folder)}
-    assert {"reblocked", "as mined", "values", "fixed", "absent"} <= set(said) and not any(said.values())
+    assert {"reblocked", "as mined", "values", "constraints", "missing blocks"} <= set(said) and not any(said.values())
 
 
 def write_models(path, table):
@@ -495,4 +494,4 @@ def test_blocks_that_are_left_as_mined_wrongly_are_found(plan_folder, tmp_path, 
         assert worker.solve(str(shared.folder), scenario.number).status == 0
     monkeypatch.undo()
     pitplan.gather(shared.folder, writing=pitplan.Writing(verifies=False, figures=False))
-    assert "fixed" in {rule.name for rule in verify(shared.folder) if rule.differences}
+    assert "constraints" in {rule.name for rule in verify(shared.folder) if rule.differences}

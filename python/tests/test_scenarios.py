@@ -263,11 +263,11 @@ def test_a_changed_or_missing_folder_is_status_5(plan_folder):
     shared = prepared(plan_folder(pillar(), COLUMNS))
     assert worker.solve(str(shared.folder), 4).why.endswith("has no scenario 4")
     assert worker.solve(str(shared.folder / "nowhere"), 1).status == 5
-    needs = "solver/needs.npy" if shared.solver.by == "library" else "solver/mine.prec"
-    (shared.folder / needs).write_text("")
+    precedences = "solver/needs.npy" if shared.solver.by == "library" else "solver/mine.prec"
+    (shared.folder / precedences).write_text("")
     worker.shared_of.cache_clear()
     outcome = worker.solve(str(shared.folder), 1)
-    assert outcome.status == 5 and f"{needs}: has changed since scenarios.json was written" in outcome.why
+    assert outcome.status == 5 and f"{precedences}: has changed since scenarios.json was written" in outcome.why
 
 
 def test_a_worker_of_another_version_refuses_the_folder(plan_folder, monkeypatch):
@@ -323,7 +323,7 @@ def test_pictures_of_scenarios_are_those_that_the_project_asks_for(plan_folder, 
     solved_in_turn(shared)
     monkeypatch.setattr(maps, "write_sections", lambda likely, path: None)
     pitplan.gather(shared.folder)
-    assert maps.levels_to_show(shown[0]) == [2]
+    assert maps.LikelyScene(shown[0]).levels == [2]
     assert (
         b"<svg" in (shared.folder / "figures/spread.svg").read_bytes()[:500]
         and (shared.folder / "figures/spread.png").is_file()

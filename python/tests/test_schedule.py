@@ -20,7 +20,7 @@ from pitplan.config import keys
 from pitplan.config.project import of_data
 from pitplan.config.shells import ShellRules
 from pitplan.config.toml_text import Section
-from pitplan.pits import shell_tables
+from pitplan.pits.shells import selected_factor
 from pitplan.results.folder import read_folder
 from pitplan.results.rounding import shown
 from pitplan.solver.program import Solution
@@ -58,7 +58,7 @@ def solution_of(entry):
     return Solution(nothing, nothing, np.array(entry, dtype=float), b"")
 
 
-def dug(project, tonnes, grades, entry, box=BOX):
+def mined(project, tonnes, grades, entry, box=BOX):
     """The plan of a box and a made-up answer; all lists by id, from the top level down, row by row from the south-west."""
     columns, north, levels = box
 
@@ -147,7 +147,7 @@ capacities = st.tuples(
 
 def plan_of(mine, project):
     tonnes, grades, entry = mine
-    return dug(project, tonnes, [Decimal(grade) for grade in grades], entry)
+    return mined(project, tonnes, [Decimal(grade) for grade in grades], entry)
 
 
 @examples(15)
@@ -202,7 +202,7 @@ def pillar(project, *shells):
     wide = max(map(len, shells))
     cells = [cell for level in shells for cell in (*level, *[(0, 0)] * (wide - len(level)))]
     grades, entry = zip(*cells)
-    return dug(project, [100] * len(cells), grades, entry, (wide, 1, len(shells)))
+    return mined(project, [100] * len(cells), grades, entry, (wide, 1, len(shells)))
 
 
 def test_capacity_lost_while_stripping_is_not_caught_up():
@@ -313,7 +313,8 @@ def test_years_that_could_not_be_counted_are_refused():
         "project.toml: [shells] processing_capacity, mining_capacity: the largest shell would take at least 1,100 years, "
         "expected at most 1,000: check that the capacities are in tonnes per year"
     )
-    plan.project = replace(plan.project, shells=replace(plan.project.shells, processing_capacity=1.1))
+    faster = replace(plan.project, shells=replace(plan.project.shells, processing_capacity=1.1))
+    plan = replace(plan, project=faster)
     assert len(pitplan.Shells(plan, solution).years) == 2 * 2 * 1000
 
 
@@ -331,7 +332,7 @@ def test_the_file_of_years_stands_beside_the_shells(solved):
     table = pd.read_csv(folder / "tables/years.csv")
     assert "tables/years.csv" in read_folder(folder).record["files"]
     plan = pitplan.Plan.from_project(project)
-    expected = shown(shell_tables.years(plan, plan.shells().solution)).assign(discounting="end_of_year")
+    expected = shown(plan.shells().years).assign(discounting="end_of_year")
     pd.testing.assert_frame_equal(table, expected, check_dtype=False)
     shells = pd.read_csv(folder / "tables/shells.csv").set_index("revenue_factor")
     sums = table.groupby(["case", "revenue_factor"])["discounted_cash_flow"].sum()
@@ -352,8 +353,6 @@ def test_the_factor_to_show_is_that_of_the_best_mean_of_both_cases_up_to_1000():
         {"revenue_factor": [0.4, 0.7, 1.0, 1.3], "npv_best": [5.0, 9, 10, 99], "npv_worst": [5.0, 4, 2, 99]}
     )
     schedule = project_of().shells
-    assert shell_tables.selected_factor(table, schedule) == 0.7
-    assert (
-        shell_tables.selected_factor(table.assign(npv_best=[9.0, 9, 9, 9], npv_worst=[1.0, 2, 3, 4]), schedule) == 1.0
-    )
-    assert shell_tables.selected_factor(table, replace(schedule, selected=0.4)) == 0.4
+    assert selected_factor(table, schedule) == 0.7
+    assert selected_factor(table.assign(npv_best=[9.0, 9, 9, 9], npv_worst=[1.0, 2, 3, 4]), schedule) == 1.0
+    assert selected_factor(table, replace(schedule, selected=0.4)) == 0.4

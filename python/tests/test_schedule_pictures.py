@@ -43,9 +43,9 @@ def schedule():
     model, nothing = without_flows(problem, 3), np.zeros((0, 3))
     cumulative, cash = np.array([[1.0, 1, 1], [0.5, 1, 1], [0, 0.5, 1]]), np.array([300.0, 700, 300])
     optimum = FlowOptimum(cumulative, nothing, nothing, nothing, nothing, np.ones(3), 985.0, cash)
-    flows = {method: none_of(model, dug) for method, dug in shares.items()}
+    flows = {method: none_of(model, mined) for method, mined in shares.items()}
     material = SimpleNamespace(edges={})
-    made = pushback_schedule.YearlySchedule(pushbacks, material, model, flows, 1, optimum, 990.0)
+    made = pushback_schedule.PushbackSchedule(pushbacks, material, model, flows, 1, optimum, 990.0)
     feed = {"rule": [50, 100, 50], "lp": [25, 100, 75]}
     made.__dict__["material_flows"] = pd.concat(
         [rows_of(method, tonnes, shares[method]) for method, tonnes in feed.items()]
@@ -127,7 +127,7 @@ def test_metals_have_bars_of_what_is_recovered_and_a_line_of_the_head_grade(sche
 
 
 def test_curves_end_at_what_each_case_earns(schedule):
-    years = pushback_schedule.years(schedule)
+    years = schedule.years
     best = pd.DataFrame(
         {"case": "best", "revenue_factor": [1.0, 1.0, 0.9], "year": [1, 2, 1], "discounted_cash_flow": [700.0, 300, 5]}
     )
@@ -252,7 +252,7 @@ def test_the_page_has_a_colour_a_year(solved):
 
 @pytest.mark.parametrize(("bound", "told"), [(1234.56789, 1234.568), (np.inf, None), (None, None)])
 def test_a_bound_is_told_to_a_thousandth_where_there_is_one(schedule, bound, told):
-    assert pushback_schedule.record(replace(schedule, milp_upper_bound=bound))["milp_upper_bound"] == told
+    assert replace(schedule, milp_upper_bound=bound).record["milp_upper_bound"] == told
 
 
 @pytest.mark.parametrize("way", ["rule", "lp"])
@@ -270,7 +270,7 @@ def test_a_way_that_mines_nothing_is_drawn_with_a_sentence(schedule, way):
     assert [text.get_text() for text in legend.get_texts()][:2] == ["mill", "waste"]
     axes = schedule_figures.plot_gantt(empty, Figure().subplots(1, 2))
     assert "nothing is mined" in [text.get_text() for text in axes[place].texts]
-    (note,) = [note for note in pushback_schedule.notes(empty) if "mines nothing" in note]
+    (note,) = [note for note in empty.notes if "mines nothing" in note]
     named = {"rule": "rule", "lp": "linear programme"}[way]
     # The bound is above 0.
     warns = "WARNING: " if empty.shown == way else ""

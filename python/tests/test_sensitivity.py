@@ -305,7 +305,7 @@ def test_an_increment_that_is_no_share_is_named(small, share):
 
 
 def test_costs_by_elevation_and_walls_by_azimuth(plan_folder, tmp_path):
-    walls = ("[slopes]\nprecedence_benches = 3\n", "[slopes]\nprecedence_benches = 3\n"), (
+    domains = ("[slopes]\nprecedence_benches = 3\n", "[slopes]\nprecedence_benches = 3\n"), (
         'pattern = "1:5"',
         "azimuths = [[0, 40], [180, 50]]",
     )
@@ -316,7 +316,7 @@ def test_costs_by_elevation_and_walls_by_azimuth(plan_folder, tmp_path):
     path = plan_folder(
         rows(9, 8, 4, **RICH),
         PROJECT + '\n[sensitivity]\nchanges = [0.1]\nparameters = ["mining_cost", "slopes"]\n',
-        *walls,
+        *domains,
         *money,
     )
     table = pitplan.write_sensitivity(path)
@@ -608,7 +608,7 @@ def test_a_block_that_is_left_standing_is_found(copied):
     said["entry"][np.flatnonzero(said["entry"])[0]] = 0
     np.savez_compressed(path, **said)
     found = wrong(copied)
-    assert found["walls"][0].startswith("mining_cost -0.2: ") and "shells" in found
+    assert found["slopes"][0].startswith("mining_cost -0.2: ") and "shells" in found
 
 
 def test_walls_of_patterns_that_move_not_are_as_given(plan_folder):

@@ -50,8 +50,8 @@ def test_each_case_is_the_project_with_the_key_changed(path):
 def test_what_slopes_change_has_no_kept_amounts(path):
     pitplan.write_sensitivity(path, writing=UNVERIFIED)
     cases = pd.read_csv(path.parent / "plan" / "sensitivity" / "tables" / "sensitivity.csv")
-    is_of_walls = cases["parameter"] == "slopes.domains.1.angle"
-    assert cases["kept_npv_best"].isna().tolist() == is_of_walls.tolist()
+    is_of_domains = cases["parameter"] == "slopes.domains.1.angle"
+    assert cases["kept_npv_best"].isna().tolist() == is_of_domains.tolist()
 
 
 def test_a_key_that_is_changed_otherwise_is_found(path, monkeypatch):

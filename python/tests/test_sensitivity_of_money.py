@@ -70,14 +70,14 @@ def test_recoveries_by_grade_end_at_all():
 
 def test_walls_of_benches(plan_folder):
     """Both looks agree of walls that are a fifth steeper and a tenth flatter than the benches' own."""
-    wall = (
+    domain = (
         '[[slopes.domains]]\npattern = "1:5"',
         "[[slopes.domains]]\nbench = { height = 20, face_angle = 65, berm_width = 9 }",
     )
     table = rows(9, 9, 3, cu=lambda i, j, k: 30 if (i, j, k) == (4, 4, 0) else 0)
-    found = pitplan.write_sensitivity(plan_folder(table, PROJECT + RULES, wall, BY)).set_index(["parameter", "change"])[
-        "blocks"
-    ]
+    found = pitplan.write_sensitivity(plan_folder(table, PROJECT + RULES, domain, BY)).set_index(
+        ["parameter", "change"]
+    )["blocks"]
     assert found[("slopes", 0.2)] < found[("", 0.0)] <= found[("slopes", -0.1)]
 
 

@@ -3,11 +3,11 @@
 
 import numpy as np
 import pytest
-from helpers.benches import THREE, benches_of, demand_diggable, pits, problem_of, random_benches
+from helpers.benches import THREE, benches_of, demand_minable, pits, problem_of, random_benches
 from hypothesis import given, strategies as st
 
 from pitplan import PlanError
-from pitplan.scheduling.bench_sequencing import Limits, Sequence, by_lead, by_rule, dig, leads
+from pitplan.scheduling.bench_sequencing import Limits, Sequence, by_lead, by_rule, leads, mine_in_order
 
 
 def shares_of(rows):
@@ -52,13 +52,15 @@ def test_three_benches_by_hand():
     ],
 )
 def test_each_limit_by_hand(limits, shares):
-    assert dig(problem_of(benches_of(*THREE), limits), by_lead(benches_of(*THREE), 2)).tolist() == shares_of(shares)
+    assert mine_in_order(problem_of(benches_of(*THREE), limits), by_lead(benches_of(*THREE), 2)).tolist() == shares_of(
+        shares
+    )
 
 
 def test_the_last_year_that_is_allowed():
     benches = benches_of(*THREE)
     limits = Limits({"feed_tonnes": 100, "total_tonnes": 80})
-    assert dig(problem_of(benches, limits), by_lead(benches, 2), years=2).tolist() == shares_of(
+    assert mine_in_order(problem_of(benches, limits), by_lead(benches, 2), years=2).tolist() == shares_of(
         [[0.8, 0.2], [0, 0.6], [0, 0]]
     )
 
@@ -69,14 +71,14 @@ def test_what_is_left_over_is_used_where_an_order_is_eager():
     limits = Limits({"feed_tonnes": 100, "total_tonnes": 150})
     order = by_lead(benches, 2).order
     assert order.tolist() == [0, 1, 2, 3]
-    assert dig(problem_of(benches, limits), Sequence(order)).tolist() == shares_of(
+    assert mine_in_order(problem_of(benches, limits), Sequence(order)).tolist() == shares_of(
         [[1, 0, 0], [0, 1, 0], [0, 0.5, 0.5], [0, 0, 1]]
     )
-    assert dig(problem_of(benches, limits), Sequence(order, eager=True)).tolist() == shares_of(
+    assert mine_in_order(problem_of(benches, limits), Sequence(order, eager=True)).tolist() == shares_of(
         [[1, 0, 0], [0, 1, 0], [0.5, 0.5, 0], [0, 0, 1]]
     )
     late = Sequence(order, np.array([1, 1, 2, 1]), eager=True)
-    assert dig(problem_of(benches, limits), late).tolist() == shares_of(
+    assert mine_in_order(problem_of(benches, limits), late).tolist() == shares_of(
         [[1, 0, 0], [0, 1, 0], [0, 0.5, 0.5], [0, 0, 1]]
     )
 
@@ -92,7 +94,7 @@ def test_no_lead_is_bench_by_bench_and_the_greatest_pushback_by_pushback():
 
 def test_limits_that_take_a_thousand_years_are_refused():
     with pytest.raises(PlanError, match=r"\[schedule\] the pit would take more than 1,000 years"):
-        dig(problem_of(benches_of(*THREE), Limits({"feed_tonnes": 0.01})), by_lead(benches_of(*THREE), 0))
+        mine_in_order(problem_of(benches_of(*THREE), Limits({"feed_tonnes": 0.01})), by_lead(benches_of(*THREE), 0))
 
 
 limits = st.builds(
@@ -108,8 +110,8 @@ limits = st.builds(
 def test_what_is_dug_can_be_dug_and_all_is(pit, limits, lag, eager):
     benches = random_benches(pit, lag)
     for lead in leads(benches):
-        shares = dig(problem_of(benches, limits), Sequence(by_lead(benches, lead).order, eager=eager))
-        demand_diggable(benches, limits, shares)
+        shares = mine_in_order(problem_of(benches, limits), Sequence(by_lead(benches, lead).order, eager=eager))
+        demand_minable(benches, limits, shares)
         assert shares.sum(axis=1) == pytest.approx(np.ones(len(benches)))
         assert shares[:, -1].any()
 
@@ -118,11 +120,11 @@ def test_what_is_dug_can_be_dug_and_all_is(pit, limits, lag, eager):
 def test_the_rule_is_the_lead_that_earns_most(pit, limits, lag):
     benches = random_benches(pit, lag)
     shares, lead = by_rule(problem_of(benches, limits))
-    demand_diggable(benches, limits, shares)
+    demand_minable(benches, limits, shares)
     years = np.arange(1, 1000)
     values = {}
     for other in leads(benches):
-        made = dig(problem_of(benches, limits), by_lead(benches, other))
+        made = mine_in_order(problem_of(benches, limits), by_lead(benches, other))
         values[other] = sum(
             float(benches.of("cash_flow") @ made[:, year]) / 1.1 ** years[year] for year in range(made.shape[1])
         )

@@ -15,7 +15,6 @@ import pitplan
 from pitplan.config import keys
 from pitplan.config.geometry import Slopes
 from pitplan.config.toml_text import Section
-from pitplan.pits import shell_tables
 
 
 @SMALL
@@ -30,7 +29,7 @@ def test_shells_are_the_best_of_all_closed_sets(tmp_path, by_id):
         worth, pit = best_by_trying(CLOSED, [max(gain, Decimal(0)) - 200 for gain in gains])
         assert solution.worth[factor] == worth
         assert set(np.flatnonzero((solution.entry[:9] > 0) & (solution.entry[:9] <= factor))) == pit
-        processed = shell_tables.cells_of(plan, solution).processed
+        processed = pitplan.Shells(plan, solution).cells.processed
         expected = {block for block in pit if gains[block] > 0}
         assert set(np.flatnonzero((processed > 0) & (processed <= factor))) == expected
 
@@ -55,13 +54,13 @@ def test_a_fixed_cutoff_is_the_best_with_ore_settled_at_1000(tmp_path, by_id):
     st.sampled_from(["1:5", "1:9", "40"]),
     st.sampled_from(["per_revenue_factor", "base_price"]),
 )
-def test_trimmed_needs_give_the_same_shells(seed, walls, cutoff):
+def test_trimmed_needs_give_the_same_shells(seed, domains, cutoff):
     rng = np.random.default_rng(seed)
     table = rows(9, 8, 5, tonnes=lambda i, j, k: 100 if k < 4 or i % 3 else 0)
     table["cu"] = np.where(rng.random(len(table)) < 0.06, rng.random(len(table)).round(3) * 8, 0.0)
     project = project_of(Path("."), cutoff=cutoff)
-    wall = {"angle": Decimal(walls)} if walls.isdigit() else {"pattern": walls}
-    slopes = keys.read(Slopes, Section("test", "slopes", {"precedence_benches": 3, "domains": [wall]}))
+    domain = {"angle": Decimal(domains)} if domains.isdigit() else {"pattern": domains}
+    slopes = keys.read(Slopes, Section("test", "slopes", {"precedence_benches": 3, "domains": [domain]}))
     plan = pitplan.Plan.from_project(replace(project, slopes=slopes), table=table)
     trimmed = plan.shells().solution
     assert plan.used.sum() < plan.grid.count
@@ -115,7 +114,7 @@ def test_best_and_worst_case_by_hand(plan_folder):
 def test_pits_that_touch_the_model_are_warned_of(plan_folder):
     table = rows(5, 5, 3, cu=lambda i, j, k: 8 if (i, j, k) == (1, 2, 0) else 0)
     plan = pitplan.Plan.from_project(plan_folder(table))
-    notes = shell_tables.edge_notes(plan, plan.shells().solution)
+    notes = plan.shells().notes
     touched = [note.split(" of the block model")[0] for note in notes]
     assert touched == [
         f"WARNING: the largest shell reaches the {side}" for side in ("west side", "south side", "north side", "floor")
@@ -128,8 +127,7 @@ def test_pits_inside_the_model_have_no_word_of_its_edge(plan_folder):
     """Precedences of blocks near the edge leave the model, and no shell mines them."""
     table = rows(9, 9, 4, cu=lambda i, j, k: 8 if (i, j, k) == (4, 4, 2) else 0)
     plan = pitplan.Plan.from_project(plan_folder(table))
-    solution = plan.shells().solution
-    assert shell_tables.edge_notes(plan, solution) == []
+    assert plan.shells().notes == []
     assert not [note for note in plan.notes if "edge" in note or "leave the block model" in note]
 
 

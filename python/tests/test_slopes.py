@@ -13,11 +13,11 @@ from hypothesis import given, strategies as st
 
 import pitplan
 from pitplan import PlanError
-from pitplan.config.geometry import Slopes, Wall
+from pitplan.config.geometry import SlopeDomain, Slopes
 from pitplan.slopes import slope_patterns
 from pitplan.solver import mine_files
 from planaudit.ground import slopes as audited
-from planaudit.inputs.project_file import wall_of
+from planaudit.inputs.project_file import domain_of
 
 CUBE, FLAT = (10.0, 10.0, 10.0), (20.0, 20.0, 15.0)
 
@@ -28,10 +28,10 @@ def pairs_of(path):
 
 def closure(pairs, count):
     """All that each block needs, directly or through others."""
-    needs = {block: set() for block in range(count)}
+    precedences = {block: set() for block in range(count)}
     for block, needed in sorted(pairs):  # needed blocks have lesser numbers, so theirs are whole
-        needs[block] |= {needed} | needs[needed]
-    return needs
+        precedences[block] |= {needed} | precedences[needed]
+    return precedences
 
 
 def made_mine(tmp_path, blocks, pattern):
@@ -160,9 +160,9 @@ def test_angles_between_azimuths_go_by_the_cotangent():
 
 
 def test_never_steeper_than_asked():
-    wall = Wall(azimuths=((0.0, 48.0), (90.0, 42.0), (180.0, 48.0), (270.0, 45.0)))
-    free = slope_patterns.pattern_of(wall, FLAT, Slopes(6, False, (wall,)))
-    bound = slope_patterns.pattern_of(wall, FLAT, Slopes(6, True, (wall,)))
+    domain = SlopeDomain(azimuths=((0.0, 48.0), (90.0, 42.0), (180.0, 48.0), (270.0, 45.0)))
+    free = slope_patterns.pattern_of(domain, FLAT, Slopes(6, False, (domain,)))
+    bound = slope_patterns.pattern_of(domain, FLAT, Slopes(6, True, (domain,)))
     assert free.errors.max() > 0.5 and free.widened == 1
     assert bound.errors.max() <= 1e-6 and bound.widened > 1
     inside = reached(free.offsets, 6)
@@ -172,18 +172,19 @@ def test_never_steeper_than_asked():
 WALL = st.one_of(
     st.tuples(st.tuples(st.just(0.0), st.integers(25, 75).map(float))),
     st.tuples(*[st.integers(35, 60).map(float)] * 4).map(lambda angles: tuple(zip((0.0, 90.0, 180.0, 270.0), angles))),
-).map(lambda angles: Wall(azimuths=angles))
+).map(lambda angles: SlopeDomain(azimuths=angles))
 
 
 @examples(8)
 @given(WALL, st.sampled_from([CUBE, FLAT, (5.0, 10.0, 4.0)]))
-def test_levels_left_out_are_the_fewest_that_hold_the_walls_to_half_a_degree(wall, size):
-    chosen = slope_patterns.pattern_of(wall, size, Slopes(None, False, (wall,)))
+def test_levels_left_out_are_the_fewest_that_hold_the_walls_to_half_a_degree(domain, size):
+    chosen = slope_patterns.pattern_of(domain, size, Slopes(None, False, (domain,)))
     given_ = [
-        slope_patterns.pattern_of(wall, size, Slopes(levels, False, (wall,))) for levels in range(1, chosen.levels + 1)
+        slope_patterns.pattern_of(domain, size, Slopes(levels, False, (domain,)))
+        for levels in range(1, chosen.levels + 1)
     ]
     assert chosen.offsets == given_[-1].offsets
-    more = slope_patterns.cone(wall.angles, size, chosen.levels + 1)
+    more = slope_patterns.cone(domain.angles, size, chosen.levels + 1)
     is_cut = chosen.wanted is not None and len(slope_patterns.offsets_of(more)) > 250 >= len(chosen.offsets)
     assert chosen.errors.max() <= 0.5 or chosen.levels == 40 or is_cut
     assert all(fewer.errors.max() > 0.5 for fewer in given_[:-1])
@@ -195,17 +196,17 @@ def test_levels_left_out_by_hand():
     Of the corners (1/10, 0) and (1/15, 1/15) the line lies 0.0894 from the block, which is 84.9 degrees and so 0.6 too
     steep; with (2/23, 1/23) between them the lines lie 0.0958 and 0.0941 from it, 84.5 and 84.6 degrees.
     """
-    wall = Wall(azimuths=((0.0, math.degrees(math.atan(10))),))
-    pattern = slope_patterns.pattern_of(wall, CUBE, Slopes(None, False, (wall,)))
+    domain = SlopeDomain(azimuths=((0.0, math.degrees(math.atan(10))),))
+    pattern = slope_patterns.pattern_of(domain, CUBE, Slopes(None, False, (domain,)))
     assert pattern.levels == 23 and pattern.errors.max() == pytest.approx(0.34, abs=0.005)
-    few = slope_patterns.pattern_of(wall, CUBE, Slopes(22, False, (wall,)))
+    few = slope_patterns.pattern_of(domain, CUBE, Slopes(22, False, (domain,)))
     assert few.errors.max() == pytest.approx(0.60, abs=0.005)
 
 
 def test_forty_levels_are_the_end_and_the_walls_say_what_came_out():
     """Blocks of 100 x 100 x 1 m: 45 degrees lead out by 0.4 blocks in 40 levels, so nothing but the column is dug."""
-    wall = Wall(azimuths=((0.0, 45.0),))
-    pattern = slope_patterns.pattern_of(wall, (100.0, 100.0, 1.0), Slopes(None, False, (wall,)))
+    domain = SlopeDomain(azimuths=((0.0, 45.0),))
+    pattern = slope_patterns.pattern_of(domain, (100.0, 100.0, 1.0), Slopes(None, False, (domain,)))
     assert pattern.levels == 40 and pattern.offsets == ((0, 0, 1),)
     words = (
         "1 precedences per block over 40 benches, slopes of 90.0 to 90.0 degrees, slope error +45.0 to +45.0 degrees"
@@ -214,8 +215,8 @@ def test_forty_levels_are_the_end_and_the_walls_say_what_came_out():
 
 
 def test_never_steeper_widens_the_cone_of_the_levels_that_are_chosen():
-    wall = Wall(azimuths=((0.0, 45.0),))
-    free, bound = (slope_patterns.pattern_of(wall, FLAT, Slopes(None, never, (wall,))) for never in (False, True))
+    domain = SlopeDomain(azimuths=((0.0, 45.0),))
+    free, bound = (slope_patterns.pattern_of(domain, FLAT, Slopes(None, never, (domain,))) for never in (False, True))
     assert bound.levels == free.levels and bound.errors.max() <= 1e-6 < free.errors.max()
 
 
@@ -226,7 +227,9 @@ def test_each_wall_entry_takes_its_own_levels_and_the_record_names_them(plan_fol
     plan = pitplan.Plan.from_project(
         plan_folder(table, PROJECT, ("precedence_benches = 3\n", ""), ('pattern = "1:5"', entries))
     )
-    assert [walls["levels"] for walls in plan.record(mine_files.write(plan, tmp_path))["walls"]] == [23, 1]
+    assert [
+        domain["precedence_benches"] for domain in plan.record(mine_files.write(plan, tmp_path))["slope_domains"]
+    ] == [23, 1]
     assert any("precedences per block over 23 benches, slopes" in note for note in plan.notes)
     assert any("9 precedences per block over 1 bench, slopes" in note for note in plan.notes)
 
@@ -235,7 +238,7 @@ def test_azimuth_90_is_the_east_wall(plan_folder):
     """Flat in the east, steep in the west: the needs of a block lie to its east."""
     angles = "azimuths = [[0, 60], [90, 30], [180, 60], [270, 80]]"
     plan = pitplan.Plan.from_project(plan_folder(rows(5, 5, 3), PROJECT, ('pattern = "1:5"', angles)))
-    offsets = plan.walls.patterns[0].offsets
+    offsets = plan.domains.patterns[0].offsets
     assert (1, 0, 1) in offsets and (-1, 0, 1) not in offsets
     assert max(x for x, _, _ in offsets) > -min(x for x, _, _ in offsets)
 
@@ -248,13 +251,13 @@ def test_dip_directions_are_the_opposite_bearings(plan_folder, turn):
     grid = grid.assign(
         x=grid["x"] * np.cos(angle) + grid["y"] * np.sin(angle), y=grid["y"] * np.cos(angle) - grid["x"] * np.sin(angle)
     )
-    by_wall = "azimuths = [[0, 60], [90.5, 30], [180, 60], [270, 80]]"
+    by_domain = "azimuths = [[0, 60], [90.5, 30], [180, 60], [270, 80]]"
     by_dip = 'azimuths = [[180, 60], [270.5, 30], [0, 60], [90, 80]]\nazimuth_of = "dip"'
     found = [
-        pitplan.Plan.from_project(plan_folder(grid, PROJECT, ('pattern = "1:5"', text))) for text in (by_wall, by_dip)
+        pitplan.Plan.from_project(plan_folder(grid, PROJECT, ('pattern = "1:5"', text))) for text in (by_domain, by_dip)
     ]
-    walls, dips = (plan.walls.patterns[0] for plan in found)
-    assert np.array_equal(walls.offsets, dips.offsets) and np.array_equal(walls.angles, dips.angles)
+    domains, dips = (plan.domains.patterns[0] for plan in found)
+    assert np.array_equal(domains.offsets, dips.offsets) and np.array_equal(domains.angles, dips.angles)
     assert "60 at 0, 80 at 90, 60 at 180, 30 at 270.5 (dip directions)" in dips.name
 
 
@@ -266,8 +269,8 @@ def test_azimuth_of_needs_azimuths(plan_folder):
 
 def test_each_region_has_its_walls(plan_folder, tmp_path):
     table = rows(4, 3, 2, region=lambda i, j, k: "soft" if i < 2 else "hard")
-    walls = 'domain = "hard"\npattern = "1:5"\n[[slopes.domains]]\ndomain = ["soft", "clay"]\npattern = "1:9"'
-    plan = pitplan.Plan.from_project(plan_folder(table, PROJECT, ('pattern = "1:5"', walls)))
+    domains = 'domain = "hard"\npattern = "1:5"\n[[slopes.domains]]\ndomain = ["soft", "clay"]\npattern = "1:9"'
+    plan = pitplan.Plan.from_project(plan_folder(table, PROJECT, ('pattern = "1:5"', domains)))
     plan.used[:] = True
     mine_files.write(plan, tmp_path)
     pairs = pairs_of(tmp_path / mine_files.PREC)
@@ -278,26 +281,26 @@ def test_each_region_has_its_walls(plan_folder, tmp_path):
 
 def test_air_takes_the_walls_of_the_ground_below(plan_folder):
     table = rows(3, 3, 3, region=lambda i, j, k: "a" if i == 0 else "b")
-    walls = 'domain = "a"\npattern = "1:5"\n[[slopes.domains]]\ndomain = "b"\npattern = "1:9"'
+    domains = 'domain = "a"\npattern = "1:5"\n[[slopes.domains]]\ndomain = "b"\npattern = "1:9"'
     plan = pitplan.Plan.from_project(
         plan_folder(
-            table[table["z"] < 20], PROJECT, ('[[slopes.domains]]\npattern = "1:5"', f"[[slopes.domains]]\n{walls}")
+            table[table["z"] < 20], PROJECT, ('[[slopes.domains]]\npattern = "1:5"', f"[[slopes.domains]]\n{domains}")
         )
     )
     assert plan.grid.shape == (2, 3, 3)
     top = table[(table["z"] < 20) | ((table["x"] == 5) & (table["y"] == 5))]
     plan = pitplan.Plan.from_project(
-        plan_folder(top, PROJECT, ('[[slopes.domains]]\npattern = "1:5"', f"[[slopes.domains]]\n{walls}"))
+        plan_folder(top, PROJECT, ('[[slopes.domains]]\npattern = "1:5"', f"[[slopes.domains]]\n{domains}"))
     )
-    assert plan.walls.code[:9].tolist() == [0, 1, 1] * 3
+    assert plan.domains.code[:9].tolist() == [0, 1, 1] * 3
 
 
 def test_a_region_without_walls_is_refused(plan_folder):
-    walls = 'domain = "2"\npattern = "1:5"'
+    domains = 'domain = "2"\npattern = "1:5"'
     with pytest.raises(
         PlanError, match=r"\[slopes\] no \[\[slopes.domains\]\] is for domain 1, and none applies to all other domains"
     ):
-        pitplan.Plan.from_project(plan_folder(rows(2, 2, 2), PROJECT, ('pattern = "1:5"', walls)))
+        pitplan.Plan.from_project(plan_folder(rows(2, 2, 2), PROJECT, ('pattern = "1:5"', domains)))
 
 
 def test_walls_for_regions_alone_need_a_region_column(plan_folder):
@@ -311,11 +314,11 @@ def test_walls_for_regions_alone_need_a_region_column(plan_folder):
 
 
 def test_a_list_that_cannot_hold_a_flat_wall_is_refused():
-    wall = Wall(azimuths=((0.0, 1.0),))
+    domain = SlopeDomain(azimuths=((0.0, 1.0),))
     with pytest.raises(
         PlanError, match="with 1 benches of these blocks no slope is flat enough: increase precedence_benches"
     ):
-        slope_patterns.pattern_of(wall, (10.0, 10.0, 0.001), Slopes(1, True, (wall,)))
+        slope_patterns.pattern_of(domain, (10.0, 10.0, 0.001), Slopes(1, True, (domain,)))
 
 
 def test_needs_that_leave_the_grid_at_its_sides_are_counted(plan_folder, tmp_path):
@@ -323,7 +326,7 @@ def test_needs_that_leave_the_grid_at_its_sides_are_counted(plan_folder, tmp_pat
     plan.used[:] = True
     # Of the nine lower blocks the four corners lack two neighbours each, and the four edges one.
     record = plan.record(mine_files.write(plan, tmp_path))
-    assert record["needs"]["clipped_at_the_sides"] == 4 * 2 + 4 * 1
+    assert record["precedences"]["clipped_at_the_sides"] == 4 * 2 + 4 * 1
     # Only a shell that reaches the edge is warned of.
     assert not [note for note in record["notes"] if "leave" in note or "unconstrained" in note]
 
@@ -356,7 +359,7 @@ def test_no_more_than_forty_levels_are_chosen(plan_folder):
     plan = pitplan.Plan.from_project(
         plan_folder(rows(2, 2, 2), PROJECT, ("precedence_benches = 3\n", ""), ('pattern = "1:5"', "angle = 88.6"))
     )
-    assert plan.walls.patterns[0].levels == 40
+    assert plan.domains.patterns[0].levels == 40
 
 
 def test_the_rim_of_a_level_is_the_first_and_the_last_cell_of_each_row():
@@ -404,19 +407,19 @@ WANTED = (
 )
 def test_a_block_has_at_most_250_precedences_by_default(angle, benches, precedences, error, wanted):
     """One bench more would have more than 250, by the count of the audit too. The note has the error and what would keep half a degree."""
-    wall = Wall(azimuths=((0.0, float(angle)),))
-    pattern = slope_patterns.pattern_of(wall, FLAT, Slopes(None, False, (wall,)))
+    domain = SlopeDomain(azimuths=((0.0, float(angle)),))
+    pattern = slope_patterns.pattern_of(domain, FLAT, Slopes(None, False, (domain,)))
     assert (pattern.levels, len(pattern.offsets)) == (benches, precedences)
     assert pattern.errors.max() == pytest.approx(error, abs=0.05) and f"slope error +{error}" in pattern.sentence()
     assert pattern.sentence().endswith("is steeper)" if wanted is None else f"; {WANTED.format(*wanted)}")
     for levels in (benches, benches + 1):
-        cells = slope_patterns.cone(wall.angles, FLAT, levels)
-        assert audited.precedences(wall_of({"angle": angle}), FLAT, levels, 0.0) == len(
+        cells = slope_patterns.cone(domain.angles, FLAT, levels)
+        assert audited.precedences(domain_of({"angle": angle}), FLAT, levels, 0.0) == len(
             slope_patterns.offsets_of(cells)
         )
     assert wanted is None or len(slope_patterns.offsets_of(cells)) > slope_patterns.MOST_CHOSEN
     if wanted is not None:
-        whole = slope_patterns.pattern_of(wall, FLAT, Slopes(wanted[1], False, (wall,)))
+        whole = slope_patterns.pattern_of(domain, FLAT, Slopes(wanted[1], False, (domain,)))
         assert len(whole.offsets) == wanted[0] and whole.errors.max() <= 0.5 and whole.wanted is None
 
 
@@ -430,7 +433,7 @@ def test_the_audit_finds_fewer_benches_than_the_budget_allows(plan_folder, monke
     pitplan.write_shells(path, path.parent / "plan")
     monkeypatch.setattr(slope_patterns, "MOST_CHOSEN", 100)
     with pytest.raises(
-        PlanError, match="levels: domain entry 1: over 7 benches the slope is 2.08 degrees steeper than its angle"
+        PlanError, match="slope error: domain entry 1: over 7 benches the slope is 2.08 degrees steeper than its angle"
     ):
         pitplan.write_shells(path, path.parent / "plan")
 

@@ -9,18 +9,8 @@ from conftest import PROJECT, rows
 import pitplan
 from pitplan import PlanError
 from pitplan.config.project import load
-from pitplan.figures import plans_sections
-from pitplan.pits import shell_tables
 
 ORE = {"cu": lambda i, j, k: {(3, 3, 1): 6, (4, 3, 1): 2.5, (3, 4, 0): 9}.get((i, j, k), 0)}
-PAIRS = {
-    "blocks": shell_tables.blocks,
-    "shells": shell_tables.shells,
-    "years": shell_tables.years,
-    "Shells": pitplan.Shells,
-    "edge_notes": shell_tables.edge_notes,
-    "scene_of": plans_sections.scene_of,
-}
 FIXED = ("[shells]", '[constraints]\nmust_mine = "due"\n[shells]')
 OTHERS = {
     "price": (("price = 8000", "price = 9000"),),
@@ -44,14 +34,13 @@ def mine(plan_folder):
     return prepare
 
 
-@pytest.mark.parametrize("name", PAIRS)
-def test_each_function_refuses_a_solution_of_another_plan(mine, name):
+def test_shells_refuse_a_solution_of_another_plan(mine):
     plan, other = mine(), mine(("price = 8000", "price = 9000"))
-    PAIRS[name](plan, plan.shells().solution)
+    pitplan.Shells(plan, plan.shells().solution)
     with pytest.raises(
         PlanError, match=r"blocks.csv: the solution is of another plan \(.*\): use the one from plan.shells\(\)"
     ):
-        PAIRS[name](plan, other.shells().solution)
+        pitplan.Shells(plan, other.shells().solution)
 
 
 @pytest.mark.parametrize("change", OTHERS)
@@ -91,6 +80,6 @@ def test_pushbacks_have_a_solution_of_their_own_factors(plan_folder):
     path = plan_folder(rows(8, 7, 3, **ORE), PROJECT + "[pushbacks]\ncount = 2\n")
     whole = pitplan.Plan.from_project(load(path))
     pushbacks = pitplan.pushbacks.nested.divide(whole)
-    assert len(pitplan.Shells(pushbacks.plan, pushbacks.solution).table) != len(whole.project.shells.revenue_factors)
+    assert len(pushbacks.shells.table) != len(whole.project.shells.revenue_factors)
     with pytest.raises(PlanError, match="the solution is of another plan"):
-        pitplan.Shells(whole, pushbacks.solution).table
+        pitplan.Shells(whole, pushbacks.shells.solution)

@@ -12,13 +12,12 @@ from helpers.verified import UNVERIFIED
 import pitplan
 from pitplan import PlanError, verify
 from pitplan.config.geometry import Bench
-from pitplan.pits import shell_tables
 from pitplan.slopes import slope_patterns
 
 WALL = '[[slopes.domains]]\npattern = "1:5"'
 
 
-def walls(text):
+def domains(text):
     return (WALL, f"[[slopes.domains]]\n{text}")
 
 
@@ -26,10 +25,10 @@ def deposit():
     return rows(11, 11, 5, cu=lambda i, j, k: 30 if (i, j, k) == (5, 5, 0) else 0, region=lambda i, j, k: "12"[i > 6])
 
 
-def dug(path):
+def mined(path):
     """The places, by columns, rows and levels from the floor, that are dug at revenue factor 1.00."""
     plan = pitplan.Plan.from_project(path)
-    inside = np.flatnonzero(shell_tables.cells_of(plan, plan.shells().solution).factor[:] == 0.5)
+    inside = np.flatnonzero(plan.shells().cells.factor == 0.5)
     column, row, level = plan.grid.indices(inside)
     return set(zip(column.tolist(), row.tolist(), (4 - level).tolist()))
 
@@ -53,21 +52,21 @@ KNIGHT = [(0, 0, 1), (2, 1, 1)]
 
 @pytest.mark.parametrize("steps", [LEANING, KNIGHT, [(0, 0, 1)], [(0, 0, 1), (0, 0, 2), (1, 0, 2), (1, 0, 3)]])
 def test_steps_are_those_of_the_project(plan_folder, steps):
-    path = plan_folder(deposit(), PROJECT, walls(f"offsets = {[list(step) for step in steps]}"))
-    assert dug(path) == reached(lambda i: steps)
+    path = plan_folder(deposit(), PROJECT, domains(f"offsets = {[list(step) for step in steps]}"))
+    assert mined(path) == reached(lambda i: steps)
 
 
 def test_steps_by_region(plan_folder):
     text = f'domain = "1"\noffsets = {[list(step) for step in LEANING]}\n[[slopes.domains]]\ndomain = "2"\noffsets = {[list(step) for step in KNIGHT]}'
-    assert dug(plan_folder(deposit(), PROJECT, walls(text))) == reached(lambda i: KNIGHT if i > 6 else LEANING)
+    assert mined(plan_folder(deposit(), PROJECT, domains(text))) == reached(lambda i: KNIGHT if i > 6 else LEANING)
 
 
 def test_what_is_told_of_steps(plan_folder):
     """To the east by a block of 10 m a level of 10 m: 45 degrees, and upright to the west."""
     plan = pitplan.Plan.from_project(
-        plan_folder(deposit(), PROJECT, walls("offsets = [[0, 0, 1], [1, 0, 1], [1, 0, 2]]"))
+        plan_folder(deposit(), PROJECT, domains("offsets = [[0, 0, 1], [1, 0, 1], [1, 0, 2]]"))
     )
-    (pattern,) = plan.walls.patterns
+    (pattern,) = plan.domains.patterns
     assert (pattern.angles[90], pattern.angles[270]) == pytest.approx((45, 90))
     assert (
         pattern.sentence()
@@ -88,8 +87,10 @@ BENCH = "bench = { height = 20, face_angle = 63.43494882292201, berm_width = 10 
 
 def test_benches_are_as_their_overall_angle(plan_folder):
     """Faces of 2 to 1: 10 m back for 20 up, and as much of a berm, are 45 degrees."""
-    plans = [pitplan.Plan.from_project(plan_folder(deposit(), PROJECT, walls(text))) for text in (BENCH, "angle = 45")]
-    assert plans[0].walls.patterns[0].offsets == plans[1].walls.patterns[0].offsets
+    plans = [
+        pitplan.Plan.from_project(plan_folder(deposit(), PROJECT, domains(text))) for text in (BENCH, "angle = 45")
+    ]
+    assert plans[0].domains.patterns[0].offsets == plans[1].domains.patterns[0].offsets
     note = "other domains, benches of 20 m, face angle 63.4349 degrees, berms of 10 m, 45 degrees: "
     assert any(said.startswith(note) for said in plans[0].notes)
 
@@ -113,7 +114,7 @@ def test_benches_are_as_their_overall_angle(plan_folder):
 )
 def test_what_is_wrong_is_named(plan_folder, text, said):
     with pytest.raises(PlanError, match=said):
-        pitplan.load(plan_folder(deposit(), PROJECT, walls(text)))
+        pitplan.load(plan_folder(deposit(), PROJECT, domains(text)))
 
 
 def wrong(path):
@@ -122,7 +123,7 @@ def wrong(path):
 
 @pytest.mark.parametrize("text", [f"offsets = {[list(step) for step in LEANING]}", BENCH])
 def test_the_second_look_agrees(plan_folder, text):
-    path = plan_folder(deposit(), PROJECT, walls(text))
+    path = plan_folder(deposit(), PROJECT, domains(text))
     pitplan.write_shells(path, writing=UNVERIFIED)
     assert wrong(path) == set()
     assert (pd.read_csv(path.parent / "plan" / "tables/shells.csv")["blocks"] > 5).all()
@@ -130,19 +131,19 @@ def test_the_second_look_agrees(plan_folder, text):
 
 def test_a_step_that_is_passed_over_is_found(plan_folder, monkeypatch):
     path, pattern_of = (
-        plan_folder(deposit(), PROJECT, walls(f"offsets = {[list(step) for step in LEANING]}")),
+        plan_folder(deposit(), PROJECT, domains(f"offsets = {[list(step) for step in LEANING]}")),
         slope_patterns.pattern_of,
     )
     monkeypatch.setattr(
         "pitplan.slopes.domains.pattern_of",
-        lambda wall, *more: pattern_of(replace(wall, offsets=wall.offsets[1:]), *more),
+        lambda domain, *more: pattern_of(replace(domain, offsets=domain.offsets[1:]), *more),
     )
     pitplan.write_shells(path, writing=pitplan.Writing(verifies=False))
-    assert "walls" in wrong(path)
+    assert "slopes" in wrong(path)
 
 
 def test_berms_that_are_passed_over_are_found(plan_folder, monkeypatch):
     monkeypatch.setattr(Bench, "angle", property(lambda bench: bench.face_angle))
-    path = plan_folder(deposit(), PROJECT, walls(BENCH))
+    path = plan_folder(deposit(), PROJECT, domains(BENCH))
     pitplan.write_shells(path, writing=pitplan.Writing(verifies=False))
-    assert "walls" in wrong(path)
+    assert "slopes" in wrong(path)

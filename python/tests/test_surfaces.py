@@ -46,16 +46,16 @@ def test_a_surface_holds_what_its_blocks_do(far, capsys, kind, factor):
     path = far.parent / "plan" / f"pit-{factor:.2f}.{kind}"
     assert said.out.strip() == str(path)
     blocks = pd.read_csv(far.parent / "plan" / "tables/blocks.csv")
-    dug = blocks[(blocks["revenue_factor"] > 0.0) & (blocks["revenue_factor"] <= factor) & (blocks["tonnes"] > 0)]
+    mined = blocks[(blocks["revenue_factor"] > 0.0) & (blocks["revenue_factor"] <= factor) & (blocks["tonnes"] > 0)]
     triangles = triangles_of(path)
-    assert volume_of(triangles) == pytest.approx(1000 * len(dug), rel=1e-3) and is_closed(triangles)
+    assert volume_of(triangles) == pytest.approx(1000 * len(mined), rel=1e-3) and is_closed(triangles)
     assert (
-        f"{len(triangles):,} triangles hold {1000 * len(dug):,} m3, and the {len(dug):,} blocks {1000 * len(dug):,} m3"
+        f"{len(triangles):,} triangles hold {1000 * len(mined):,} m3, and the {len(mined):,} blocks {1000 * len(mined):,} m3"
         in said.err
     )
     low, high = triangles.min(axis=(0, 1)), triangles.max(axis=(0, 1))
-    assert low.tolist() == [dug[axis].min() - 5 for axis in "xyz"] and high.tolist() == [
-        dug[axis].max() + 5 for axis in "xyz"
+    assert low.tolist() == [mined[axis].min() - 5 for axis in "xyz"] and high.tolist() == [
+        mined[axis].max() + 5 for axis in "xyz"
     ]
 
 

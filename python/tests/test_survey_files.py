@@ -72,13 +72,13 @@ def test_a_plane_of_a_drawing_is_that_of_its_formula(plan_folder, tmp_path, shap
     plan = Plan.from_project(load(path))
     blocks = plan.blocks
     above = blocks["z"] > 21 - 0.4 * blocks["x"] + 0.3 * blocks["y"]
-    assert plan.fixed.forced.tolist() == blocks.loc[above, "id"].tolist()
-    assert 0 < len(plan.fixed.forced) < 72
+    assert plan.fixed.must_mine.tolist() == blocks.loc[above, "id"].tolist()
+    assert 0 < len(plan.fixed.must_mine) < 72
     assert any(
         "mined.dxf: " in note and "layer TOPO, read by ezdxf; coordinates are not transformed" in note
         for note in plan.notes
     )
-    assert [rule.differences for rule in looked_at(Plan.from_project(path)) if rule.name == "fixed"] == [()]
+    assert [rule.differences for rule in looked_at(Plan.from_project(path)) if rule.name == "constraints"] == [()]
 
 
 def contours(space):
@@ -101,12 +101,12 @@ def test_a_surface_of_faces_is_theirs_and_not_that_of_their_corners(plan_folder,
     path = plan_folder(rows(6, 6, 2), PROJECT + SURFACE + '"valley.dxf"\n')
     blocks = Plan.from_project(load(path)).blocks
     above = blocks["z"] > 8 * ((blocks["x"] - 30) / 30 - (blocks["y"] - 30) / 30).abs()
-    assert Plan.from_project(load(path)).fixed.forced.tolist() == blocks.loc[above, "id"].tolist()
-    assert [rule.differences for rule in looked_at(Plan.from_project(path)) if rule.name == "fixed"] == [()]
+    assert Plan.from_project(load(path)).fixed.must_mine.tolist() == blocks.loc[above, "id"].tolist()
+    assert [rule.differences for rule in looked_at(Plan.from_project(path)) if rule.name == "constraints"] == [()]
     # All of them are demanded where none is taken as such.
     monkeypatch.setattr(constraints, "of_table", lambda *_: constraints.NOTHING)
     (rule,) = [rule for rule in looked_at(Plan.from_project(path)) if rule.differences]
-    assert (rule.name, rule.count) == ("fixed", above.sum())
+    assert (rule.name, rule.count) == ("constraints", above.sum())
 
 
 def test_points_beside_faces_are_passed_over(tmp_path):
@@ -203,11 +203,11 @@ def test_a_layer_is_named_in_the_project(plan_folder, tmp_path):
                 space.add_point((x, y, height), **layer(name))
 
     drawing(tmp_path / "mined.dxf", spots)
-    forced = []
+    must_mine = []
     for name in ("DESIGN", "TOPO"):
         text = PROJECT + SURFACE + f'{{ file = "mined.dxf", layer = "{name}" }}\n'
-        forced.append(len(Plan.from_project(load(plan_folder(rows(3, 1, 3), text))).fixed.forced))
-    assert forced == [9, 3]
+        must_mine.append(len(Plan.from_project(load(plan_folder(rows(3, 1, 3), text))).fixed.must_mine))
+    assert must_mine == [9, 3]
 
 
 def test_a_drawing_that_is_written_anew_is_read_anew(tmp_path):
@@ -269,7 +269,7 @@ def test_fields_of_a_shapefile_are_an_input(plan_folder, tmp_path):
     project = load(plan_folder(rows(3, 1, 3), text))
     assert [path.name for path in project.inputs] == ["project.toml", "blocks.csv", "contours.shp", "contours.dbf"]
     # Over the columns it rises from 16.2 to 18.
-    assert Plan.from_project(project).fixed.forced.tolist() == [0, 1, 2]
+    assert Plan.from_project(project).fixed.must_mine.tolist() == [0, 1, 2]
 
 
 def test_triangles_of_a_map(tmp_path):
@@ -318,8 +318,8 @@ def test_a_raster_is_planned_with(plan_folder, tmp_path):
     path = plan_folder(rows(6, 4, 3), PROJECT + SURFACE + '"mined.tif"\n')
     blocks = Plan.from_project(load(path)).blocks
     above = blocks["z"] > 21 - 0.4 * blocks["x"] + 0.3 * blocks["y"]
-    assert Plan.from_project(load(path)).fixed.forced.tolist() == blocks.loc[above, "id"].tolist()
-    assert [rule.differences for rule in looked_at(Plan.from_project(path)) if rule.name == "fixed"] == [()]
+    assert Plan.from_project(load(path)).fixed.must_mine.tolist() == blocks.loc[above, "id"].tolist()
+    assert [rule.differences for rule in looked_at(Plan.from_project(path)) if rule.name == "constraints"] == [()]
 
 
 def test_heights_over_triangles_at_random(tmp_path):
@@ -360,12 +360,12 @@ def test_a_lease_of_a_drawing(plan_folder, tmp_path, shape):
     drawing(tmp_path / "lease.dxf", shape)
     path = plan_folder(rows(4, 1, 2), PROJECT + AREA + '"lease.dxf"\nexclude = "outside"\n')
     plan = Plan.from_project(load(path))
-    assert plan.fixed.barred.tolist() == [3, 7]
+    assert plan.fixed.excluded.tolist() == [3, 7]
     assert any(
         "lease.dxf: 1 polygons of the layer LEASE, read by ezdxf; coordinates are not transformed" in note
         for note in plan.notes
     )
-    assert [rule.differences for rule in looked_at(Plan.from_project(path)) if rule.name == "fixed"] == [()]
+    assert [rule.differences for rule in looked_at(Plan.from_project(path)) if rule.name == "constraints"] == [()]
 
 
 def test_several_polygons_of_a_drawing_are_one_area(plan_folder, tmp_path):
@@ -375,7 +375,7 @@ def test_several_polygons_of_a_drawing_are_one_area(plan_folder, tmp_path):
 
     drawing(tmp_path / "lease.dxf", two)
     text = PROJECT + AREA + '{ file = "lease.dxf", layer = "LEASE" }\nexclude = "inside"\n'
-    assert Plan.from_project(load(plan_folder(rows(4, 1, 1), text))).fixed.barred.tolist() == [0, 2]
+    assert Plan.from_project(load(plan_folder(rows(4, 1, 1), text))).fixed.excluded.tolist() == [0, 2]
 
 
 def test_a_polyline_in_another_is_no_hole(plan_folder, tmp_path):
@@ -387,7 +387,7 @@ def test_a_polyline_in_another_is_no_hole(plan_folder, tmp_path):
 
     drawing(tmp_path / "lease.dxf", two)
     plan = Plan.from_project(load(plan_folder(rows(5, 1, 1), PROJECT + AREA + '"lease.dxf"\nexclude = "inside"\n')))
-    assert plan.fixed.barred.tolist() == [0, 1, 2, 3]
+    assert plan.fixed.excluded.tolist() == [0, 1, 2, 3]
     said = "1 columns of blocks lie in several polygons, which are not read as holes"
     assert f"WARNING: {tmp_path / 'lease.dxf'}: {said}" in plan.notes
 
@@ -427,9 +427,9 @@ def test_a_polygon_with_a_hole_and_one_beside_it(plan_folder, tmp_path, driver, 
         (tmp_path / "lease.geojson").write_text(json.dumps(named))
     path = plan_folder(rows(6, 4, 1), PROJECT + AREA + f'"lease.{ending}"\nexclude = "inside"\n')
     plan = Plan.from_project(load(path))
-    assert plan.fixed.barred.tolist() == [0, 1, 2, 3, 4, 6, 8, 9, 12, 13, 14, 15]
+    assert plan.fixed.excluded.tolist() == [0, 1, 2, 3, 4, 6, 8, 9, 12, 13, 14, 15]
     assert any("2 polygons of the layer lease, read by GDAL" in note for note in plan.notes)
-    assert [rule.differences for rule in looked_at(Plan.from_project(path)) if rule.name == "fixed"] == [()]
+    assert [rule.differences for rule in looked_at(Plan.from_project(path)) if rule.name == "constraints"] == [()]
 
 
 def test_closed_lines_and_several_polygons_of_a_map(tmp_path):
@@ -461,4 +461,4 @@ def test_areas_that_are_passed_over_are_found(plan_folder, tmp_path, monkeypatch
     path = plan_folder(rows(5, 4, 1, cu=lambda i, j, k: 6), PROJECT + AREA + '"lease.gpkg"\nexclude = "inside"\n')
     monkeypatch.setattr(constraints, "of_table", lambda *_: constraints.NOTHING)
     (rule,) = [rule for rule in looked_at(Plan.from_project(path)) if rule.differences]
-    assert (rule.name, rule.count) == ("fixed", 11)
+    assert (rule.name, rule.count) == ("constraints", 11)

@@ -29,7 +29,7 @@ ORE = {(6, 5, 1): 2.4, (2, 8, 2): 3.0, (10, 2, 2): 2.5, (1, 1, 3): 0.5}
 WALLS = [(0, 60), (90, 35), (180, 50), (290, 40)]
 
 
-def walls_at(degrees):
+def domains_at(degrees):
     """The uneven walls with their azimuths turned along."""
     return ('pattern = "1:5"', f"azimuths = {[[(azimuth + degrees) % 360, angle] for azimuth, angle in WALLS]}")
 
@@ -50,8 +50,8 @@ def planned(plan_folder, table, text=PROJECT, *changes):
 @pytest.mark.parametrize("degrees", [30, -12.5, 44])
 def test_a_turned_model_has_the_pit_of_the_straight_one(plan_folder, degrees):
     """Every shell, row by row, with walls that differ by azimuth, which are turned along."""
-    _, straight = planned(plan_folder, hill(), PROJECT, walls_at(0), NO_SIZE)
-    folder, found = planned(plan_folder, turned(hill(), degrees), PROJECT, walls_at(degrees), NO_SIZE)
+    _, straight = planned(plan_folder, hill(), PROJECT, domains_at(0), NO_SIZE)
+    folder, found = planned(plan_folder, turned(hill(), degrees), PROJECT, domains_at(degrees), NO_SIZE)
     assert straight["revenue_factor"].nunique() == 4
     alike = ["id", "tonnes", "mining_cost", "revenue", "revenue_factor", "process_revenue_factor"]
     pd.testing.assert_frame_equal(found[alike], straight[alike])
@@ -64,9 +64,9 @@ def test_a_turned_model_has_the_pit_of_the_straight_one(plan_folder, degrees):
 
 def test_walls_that_are_not_turned_along_make_another_pit(plan_folder):
     """So the walls tell which way the grid is turned: straight ones, and such as are turned the other way."""
-    _, straight = planned(plan_folder, hill(), PROJECT, walls_at(0), NO_SIZE)
+    _, straight = planned(plan_folder, hill(), PROJECT, domains_at(0), NO_SIZE)
     for degrees in (0, -40):
-        _, other = planned(plan_folder, turned(hill(), 40), PROJECT, walls_at(degrees), NO_SIZE)
+        _, other = planned(plan_folder, turned(hill(), 40), PROJECT, domains_at(degrees), NO_SIZE)
         assert (other["revenue_factor"] != straight["revenue_factor"]).any()
 
 
@@ -216,8 +216,8 @@ def test_cells_of_vtk_stand_in_the_planners_coordinates(one_block):
         reader.Update()
         data = reader.GetOutput()
         factor = data.GetCellData().GetArray("revenue_factor")
-        (dug,) = [cell for cell in range(data.GetNumberOfCells()) if factor.GetValue(cell) > 0]
-        points = data.GetCell(dug).GetPoints()
+        (mined,) = [cell for cell in range(data.GetNumberOfCells()) if factor.GetValue(cell) > 0]
+        points = data.GetCell(mined).GetPoints()
         corners = np.array([points.GetPoint(number) for number in range(8)]).round(1)
         assert {(x, y) for x, y, _ in corners} == CORNERS and {z for _, _, z in corners} == {10, 20}
 
@@ -292,7 +292,7 @@ def test_surfaces_and_areas_are_the_planners(plan_folder, tmp_path):
         (tmp_path / "mined.csv").write_text(turned_points(surface, degrees))
         (tmp_path / "lease.csv").write_text(turned_points(lease, degrees))
         table = turned(hill(), degrees)
-        found.append(planned(plan_folder, table, text, walls_at(degrees), NO_SIZE)[1]["revenue_factor"])
+        found.append(planned(plan_folder, table, text, domains_at(degrees), NO_SIZE)[1]["revenue_factor"])
     assert (found[0][["b0-0-5", "b1-1-4"]] == 0.5).all() and (found[0].filter(like="b9-") == 0).all()
     pd.testing.assert_series_equal(found[1], found[0])
 
@@ -305,7 +305,7 @@ def test_pushbacks_widths_and_schedules_are_those_of_the_straight_model(plan_fol
     ore = hill().assign(cu=lambda it: it["cu"] + 0.3 * (it["z"] < 40))
     tables = []
     for degrees in (0, -12.5):
-        path = plan_folder(turned(ore, degrees), text, walls_at(degrees), NO_SIZE)
+        path = plan_folder(turned(ore, degrees), text, domains_at(degrees), NO_SIZE)
         folder = path.parent / f"schedule{degrees}"
         pitplan.write_schedule(path, folder)
         blocks = pd.read_csv(folder / "tables/blocks.csv").set_index("name")[["pushback", "year", "revenue_factor"]]
@@ -361,7 +361,7 @@ def test_a_simulated_model_is_matched_by_the_planners_centres(plan_folder, tmp_p
 
 
 def test_the_second_look_sees_a_wrong_azimuth(plan_folder, tmp_path, capsys):
-    path = plan_folder(turned(hill(), 30), PROJECT, walls_at(30), ("size = [10, 10, 10]", "azimuth = 30"))
+    path = plan_folder(turned(hill(), 30), PROJECT, domains_at(30), ("size = [10, 10, 10]", "azimuth = 30"))
     pitplan.write_shells(path)
     for azimuth in (-30, 30.02):
         shutil.copytree(path.parent / "plan", tmp_path / "other", dirs_exist_ok=True)
@@ -398,7 +398,7 @@ def test_what_no_shell_can_reach_is_left_out_of_a_turned_model(plan_folder, monk
     found = []
     for degrees in (0, 30):
         table = turned(rows(30, 28, 6, cu=lambda i, j, k: ORE.get((i - 8, j - 8, k), 0)), degrees)
-        folder, blocks = planned(plan_folder, table, PROJECT, walls_at(degrees), NO_SIZE)
+        folder, blocks = planned(plan_folder, table, PROJECT, domains_at(degrees), NO_SIZE)
         assert read_record(folder)["grid"]["rows_left_out"] == 30 * 28 * 6 - len(blocks) > 2000
         assert (blocks[["x", "y"]] == table.set_index("name").loc[blocks.index, ["x", "y"]]).all(axis=None)
         found.append(blocks["revenue_factor"])

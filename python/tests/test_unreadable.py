@@ -1,5 +1,6 @@
 """Files that are locked, cut short or bent: one line that names the file, whatever reads it."""
 
+import pickle
 import random
 import struct
 import zipfile
@@ -172,3 +173,19 @@ def test_a_sentence_that_quotes_a_file_keeps_its_begin_and_its_remedy(kind):
     said = str(kind(f"blocks.csv: found {'x' * 140_000}: rename it"))
     assert len(said) < 2_010 and said.startswith("blocks.csv: found xxx") and said.endswith("xxx: rename it")
     assert " [..] " in said
+
+
+def test_an_error_has_its_place_as_fields(plan_folder):
+    """The key with its line, or the row and the column; also if another process has raised it."""
+    path = plan_folder(rows(2, 2, 2), PROJECT, ("price = 8000", "price = -1"))
+    with pytest.raises(PlanError) as raised:
+        pitplan.check(path)
+    place = raised.value.place
+    assert (place.key, place.row, place.column) == ("metals 1.price", None, "")
+    assert path.read_text().splitlines()[place.line - 1] == "price = -1"
+    table = rows(2, 2, 2).astype({"tonnes": object})
+    table.loc[2, "tonnes"] = "heavy"
+    with pytest.raises(PlanError) as raised:
+        pitplan.check(plan_folder(table))
+    place = pickle.loads(pickle.dumps(raised.value)).place
+    assert (place.key, place.line, place.row, place.column) == ("", None, 4, "tonnes")

@@ -26,7 +26,7 @@ from pitplan.slopes import slope_patterns
 from planaudit.ground.slopes import flatness, high_walls
 from planaudit.inputs import answer, project_file
 from planaudit.inputs.matching import read_blocks
-from planaudit.inputs.project_file import wall_of
+from planaudit.inputs.project_file import domain_of
 from planaudit.pits import sums
 from planaudit.rules import rule
 
@@ -54,10 +54,10 @@ def test_what_is_right_is_told_rule_by_rule(answered, copied, capsys):
     assert verdict == "verified: all 12 rules hold"
     assert [line.split(":")[0] for line in lines] == [
         "blocks",
-        "absent",
-        "walls",
-        "levels",
-        "fixed",
+        "missing blocks",
+        "slopes",
+        "slope error",
+        "constraints",
         "money",
         "shells",
         "values",
@@ -132,17 +132,17 @@ def test_a_block_at_another_factor_is_found(copied, column, rule):
 def test_a_block_that_is_left_standing_is_found(copied):
     """A block of the highest level under which others are dug."""
     table = pd.read_csv(copied / "tables/blocks.csv")
-    dug = table[(table["revenue_factor"] > 0.0) & (table["must"] == 0)]
-    table.loc[dug.index[0], ["revenue_factor", "process_revenue_factor"]] = 0
+    mined = table[(table["revenue_factor"] > 0.0) & (table["must"] == 0)]
+    table.loc[mined.index[0], ["revenue_factor", "process_revenue_factor"]] = 0
     table.to_csv(copied / "tables/blocks.csv", index=False)
-    assert {"walls", "shells"} <= wrong(copied)
+    assert {"slopes", "shells"} <= wrong(copied)
 
 
 def test_a_barred_block_that_is_dug_is_found(copied):
     table = pd.read_csv(copied / "tables/blocks.csv")
     table.loc[table.index[table["never"] == 1][0], "revenue_factor"] = 0.5
     table.to_csv(copied / "tables/blocks.csv", index=False)
-    assert "fixed" in wrong(copied)
+    assert "constraints" in wrong(copied)
 
 
 def test_a_year_above_its_capacity_is_found(copied):
@@ -485,7 +485,7 @@ def test_rows_without_rock_are_no_blocks_that_are_left_standing(plan_folder):
 
 def test_walls_between_azimuths_by_hand():
     """60 degrees to the east and 30 to the west: what they step back for a metre up is linear between, also over the north."""
-    wall = wall_of({"azimuths": [[90, 60], [270, 30]]})
+    domain = domain_of({"azimuths": [[90, 60], [270, 30]]})
     steep, flat = 1 / np.sqrt(3), np.sqrt(3)
     expected = [
         (steep + flat) / 2,
@@ -494,23 +494,23 @@ def test_walls_between_azimuths_by_hand():
         flat + (steep - flat) / 4,
         flat + (steep - flat) * 89 / 180,
     ]
-    assert flatness(wall, np.array([0.0, 90, 180, 315, 359])) == pytest.approx(expected)
-    assert slope_patterns.cotangents(wall["angles"], np.array([0.0, 90, 180, 315, 359])) == pytest.approx(expected)
+    assert flatness(domain, np.array([0.0, 90, 180, 315, 359])) == pytest.approx(expected)
+    assert slope_patterns.cotangents(domain["angles"], np.array([0.0, 90, 180, 315, 359])) == pytest.approx(expected)
 
 
 def test_high_walls_by_geometry():
     """Over one level walls of 45 degrees are the block above and the four beside it, so that they are steeper at the diagonals."""
-    wall = wall_of({"angle": 45})
+    domain = domain_of({"angle": 45})
     diagonal = np.degrees(np.arctan(np.sqrt(2)))
-    assert high_walls(wall, (10.0, 10.0, 10.0), 1)[[0, 45, 90, 225]] == pytest.approx([45, diagonal, 45, diagonal])
-    assert high_walls(wall, (20.0, 10.0, 20.0), 1)[[0, 90, 180]] == pytest.approx([45, 45, 45])
+    assert high_walls(domain, (10.0, 10.0, 10.0), 1)[[0, 45, 90, 225]] == pytest.approx([45, diagonal, 45, diagonal])
+    assert high_walls(domain, (20.0, 10.0, 20.0), 1)[[0, 90, 180]] == pytest.approx([45, 45, 45])
     # Steeper than a block is wide: no cell beside the block is within.
-    assert set(high_walls(wall_of({"angle": 80}), (10.0, 10.0, 10.0), 1)) == {90.0}
+    assert set(high_walls(domain_of({"angle": 80}), (10.0, 10.0, 10.0), 1)) == {90.0}
 
 
 def test_needs_that_steeper_walls_on_the_way_do_not_lead_to_are_found(plan_folder, monkeypatch):
     monkeypatch.setattr("pitplan.slopes.domains.not_led", lambda steps, code, grid: np.zeros(len(code), dtype=bool))
-    assert "walls: block b7-7-0, mined at revenue factor 0.50, depends on a block that is not" in refused(
+    assert "slopes: block b7-7-0, mined at revenue factor 0.50, depends on a block that is not" in refused(
         plan_folder, two_regions(), PROJECT, LEVELS, *MIXED
     )
 
@@ -518,7 +518,9 @@ def test_needs_that_steeper_walls_on_the_way_do_not_lead_to_are_found(plan_folde
 def test_too_few_levels_are_found(plan_folder, monkeypatch):
     monkeypatch.setattr("pitplan.slopes.slope_patterns.levels_of", lambda *_: 3)
     said = refused(plan_folder, two_regions(), PROJECT, ("precedence_benches = 3\n", ""), *MIXED)
-    assert "levels: domain entry 1: over 3 benches the slope is" in said and "degrees steeper than its angle" in said
+    assert (
+        "slope error: domain entry 1: over 3 benches the slope is" in said and "degrees steeper than its angle" in said
+    )
 
 
 @pytest.mark.parametrize("decimals", [2, 6])
@@ -566,7 +568,7 @@ def test_capacity_that_is_caught_up_is_found(plan_folder, monkeypatch):
 def test_fixed_blocks_that_are_passed_over_are_found(plan_folder, monkeypatch):
     nothing = np.zeros(0, dtype=np.int64)
     monkeypatch.setattr(constraints, "of_table", lambda *_: constraints.FixedBlocks(nothing, nothing))
-    assert "fixed: block b2-1-4 is must-mine" in refused(plan_folder)
+    assert "constraints: block b2-1-4 is must-mine" in refused(plan_folder)
 
 
 AREA = '[[constraints.areas]]\npolygon = "map.csv"\nexclude = '
@@ -587,7 +589,7 @@ def test_areas_that_are_passed_over_are_found(plan_folder, tmp_path, monkeypatch
     assert [rule.differences for rule in looked_at(Plan.from_project(path))] == [()] * 11
     monkeypatch.setattr(constraints, "of_table", lambda *_: constraints.NOTHING)
     (rule,) = [rule for rule in looked_at(Plan.from_project(path)) if rule.differences]
-    assert (rule.name, rule.count, len(rule.differences)) == ("fixed", count, min(count, 10))
+    assert (rule.name, rule.count, len(rule.differences)) == ("constraints", count, min(count, 10))
     assert rule.differences[0] == f"block {first} is excluded, and is mined from revenue factor 0.50"
 
 
@@ -606,19 +608,19 @@ def test_a_surface_that_is_passed_over_is_found(plan_folder, tmp_path, monkeypat
         ore_everywhere().assign(cu=0), PROJECT + '\n[constraints]\nas_mined = "mined.csv"\ntopography = "blocks"\n'
     )
     plan = Plan.from_project(path)
-    assert len(plan.fixed.forced) == 7 + 2 * 7
+    assert len(plan.fixed.must_mine) == 7 + 2 * 7
     # With the rule of the surface itself.
     assert [rule.differences for rule in looked_at(plan)] == [()] * 12
     monkeypatch.setattr(constraints, "of_table", lambda *_: constraints.NOTHING)
     (rule,) = [rule for rule in looked_at(Plan.from_project(path)) if rule.differences]
-    assert (rule.name, rule.count, len(rule.differences)) == ("fixed", 7 + 2 * 7, 10)
+    assert (rule.name, rule.count, len(rule.differences)) == ("constraints", 7 + 2 * 7, 10)
     assert rule.differences[0] == "block b0-2-0 is must-mine, and is mined from revenue factor 0.00"
 
 
 def test_ground_that_is_taken_as_air_is_found(plan_folder, monkeypatch):
     monkeypatch.setattr(missing_blocks, "demand_known", lambda *_: None)
     table = deposit()
-    assert "walls: " in refused(plan_folder, table[table["name"] != "b5-4-3"])
+    assert "slopes: " in refused(plan_folder, table[table["name"] != "b5-4-3"])
 
 
 def test_a_cost_that_is_counted_from_the_highest_block_that_ore_needs_is_found(plan_folder, monkeypatch):
@@ -650,7 +652,9 @@ def test_a_shell_of_other_blocks_is_found(plan_folder, monkeypatch):
     """The needs are left out of what the solver is given; what it answers is right for that and wrong for the mine."""
     for module in ("solver.mine_files", "precedences"):
         monkeypatch.setattr(f"pitplan.{module}.slices", lambda *_: iter(()))
-    assert "walls: " in refused(plan_folder, None, TEXT, ('[constraints]\nmust_mine = "must"\nexclude = "never"\n', ""))
+    assert "slopes: " in refused(
+        plan_folder, None, TEXT, ('[constraints]\nmust_mine = "must"\nexclude = "never"\n', "")
+    )
 
 
 @examples(5, suppress_health_check=[HealthCheck.function_scoped_fixture])
@@ -672,9 +676,9 @@ def test_random_plans_are_right(plan_folder, seed, cutoff, discounting, shovels)
         must=(rng.random(len(table)) < 0.01).astype(int),
         never=0,
     )[table["z"] < 10 * height]
-    walls = '[[slopes.domains]]\ndomain = "1"\nangle = 42\n[[slopes.domains]]\ndomain = "2"\nazimuths = [[0, 60], [180, 35]]'
+    domains = '[[slopes.domains]]\ndomain = "1"\nangle = 42\n[[slopes.domains]]\ndomain = "2"\nazimuths = [[0, 60], [180, 35]]'
     changes = [
-        ('[[slopes.domains]]\npattern = "1:5"', walls),
+        ('[[slopes.domains]]\npattern = "1:5"', domains),
         ("decimals = 2", f'decimals = 2\ncutoff = "{cutoff}"'),
         ("discount_rate = 0.1", f'discount_rate = 0.1\ndiscounting = "{discounting}"'),
         ("mining_capacity = 1000\n", shovels),
@@ -721,6 +725,6 @@ def test_a_column_without_rows_is_unknown_ground_up_to_its_top(plan_folder):
     lacking = (table["x"] == 5) & (table["y"] == 5) | (table["x"] == 15) & (table["y"] == 5) & (table["z"] == 25)
     path = plan_folder(table[~lacking])
     pitplan.write_shells(path, path.parent / "out", UNVERIFIED)
-    dug = answer.read(path.parent / "out").dug
-    assert dug[:, 0, 0].tolist() == [np.inf] * 3 and dug[:, 0, 1].tolist() == [0, np.inf, np.inf]
-    assert dug[:, 2, 2].tolist() == [0.5, 0.5, np.inf]
+    mined = answer.read(path.parent / "out").first_factor
+    assert mined[:, 0, 0].tolist() == [np.inf] * 3 and mined[:, 0, 1].tolist() == [0, np.inf, np.inf]
+    assert mined[:, 2, 2].tolist() == [0.5, 0.5, np.inf]

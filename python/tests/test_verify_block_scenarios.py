@@ -23,7 +23,7 @@ from planaudit.schedules.best_ore import most_earned
 LIMITS = ("processing_capacity = 150\nmining_capacity = 1000", "processing_capacity = 300\nmining_capacity = 9000")
 YEARLY = TEXT.replace("discount_rate = 0.1", 'discount_rate = 0.1\ndiscounting = "mid_year"').replace(*LIMITS)
 pytestmark = pytest.mark.usefixtures("without_figures")
-RULES = ["blocks", "absent", "levels", "scenarios", "block order", "block value", "one schedule", "tables"]
+RULES = ["blocks", "missing blocks", "slope error", "scenarios", "block order", "block value", "one schedule", "tables"]
 
 
 @pytest.fixture(scope="module")

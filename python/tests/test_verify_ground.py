@@ -34,7 +34,7 @@ CELLS = [4, 8, 11, 18, 19]
 
 
 def absent_rule(path):
-    (rule,) = [rule for rule in looked_at(Plan.from_project(path)) if rule.name == "absent"]
+    (rule,) = [rule for rule in looked_at(Plan.from_project(path)) if rule.name == "missing blocks"]
     return rule
 
 
@@ -98,7 +98,7 @@ def test_rock_of_scenarios_that_the_project_does_not_give_is_found(plan_folder, 
     )
     shared = prepared(path)
     solved_in_turn(shared)
-    with pytest.raises(PlanError, match="absent: block absent-1: tonnes 95.0 for 90.0"):
+    with pytest.raises(PlanError, match="missing blocks: block absent-1: tonnes 95.0 for 90.0"):
         pitplan.gather(shared.folder)
 
 
@@ -119,7 +119,7 @@ def surfaced(plan_folder, tmp_path, points):
 
 
 def fixed_rule(path):
-    (rule,) = [rule for rule in looked_at(Plan.from_project(path)) if rule.name == "fixed"]
+    (rule,) = [rule for rule in looked_at(Plan.from_project(path)) if rule.name == "constraints"]
     return rule
 
 
@@ -152,7 +152,7 @@ def test_any_triangles_of_a_regular_grid_of_points_are_right(plan_folder, tmp_pa
     places += places[:: seed + 2] if seed % 2 else rng.uniform([-20, -20], [90, 50], (20, 2)).tolist()
     path = surfaced(plan_folder, tmp_path, [(x, y, rng.uniform(-5, 25)) for x, y in places])
     plan = Plan.from_project(path)
-    assert 0 < len(plan.fixed.forced) < 42
+    assert 0 < len(plan.fixed.must_mine) < 42
     assert fixed_rule(path).differences == ()
 
 
@@ -199,7 +199,7 @@ def test_demanded_is_what_lies_above_the_points_and_their_triangles(plan_folder,
 @pytest.mark.parametrize("points", [[(3, 4, 0)], [(3, 4, 0), (3, 4, 2)], [(0, 0, 0), (10, 5, 0), (40, 20, 0)]])
 def test_points_that_make_no_triangle_demand_nothing_beside_them(plan_folder, tmp_path, points):
     path = surfaced(plan_folder, tmp_path, points)
-    assert len(Plan.from_project(path).fixed.forced) > 0
+    assert len(Plan.from_project(path).fixed.must_mine) > 0
     assert fixed_rule(path).differences == ()
 
 
@@ -209,7 +209,7 @@ def pits(plan_folder):
     project = load(plan_folder(ores_and_fixed(), with_section(FIXED_SECTION)))
     pitplan.write_pit(project, 1.5)
     verified = read_record(project.folder / "pit")["verified"]
-    assert [line.split(":")[0] for line in verified][-3:] == ["years", "conventions", "free"]
+    assert [line.split(":")[0] for line in verified][-3:] == ["years", "conventions", "without constraints"]
     return project.folder / "pit"
 
 
@@ -238,7 +238,7 @@ def test_each_number_of_either_pit_that_is_bent_is_found(pits, column, pit):
     bent = float(table.loc[at, column]) + (1 if column == "blocks" else 0.02)
     table.loc[at, column] = f"{bent:.6f}" if column == "value_at_revenue_factor" else bent
     table.to_csv(pits / "tables/pits.csv", index=False)
-    assert ("free" in wrong(pits)) == (pit == "free") and wrong(pits) != set()
+    assert ("without constraints" in wrong(pits)) == (pit == "free") and wrong(pits) != set()
 
 
 @pytest.mark.parametrize("column", ["free_revenue_factor", "free_process_revenue_factor"])
@@ -246,7 +246,7 @@ def test_a_block_of_the_pit_without_fixed_blocks_at_another_factor_is_found(pits
     blocks = pd.read_csv(pits / "tables/blocks.csv")
     blocks.loc[blocks.index[blocks[column] == 0.5][-1], column] = 0
     blocks.to_csv(pits / "tables/blocks.csv", index=False)
-    assert wrong(pits) == {"free"}
+    assert wrong(pits) == {"without constraints"}
 
 
 def test_a_pit_without_fixed_blocks_that_is_worth_less_is_found(pits):
@@ -257,7 +257,7 @@ def test_a_pit_without_fixed_blocks_that_is_worth_less_is_found(pits):
     table.assign(value_at_revenue_factor=["999999.0", table["value_at_revenue_factor"][1]]).to_csv(
         pits / "tables/pits.csv", index=False
     )
-    (rule,) = [rule for rule in verify(pits) if rule.name == "free"]
+    (rule,) = [rule for rule in verify(pits) if rule.name == "without constraints"]
     assert rule.differences == (
         f"revenue factor 1.50: value_at_revenue_factor {table['value_at_revenue_factor'][1]} is less than with constraints",
     )
@@ -279,6 +279,6 @@ def test_a_pit_without_fixed_blocks_that_leaves_a_block_standing_is_refused(plan
 
     project = load(plan_folder(ores_and_fixed(), with_section(FIXED_SECTION)))
     monkeypatch.setattr(problem, "ready", partial(bent, problem.ready))
-    with pytest.raises(PlanError, match="free: walls: block .*, depends on a block that is not"):
+    with pytest.raises(PlanError, match="without constraints: slopes: block .*, depends on a block that is not"):
         pitplan.write_pit(project, 1.5)
     assert not (project.folder / "pit").exists()

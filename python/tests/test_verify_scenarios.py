@@ -46,11 +46,11 @@ def wrong(folder):
 
 RULES = [
     "blocks",
-    "absent",
-    "levels",
+    "missing blocks",
+    "slope error",
     "scenarios",
-    "walls",
-    "fixed",
+    "slopes",
+    "constraints",
     "shells",
     "values",
     "probability",
@@ -85,7 +85,7 @@ def test_a_folder_in_which_nothing_is_gathered_is_named(copied):
         verify(copied)
 
 
-def dig_no_more(places):
+def mine_no_more(places):
     """Leaves a block that is dug at the first factor and not forced, so that others of its pit stand below it."""
     bent = places.copy()
     bent[np.flatnonzero(places == 1)[-1]] = 0
@@ -99,7 +99,7 @@ def a_hundredth_more(worth):
 @pytest.mark.parametrize(
     ("changed", "found"),
     [
-        ({"places": dig_no_more}, {"walls", "shells", "values", "probability", "tables"}),
+        ({"places": mine_no_more}, {"slopes", "shells", "values", "probability", "tables"}),
         ({"value_at_revenue_factor": a_hundredth_more}, {"values", "tables"}),
         ({"table": lambda it: it * 1.001}, {"shells", "tables"}),
     ],
@@ -134,11 +134,11 @@ def test_the_answer_of_another_scenario_is_found(copied, one, other):
 def test_a_barred_block_that_is_dug_is_found(copied):
     never = np.flatnonzero(simulated()["never"] == 1)[0]
 
-    def dug(places):
+    def mined(places):
         return np.where(np.arange(len(places)) == never, 1, places).astype(places.dtype)
 
-    bend(answer_of(copied, 2), places=dug)
-    (rule,) = [rule for rule in verify(copied) if rule.name == "fixed"]
+    bend(answer_of(copied, 2), places=mined)
+    (rule,) = [rule for rule in verify(copied) if rule.name == "constraints"]
     assert rule.differences == (
         "scenario 2, cu_a at copper 11000.5, gold 45: block b10-0-0 is excluded, and is mined from revenue factor 0.50",
     )
@@ -316,7 +316,7 @@ def test_ten_scenarios_of_more_are_looked_at_evenly(plan_folder):
     assert all(
         "in 10 of 12 solved scenarios: " in rule.holds
         for rule in verify(shared.folder)
-        if rule.name in ("walls", "fixed", "shells", "values")
+        if rule.name in ("slopes", "constraints", "shells", "values")
     )
     bend(answer_of(shared.folder, 4), places=lambda it: np.array([0, *it[1:]], dtype=it.dtype))
     assert wrong(shared.folder) == {"probability", "tables"}
@@ -397,9 +397,9 @@ def test_random_scenarios_are_right(plan_folder, seed, cutoff, deeper):
     )
     ground = rng.integers(3, 6, (8, 7))[(table["x"] // 10).astype(int), (table["y"] // 10).astype(int)]
     table = table.assign(must=(rng.random(len(table)) < 0.01).astype(int), never=0)[table["z"] < 10 * ground]
-    walls = '[[slopes.domains]]\ndomain = "1"\nangle = 42\n[[slopes.domains]]\ndomain = "2"\nazimuths = [[0, 60], [180, 35]]'
+    domains = '[[slopes.domains]]\ndomain = "1"\nangle = 42\n[[slopes.domains]]\ndomain = "2"\nazimuths = [[0, 60], [180, 35]]'
     changes = [
-        ('[[slopes.domains]]\npattern = "1:5"', walls),
+        ('[[slopes.domains]]\npattern = "1:5"', domains),
         ("mining_cost_per_bench = 0.25", f'cutoff = "{cutoff}"\nmining_cost_{deeper}'),
     ]
     path = plan_folder(table, TEXT + '[scenarios]\nrealisations = "realisations"\n' + SETS, *changes)

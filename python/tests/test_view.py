@@ -97,10 +97,10 @@ def test_the_topography_lies_over_what_is_dug(page, browser):
 def scheduled(folder, place):
     """The hill with pushbacks and years by hand: pushback 1 is the first shell, and years are one more than the number of the shell."""
     result = read_folder(folder)
-    dug = result.blocks["revenue_factor"] > 0.0
+    mined = result.blocks["revenue_factor"] > 0.0
     more = {
-        "pushback": np.where(dug, 1 + (result.blocks["revenue_factor"] > 0.5), 0),
-        "year": np.where(dug, 1 + (result.blocks["revenue_factor"] // 0.5).astype(int), 0),
+        "pushback": np.where(mined, 1 + (result.blocks["revenue_factor"] > 0.5), 0),
+        "year": np.where(mined, 1 + (result.blocks["revenue_factor"] // 0.5).astype(int), 0),
     }
     blocks = result.blocks.assign(**more)
     (place / "tables").mkdir(parents=True)
@@ -178,9 +178,9 @@ def test_of_a_large_table_the_rows_of_pits_alone_are_there(solved, tmp_path, bro
     monkeypatch.setattr(viewer3d, "MOST_ROWS", len(result.blocks) - 1)
     viewer3d.write(tmp_path / "view.html", result)
     browser.open(tmp_path / "view.html", "show=pit")
-    dug = result.blocks[result.blocks["revenue_factor"] > 0.0]
-    assert browser.ask("lines.length") == len(dug) < len(result.blocks)
-    browser.ask(f"showRow({dug['id'].iloc[0]})")
+    mined = result.blocks[result.blocks["revenue_factor"] > 0.0]
+    assert browser.ask("lines.length") == len(mined) < len(result.blocks)
+    browser.ask(f"showRow({mined['id'].iloc[0]})")
     assert browser.ask("document.querySelector('#picked h1').textContent") == "Row of the block"
     browser.ask(f"showRow({result.blocks['id'][result.blocks['revenue_factor'] == 0].iloc[0]})")
     assert "is in no shell, and its row is not in this page" in browser.text("picked")

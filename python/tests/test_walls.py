@@ -28,24 +28,24 @@ def flatness(angles, azimuth):
     raise AssertionError(azimuth)
 
 
-def all_steps(wall, levels, size, shape, widened):
+def all_steps(domain, levels, size, shape, widened):
     """Every step of a wall entry, straight from what it says, as far as a grid of this shape may have both its ends."""
     (dx, dy, dz), (high, broad, wide) = size, shape
     box = [(x, y) for x in range(1 - wide, wide) for y in range(1 - broad, broad)]
-    if wall.pattern:
-        return [(x, y, 1) for x, y in box if (x, y) in NAMED[wall.pattern]]
+    if domain.pattern:
+        return [(x, y, 1) for x, y in box if (x, y) in NAMED[domain.pattern]]
     found = []
     for x, y in box:
         far = math.hypot(x * dx, y * dy)
-        flat = widened * flatness(wall.angles, math.degrees(math.atan2(x * dx, y * dy)) % 360)
+        flat = widened * flatness(domain.angles, math.degrees(math.atan2(x * dx, y * dy)) % 360)
         found += [(x, y, up) for up in range(1, min(levels, high - 1) + 1) if far <= up * dz * flat + 1e-6]
     return found
 
 
-def closures(needs):
-    """All that each block needs, directly or through others, as the bits of a number; `needs` has a set a block."""
+def closures(precedences):
+    """All that each block needs, directly or through others, as the bits of a number; `precedences` has a set a block."""
     found = []
-    for needed in needs:  # needed blocks have lesser numbers, so theirs are whole
+    for needed in precedences:  # needed blocks have lesser numbers, so theirs are whole
         bits = 0
         for block in needed:
             bits |= 1 << block | found[block]
@@ -53,24 +53,24 @@ def closures(needs):
     return found
 
 
-def needs_of_walls(plan):
+def precedences_of_domains(plan):
     """For each block all blocks that its walls need."""
     grid, entries = plan.grid, plan.project.slopes.domains
     levels, broad, wide = grid.shape
     by_entry = [
-        all_steps(wall, pattern.levels, grid.size, grid.shape, pattern.widened)
-        for wall, pattern in zip(entries, plan.walls.patterns)
+        all_steps(domain, pattern.levels, grid.size, grid.shape, pattern.widened)
+        for domain, pattern in zip(entries, plan.domains.patterns)
     ]
     result = []
     for block in range(grid.count):
         level, row, column = (int(part) for part in np.unravel_index(block, grid.shape))
-        places = [(level - up, row + y, column + x) for x, y, up in by_entry[plan.walls.code[block]]]
+        places = [(level - up, row + y, column + x) for x, y, up in by_entry[plan.domains.code[block]]]
         there = [(k, j, i) for k, j, i in places if k >= 0 and 0 <= j < broad and 0 <= i < wide]
         result.append({(k * broad + j) * wide + i for k, j, i in there})
     return result
 
 
-def needs_written(plan, folder):
+def precedences_written(plan, folder):
     """For each block the blocks that its line of mine.prec names."""
     mine_files.write(plan, folder)
     result = [set() for _ in range(plan.grid.count)]
@@ -82,10 +82,10 @@ def needs_written(plan, folder):
     return result
 
 
-def project_of(walls, levels, size, never_steeper=False):
+def project_of(domains, levels, size, never_steeper=False):
     """A project in memory with the given walls; its table comes from pandas."""
     section = {
-        "domains": walls,
+        "domains": domains,
         "never_steeper": never_steeper,
         **({} if levels is None else {"precedence_benches": levels}),
     }
@@ -152,8 +152,8 @@ def test_pairs_lead_to_all_that_the_walls_need_and_to_no_more(
     table = table_of(np.random.default_rng(seed), kind, shape, size)
     plan = pitplan.Plan.from_project(project_of(named, levels, size, never_steeper), table=table)
     plan.used[:] = True
-    written = needs_written(plan, tmp_path_factory.mktemp("walls"))
-    needed = needs_of_walls(plan)
+    written = precedences_written(plan, tmp_path_factory.mktemp("walls"))
+    needed = precedences_of_domains(plan)
     assert all(some <= every for some, every in zip(written, needed))
     assert closures(written) == closures(needed)
 
@@ -172,10 +172,10 @@ def test_a_block_that_pays_has_all_that_its_walls_need_written(tmp_path_factory,
     table.loc[ore, "cu"] = 100.0
     plan = pitplan.Plan.from_project(project_of(named, 5, CUBE), table=table)
     block = int(plan.grid.rows[ore])
-    needed = closures(needs_of_walls(plan))[block]
+    needed = closures(precedences_of_domains(plan))[block]
     assert set(np.flatnonzero(plan.used)) == {block, *(k for k in range(plan.grid.count) if needed >> k & 1)}
     # Blocks whose needs are left out lead nowhere, so the whole closure must come from those that are written.
-    assert closures(needs_written(plan, tmp_path_factory.mktemp("walls")))[block] == needed
+    assert closures(precedences_written(plan, tmp_path_factory.mktemp("walls")))[block] == needed
 
 
 def test_a_flat_layer_under_steep_rock_digs_its_whole_cone(tmp_path):
@@ -187,5 +187,5 @@ def test_a_flat_layer_under_steep_rock_digs_its_whole_cone(tmp_path):
     far = [up / math.tan(math.radians(30)) for up in range(10)]
     cells = sum(math.hypot(x, y) <= reach for reach in far for x in range(-20, 21) for y in range(-20, 21))
     assert cells == 2682 and plan.used.sum() == 2682
-    needed = closures(needs_written(plan, tmp_path))[int(np.flatnonzero(plan.used).max())]
+    needed = closures(precedences_written(plan, tmp_path))[int(np.flatnonzero(plan.used).max())]
     assert needed.bit_count() == 2681

@@ -359,4 +359,4 @@ def test_errors_across_sections_have_a_line(old, new, begins):
     with pytest.raises(PlanError) as error:
         of_data(toml_text.parsed(text, "p.toml"), ROOT / "p.toml", "p.toml", text)
     number = text[: len(before) + new.index(begins)].count("\n") + 1
-    assert str(error.value).startswith(f"p.toml:{number}: ") and error.value.line == number
+    assert str(error.value).startswith(f"p.toml:{number}: ") and error.value.place.line == number

@@ -416,7 +416,7 @@ def test_an_interruption_keeps_what_is_found_so_far(plan_folder, capsys, monkeyp
 
 
 def test_an_interruption_while_depths_are_improved_keeps_the_schedule(plan_folder, capsys, monkeypatch):
-    def interrupted(model, dug, value):
+    def interrupted(model, mined, value):
         raise KeyboardInterrupt
 
     monkeypatch.setattr(scheduler, "improved_depths", interrupted)
@@ -435,8 +435,8 @@ def test_parcels_with_which_the_rule_takes_more_years_than_there_are_end_the_ref
 
     def longer(schedule, rules):
         years = schedule.model.years + 6
-        dug = np.zeros((len(schedule.benches), years))
-        flows = none_of(replace(schedule.model, years=years), dug)
+        mined = np.zeros((len(schedule.benches), years))
+        flows = none_of(replace(schedule.model, years=years), mined)
         better = replace(schedule.model.ore, gain=1.01 * schedule.model.ore.gain)
         return replace(schedule, model=replace(schedule.model, ore=better), flows={"rule": flows})
 

@@ -425,7 +425,7 @@ def with_roles(columns: Columns, roles: Mapping[str, Role], frame: pd.DataFrame)
 def changed(
     guesses: Mapping[str, Guess], wanted: Mapping[str, Optional[str]], roles: Mapping[str, Role]
 ) -> dict[str, Guess]:
-    """Returns guesses by key without those of columns that have another role now, and with the wanted columns."""
+    """Replaces guesses by the roles that the user chose, and returns them by key."""
     kept = {key: guess for key, guess in guesses.items() if guess.column not in roles}
     return kept | {key: Guess(column, WHY) for key, column in wanted.items() if column}
 

@@ -27,7 +27,7 @@ from .summary import USUAL_PRICES
 TEMPLATES = Path(__file__).resolve().parents[1] / "templates"
 SHARES = {"percent": 0.01, "fraction": 1.0, "gram_per_tonne": 1.0}
 RECOVERY, PROCESSING = 0.85, 12.0
-MOST_REGIONS = 12
+MOST_DOMAINS = 12
 # The columns that multiply costs, and what they multiply.
 FACTORS = {"mcaf": "the mining cost", "pcaf": "the processing cost"}
 CLASSES = {"1": "measured", "2": "indicated", "3": "inferred"}
@@ -133,7 +133,7 @@ def text_of(model: Model, out: Path) -> str:
             if key in model.columns.named
         ],
         "metals": [priced(metal) for metal in model.columns.metals],
-        "regions": regions_of(model),
+        "regions": domain_codes_of(model),
         "processing_capacity": f"{ore:_}",
         "ore_why": "by Taylor's rule for the blocks that pay at these prices; set your own",
     }
@@ -289,12 +289,12 @@ def priced(metal: MetalGuess) -> dict[str, str]:
     }
 
 
-def regions_of(model: Model) -> list[Optional[str]]:
+def domain_codes_of(model: Model) -> list[Optional[str]]:
     """The regions of the table; one entry without a name where it has none, or more than anybody would give walls of their own."""
     if "domain" not in model.columns.named:
         return [None]
     found = sorted(set(model.frame[model.columns.named["domain"].column].dropna().astype(str).str.strip()) - {""})
-    return list(found) if 0 < len(found) <= MOST_REGIONS else [None]
+    return list(found) if 0 < len(found) <= MOST_DOMAINS else [None]
 
 
 def processing_capacity(model: Model) -> int:

@@ -50,7 +50,7 @@ def run(options: argparse.Namespace) -> int:
         # Subcommands print warnings with the notes.
         with warnings.catch_warnings():
             warnings.simplefilter("ignore", PlanWarning)
-            status: int = options.run(options)
+            status: int = options.run(options) or 0
     except ImportError as error:
         again = f"apt-get install --reinstall {' '.join(REQUIRED.values())}"
         raise MissingPackage(f"{error}: a required package cannot be imported: {again}") from error

@@ -1,4 +1,4 @@
-"""One function a subcommand: it takes the options, calls the command, prints its answer, and returns the exit status.
+"""One function a subcommand: it takes the options, calls the command and prints its answer. It returns the exit status if that is not 0.
 
 Each imports its command itself, so that a subcommand loads only the libraries that it uses, and help loads none.
 """
@@ -6,6 +6,7 @@ Each imports its command itself, so that a subcommand loads only the libraries t
 from __future__ import annotations
 
 from argparse import Namespace
+from collections.abc import Callable
 from typing import TYPE_CHECKING
 
 from minelib.ending import tell
@@ -14,8 +15,11 @@ from pitplan.core.progress import Progress, on_standard_error, silent
 if TYPE_CHECKING:
     from pathlib import Path
 
+    from pandas import DataFrame
+
     from pitplan.blockmodel.guesses import Model
     from pitplan.config.project import Project
+    from pitplan.report.columns import Display
     from pitplan.studies.scenarios.result import ScenarioResult
 
     from ..commands.writing import Writing
@@ -50,7 +54,7 @@ def draw_block_model(model: Model, path: Path) -> None:
     write_block_model(model, path)
 
 
-def init(options: Namespace) -> int:
+def init(options: Namespace) -> None:
     import json
 
     from pitplan.blockmodel import wizard
@@ -63,7 +67,6 @@ def init(options: Namespace) -> int:
     written = wizard.write_project(options.table, project_file, draw_block_model if options.figures else None, choices)
     print_notes(written.lines)
     print(json.dumps(written.as_json, indent=2, ensure_ascii=False) if options.json else project_file)
-    return 0
 
 
 def doctor(options: Namespace) -> int:
@@ -80,7 +83,7 @@ def doctor(options: Namespace) -> int:
     return int(any(it.is_wrong for it in found))
 
 
-def check(options: Namespace) -> int:
+def check(options: Namespace) -> None:
     from pitplan.commands.plans import check as check_project
 
     from .printing import print_notes
@@ -88,10 +91,9 @@ def check(options: Namespace) -> int:
     project = project_of(options)
     print_notes(check_project(project, progress_of(options)))
     print(f"{project.path}: no errors")
-    return 0
 
 
-def prepare(options: Namespace) -> int:
+def prepare(options: Namespace) -> None:
     from pitplan.commands.plans import write_plan
 
     from .printing import print_notes
@@ -100,23 +102,28 @@ def prepare(options: Namespace) -> int:
     folder = options.out or project.folder
     print_notes(write_plan(project, folder, progress_of(options))["notes"])
     print(folder)
-    return 0
 
 
-def shells(options: Namespace) -> int:
-    from pitplan.commands.plans import write_shells
-    from pitplan.report.columns import OF_SHELLS
-
+def answered(options: Namespace, write: Callable[..., DataFrame], columns: Display, name: str) -> Path:
+    """Writes an answer into the folder that is asked for, by default `name` in the project's output folder, and prints its table, notes and the
+    path of its report. Returns the folder."""
     from .printing import print_answer
 
     project = project_of(options)
-    folder = options.out or project.folder
-    table = write_shells(project, folder, writing_of(options))
-    print_answer(table, OF_SHELLS.of(table, project), folder, options.json)
-    return 0
+    folder = options.out or project.folder / name
+    table = write(project, folder, writing_of(options))
+    print_answer(table, columns.of(table, project), folder, options.json)
+    return folder
 
 
-def pit(options: Namespace) -> int:
+def shells(options: Namespace) -> None:
+    from pitplan.commands.plans import write_shells
+    from pitplan.report.columns import OF_SHELLS
+
+    answered(options, write_shells, OF_SHELLS, "")
+
+
+def pit(options: Namespace) -> None:
     from pitplan.commands.plans import write_pit
     from pitplan.report.columns import OF_SHELLS, cells_of
     from pitplan.results.folder import read_record
@@ -130,48 +137,40 @@ def pit(options: Namespace) -> int:
     print_notes(read_record(folder)["notes"])
     if options.json:
         print_json(table, folder / names.PITS)
-        return 0
+        return
     columns = OF_SHELLS.of(table, project)
     lines = [[name, *row] for name, row in zip(table["fixed_blocks"], cells_of(table, columns))]
     print_table(["fixed, blocks", *(heading for _, heading, _, _ in columns)], lines)
     print(folder / names.PITS)
-    return 0
 
 
-def pushbacks(options: Namespace) -> int:
+def pushbacks(options: Namespace) -> None:
     from pitplan.commands.plans import write_pushbacks
     from pitplan.report.columns import OF_PUSHBACKS
 
-    from .printing import print_answer
-
-    project = project_of(options)
-    folder = options.out or project.folder / "pushbacks"
-    table = write_pushbacks(project, folder, writing_of(options))
-    print_answer(table, OF_PUSHBACKS.of(table, project), folder, options.json)
-    return 0
+    answered(options, write_pushbacks, OF_PUSHBACKS, "pushbacks")
 
 
-def schedule(options: Namespace) -> int:
+def schedule(options: Namespace) -> None:
     """Raises KeyboardInterrupt after the best schedule is written if the search was interrupted."""
+    from functools import partial
+
     from pitplan.core.atomic_files import read_json
     from pitplan.report.columns import OF_BLOCKS, OF_METHODS
     from pitplan.results import names
 
     from ..commands.schedule import write_block_schedule, write_schedule
-    from .printing import print_answer
 
-    project, by_block = project_of(options), options.by == "block"
-    folder = options.out or project.folder / ("block_schedule" if by_block else "schedule")
-    write = write_block_schedule if by_block else write_schedule
-    table = write(project, folder, writing_of(options), options.certificate)
-    columns = (OF_BLOCKS if by_block else OF_METHODS).of(table, project)
-    print_answer(table, columns, folder, options.json)
-    if read_json(folder / (names.BLOCK_SCHEDULE if by_block else names.SCHEDULE_RECORD))["interrupted"]:
+    if options.by == "block":
+        write, columns, name, record = write_block_schedule, OF_BLOCKS, "block_schedule", names.BLOCK_SCHEDULE
+    else:
+        write, columns, name, record = write_schedule, OF_METHODS, "schedule", names.SCHEDULE_RECORD
+    folder = answered(options, partial(write, certificate=options.certificate), columns, name)
+    if read_json(folder / record)["interrupted"]:
         raise KeyboardInterrupt
-    return 0
 
 
-def sensitivity(options: Namespace) -> int:
+def sensitivity(options: Namespace) -> None:
     from pitplan.core.atomic_files import read_json
     from pitplan.report import columns as report
     from pitplan.studies.dask_pool import Where
@@ -187,15 +186,14 @@ def sensitivity(options: Namespace) -> int:
     print_notes(read_json(folder / RECORD)["notes"])
     if options.json:
         print_json(cases, folder / TABLE)
-        return 0
+        return
     table = report.of_cases(cases)
     columns = report.OF_CASES.of(table, project)
     print_table([heading for _, heading, _, _ in columns], report.cells_of(table, columns))
     print(folder / TABLE)
-    return 0
 
 
-def compare(options: Namespace) -> int:
+def compare(options: Namespace) -> None:
     from pitplan.results import names
 
     from ..commands.compare import compare as write_comparison
@@ -204,38 +202,36 @@ def compare(options: Namespace) -> int:
     found = write_comparison(options.folders, options.out, not options.no_bridge, writing_of(options))
     if options.json:
         print_json(found.results, found.folder / names.COMPARED_RESULTS)
-        return 0
+        return
     for table in (found.inputs, found.results, *([] if found.bridge is None else [found.bridge])):
         print_frame(table)
     print(found.folder)
-    return 0
 
 
-def scenarios(options: Namespace) -> int:
+def scenarios(options: Namespace) -> None:
     from pitplan.studies.scenarios.run import Request
 
     from ..commands.scenarios import write_scenarios
 
     request = Request(options.on, options.workers, options.revenue_factor, options.partial, options.by)
-    return print_scenarios(write_scenarios(project_of(options), options.out, request, writing_of(options)))
+    print_scenarios(write_scenarios(project_of(options), options.out, request, writing_of(options)))
 
 
-def gather(options: Namespace) -> int:
+def gather(options: Namespace) -> None:
     from pitplan.studies.scenarios.run import Request
 
     from ..commands.scenarios import gather as gather_answers
 
     request = Request(revenue_factor=options.revenue_factor, partial=options.partial)
-    return print_scenarios(gather_answers(options.folder, request, writing_of(options)))
+    print_scenarios(gather_answers(options.folder, request, writing_of(options)))
 
 
-def print_scenarios(result: ScenarioResult) -> int:
+def print_scenarios(result: ScenarioResult) -> None:
     """Prints the notes, and the folder or the script to start."""
     from .printing import print_notes
 
     print_notes(list(result.notes))
     print(result.start or result.folder)
-    return 0
 
 
 def scenario(options: Namespace) -> int:
@@ -247,21 +243,19 @@ def scenario(options: Namespace) -> int:
     return outcome.status
 
 
-def report(options: Namespace) -> int:
+def report(options: Namespace) -> None:
     from pitplan.commands.outputs import write_report
 
     print(write_report(options.folder, options.sensitivity, progress_of(options)))
-    return 0
 
 
-def view(options: Namespace) -> int:
+def view(options: Namespace) -> None:
     from pitplan.commands.outputs import view as write_view
 
     print(write_view(options.folder, progress_of(options), options.out))
-    return 0
 
 
-def export(options: Namespace) -> int:
+def export(options: Namespace) -> None:
     from pitplan.commands.outputs import write_export
     from pitplan.results.pit_states import Shape
 
@@ -269,19 +263,17 @@ def export(options: Namespace) -> int:
 
     shape = Shape(options.of, options.surface, options.smooth, options.revenue_factor)
     print_path(write_export(options.folder, options.to, shape, progress_of(options), options.out))
-    return 0
 
 
-def audit(options: Namespace) -> int:
+def audit(options: Namespace) -> None:
     from pitplan.commands.outputs import audit as write_audit
 
     from .printing import print_path
 
     print_path(write_audit(options.folder, options.revenue_factor, progress_of(options), options.out))
-    return 0
 
 
-def verify(options: Namespace) -> int:
+def verify(options: Namespace) -> None:
     """Prints a line for each rule that holds, and the verdict. Raises PlanError if one does not."""
     from pitplan.commands.verification import demand, verify as recalculate
     from planaudit.rules import as_lines
@@ -289,10 +281,9 @@ def verify(options: Namespace) -> int:
     rules = recalculate(options.folder)
     demand(rules)
     print(*as_lines(rules), sep="\n")
-    return 0
 
 
-def serve(options: Namespace) -> int:
+def serve(options: Namespace) -> None:
     from pitplan.core.libraries import demand_modules
 
     from .. import __version__
@@ -311,29 +302,25 @@ def serve(options: Namespace) -> int:
     proxy = Proxy(options.host, options.socket) if options.host else None
     inputs = tuple(options.inputs)
     serve(Settings(options.folder, options.port, not options.no_browser, __version__, proxy, inputs))
-    return 0
 
 
-def schema(options: Namespace) -> int:
+def schema(options: Namespace) -> None:
     import json
 
     from pitplan.config.project import schema as of_project
 
     print(json.dumps(of_project(), indent=1, default=float))
-    return 0
 
 
-def completion(options: Namespace) -> int:
+def completion(options: Namespace) -> None:
     from .completions import script
 
     print(script(options.shell), end="")
-    return 0
 
 
-def convert(options: Namespace) -> int:
+def convert(options: Namespace) -> None:
     import minelib
 
     for note in minelib.convert(options.files, options.out)["notes"]:
         tell(note)
     print(options.out)
-    return 0

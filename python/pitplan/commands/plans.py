@@ -12,21 +12,21 @@ from pitplan.blockmodel import missing_blocks
 from pitplan.blockmodel.grid import demand_within
 from pitplan.config import project_writer
 from pitplan.config.project import Project
-from pitplan.core import layout, staging
+from pitplan.core import layout
 from pitplan.core.atomic_files import staged
 from pitplan.core.progress import Progress, silent, warn
 from pitplan.core.revenue_factors import BASE_PRICE
 from pitplan.errors import InputWarning
-from pitplan.pits import shell_tables
+from pitplan.pits.shells import Shells
 from pitplan.pushbacks import nested
 from pitplan.results import names
 from pitplan.results.rounding import shown, write_csv
-from pitplan.solver import mine_files, problem
+from pitplan.solver import mine_files
 from pitplan.solver.problem import counted_rows
 
 from ..errors import PlanError
 from ..plan import prepared
-from .answers import Answered, check_fixed, write_answer
+from .answers import check_fixed, write_answer
 from .verification import verifying
 from .writing import (
     Place,
@@ -34,10 +34,10 @@ from .writing import (
     Source,
     Writing,
     begun,
-    demand_apart,
     drawing_imported,
     finish,
     hashed,
+    locked,
     of_earlier_run,
     read,
     write_table,
@@ -69,7 +69,7 @@ def check(project: Source, progress: Progress = silent) -> list[str]:
     plan = prepared(project, progress=progress)
     demand_within(project, plan.grid)
     with progress.step("counting the precedences"):
-        _, pairs = counted_rows(plan.needs, plan)
+        _, pairs = counted_rows(plan.precedences, plan)
     notes = [*plan.record(pairs)["notes"], *missing_sections(project)]
     warn(notes, InputWarning)
     return notes
@@ -97,8 +97,7 @@ def write_plan(project: Project, folder: Path, progress: Progress = silent) -> d
         If the input is not usable. Nothing is written then.
     """
     project = read(project)
-    demand_apart(project, folder)
-    with staging.alone(folder):
+    with locked(project, folder):
         plan = prepared(project, progress=progress)
         with staged(folder, names.RECORD, (*mine_files.IN_FOLDER, *of_earlier_run(folder)), layout.FOLDERS) as stage:
             demand_within(project, plan.grid)
@@ -107,7 +106,7 @@ def write_plan(project: Project, folder: Path, progress: Progress = silent) -> d
             project_writer.write(project, stage / project_writer.AS_RUN, folder)
             write_table(plan.blocks, stage)
             files = [*mine_files.of_program(stage), names.TABLE]
-            return finish(plan.record(pairs), hashed(plan, files, stage), stage)
+            return finish(plan.record(pairs), hashed(project, files, stage), stage)
 
 
 def write_shells(project: Source, folder: Optional[Place] = None, writing: Writing = Writing()) -> pd.DataFrame:
@@ -125,7 +124,7 @@ def write_shells(project: Source, folder: Optional[Place] = None, writing: Writi
     Returns
     -------
     DataFrame
-        One row for each shell; see `pitplan.pits.shell_tables.shells`.
+        One row for each shell; see `pitplan.Shells.table`.
 
     Raises
     ------
@@ -136,8 +135,9 @@ def write_shells(project: Source, folder: Optional[Place] = None, writing: Writi
     target = project.folder if folder is None else Path(folder)
     with begun(project, target, writing) as run:
         with drawing_imported(writing.draws):
-            solution = problem.solve(run.mine.plan, run.mine, writing.progress)
-        return write_answer(Answered(run.mine.plan, solution), run)
+            shells = Shells.solved(run.mine.plan, run.mine)
+        write_answer(shells, run)
+    return shells.table
 
 
 def write_pushbacks(project: Source, folder: Optional[Place] = None, writing: Writing = Writing()) -> pd.DataFrame:
@@ -168,10 +168,9 @@ def write_pushbacks(project: Source, folder: Optional[Place] = None, writing: Wr
     project = read(project)
     target = project.folder / "pushbacks" if folder is None else Path(folder)
     with begun(project, target, writing, nested.ending(project)) as run:
-        pushbacks = nested.divide(run.mine.plan, run.mine, writing.progress)
-        run.record["notes"] += pushbacks.notes
-        write_answer(Answered(pushbacks.plan, pushbacks.solution, pushbacks), run)
-    return nested.table(pushbacks)
+        pushbacks = nested.divide(run.mine.plan, run.mine)
+        write_answer(pushbacks, run)
+    return pushbacks.table
 
 
 def write_pit(
@@ -210,10 +209,10 @@ def write_pit(
         table, blocks = compared(run, revenue_factor)
         write_table(blocks, run.stage)
         write_csv(shown(table), run.stage / names.PITS, project)
-        with verifying(run.mine.plan, run):
+        with verifying(run):
             pass
         files = [*mine_files.of_program(run.stage), names.TABLE, names.PITS]
-        finish(run.record, hashed(run.mine.plan, files, run.stage), run.stage)
+        finish(run.record, hashed(project, files, run.stage), run.stage)
     return table
 
 
@@ -227,16 +226,15 @@ def compared(run: Run, factor: float) -> tuple[pd.DataFrame, pd.DataFrame]:
     blocks : DataFrame
         One row for each block, with the factors at which it is in either pit.
     """
-    plan, progress = run.mine.plan, run.writing.progress
-    keeping = problem.solve(plan, run.mine, progress)
-    free = replace(run.mine.free_shells(plan.project.shells.revenue_factors), of=plan.key)
-    missing_blocks.demand_known(free.entry, plan.grid, run.project, plan.source)
-    check_fixed(run.mine, keeping, factor, progress)
-    both = [shell_tables.shells(plan, solution).tail(1) for solution in (keeping, free)]
-    table = pd.concat(both, ignore_index=True)
+    plan = run.mine.plan
+    keeping = Shells.solved(plan, run.mine)
+    free = Shells(plan, replace(run.mine.free_shells(plan.project.shells.revenue_factors), of=plan.key))
+    missing_blocks.demand_known(free.solution.entry, plan.grid, run.project, plan.source)
+    check_fixed(run.mine, keeping.solution, factor, run.writing.progress)
+    table = pd.concat([keeping.table.tail(1), free.table.tail(1)], ignore_index=True)
     table.insert(0, "fixed_blocks", ["kept", "free"])
-    of_free = shell_tables.blocks(plan, free)[["revenue_factor", "process_revenue_factor"]].add_prefix("free_")
-    return table, pd.concat([shell_tables.blocks(plan, keeping), of_free], axis=1)
+    of_free = free.blocks[["revenue_factor", "process_revenue_factor"]].add_prefix("free_")
+    return table, pd.concat([keeping.blocks, of_free], axis=1)
 
 
 def with_lower_factors(project: Project, factor: float) -> Project:

@@ -2,28 +2,19 @@
 
 from __future__ import annotations
 
-from collections.abc import Iterator
-from contextlib import contextmanager
-from dataclasses import replace
 from pathlib import Path
-from typing import TYPE_CHECKING, Optional
+from typing import Optional
 
 import pandas as pd
 
-from pitplan.config.material import WASTE
-from pitplan.core import paths
 from pitplan.core.libraries import load_library
-from pitplan.errors import WARNING, PlanError
 from pitplan.export import xlsx
+from pitplan.pits.shells import Shells
 from pitplan.pushbacks import nested
 from pitplan.scheduling import certificate as certificates, pushback_schedule
-from pitplan.solver import problem
 
-from .answers import Answered, write_answer
-from .writing import Place, Run, Source, Writing, begun, drawing_imported, read
-
-if TYPE_CHECKING:
-    from pitplan.scheduling.blocks.tables import ScheduledBlocks
+from .answers import write_answer
+from .writing import Place, Source, Writing, begun, drawing_imported, read
 
 
 def write_schedule(
@@ -69,15 +60,11 @@ def write_schedule(
     if certificate:
         certificates.demand_statable(project)
     with begun(project, target, writing, nested.ending(project)) as run:
-        pushbacks = nested.divide(run.mine.plan, run.mine, writing.progress)
-        schedule = pushback_schedule.make(pushbacks, writing.progress)
-        without = list[str]()
+        schedule = pushback_schedule.make(nested.divide(run.mine.plan, run.mine))
         if certificate:
-            with writing.progress.step("certifying the schedule"), noting(without):
-                schedule = pushback_schedule.certified(schedule, run.stage, paths.schedule_program())
-        run.record["notes"] += [*pushbacks.notes, *pushback_schedule.notes(schedule), *without]
-        write_answer(Answered(pushbacks.plan, pushbacks.solution, pushbacks, schedule), run)
-    return pushback_schedule.methods(schedule)
+            schedule = schedule.certified_in(run.stage, writing.progress)
+        write_answer(schedule, run)
+    return schedule.methods
 
 
 def write_block_schedule(
@@ -134,34 +121,9 @@ def write_block_schedule(
         if certificate:
             demand_free(planned.problem)
         with drawing_imported(writing.draws):
-            solution = problem.solve(run.mine.plan, run.mine, writing.progress)
-        made, without = tables.scheduled(planned, writing.progress), list[str]()
+            shells = Shells.solved(run.mine.plan, run.mine)
+        schedule = tables.scheduled(planned, shells, writing.progress)
         if certificate:
-            with noting(without):
-                made = certified(made, run)
-        run.record["notes"] += [*made.notes, *without]
-        write_answer(Answered(run.mine.plan, solution, blocks=made), run)
-    return made.table
-
-
-@contextmanager
-def noting(notes: list[str]) -> Iterator[None]:
-    """Notes why there is no certificate, if the texts cannot state one. The schedule is kept."""
-    try:
-        yield
-    except PlanError as error:
-        notes.append(f"{WARNING}{error}")
-
-
-def certified(made: ScheduledBlocks, run: Run) -> ScheduledBlocks:
-    """Writes the certificate of a schedule by block, and returns the schedule with what is proved of it."""
-    from pitplan.scheduling.blocks.tables import sides_of
-
-    with run.writing.progress.step("certifying the schedule"):
-        certificate = made.certificate
-        certificates.write(certificate, made.planned.cells.tolist(), run.stage)
-        proved = certificates.checked(run.stage, paths.schedule_program(), certificate.unit)
-        destinations = tuple(("", "" if it == WASTE else it, 0) for it in made.planned.destinations)
-        return replace(
-            made, certified=replace(proved, destinations=destinations, limits=sides_of(made.planned.problem))
-        )
+            schedule = schedule.certified_in(run.stage, writing.progress)
+        write_answer(schedule, run)
+    return schedule.table

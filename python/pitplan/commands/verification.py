@@ -9,7 +9,7 @@ import sys
 from collections.abc import Callable, Iterator
 from contextlib import contextmanager, suppress
 from pathlib import Path
-from typing import TYPE_CHECKING, Union
+from typing import TYPE_CHECKING, Optional, Union
 
 import planaudit
 from pitplan.core import paths
@@ -20,7 +20,6 @@ from pitplan.results import names
 from planaudit import AuditError, PackageError, Rule
 
 from ..errors import MissingPackage, PlanError
-from ..plan import Plan
 
 if TYPE_CHECKING:
     from .writing import Run
@@ -134,18 +133,18 @@ class AuditProcess:
 
 
 @contextmanager
-def reading_ahead(stage: Path, is_wanted: bool) -> Iterator[list[AuditProcess]]:
-    """Yields a list with the process that reads ahead, or without one, and ends it after the body."""
-    started = [AuditProcess(stage)] if is_wanted else []
+def reading_ahead(stage: Path, is_wanted: bool) -> Iterator[Optional[AuditProcess]]:
+    """Yields the process that reads ahead, if it is wanted, and ends it after the body."""
+    process = AuditProcess(stage) if is_wanted else None
     try:
-        yield started
+        yield process
     finally:
-        for it in started:
-            it.end()
+        if process is not None:
+            process.end()
 
 
 @contextmanager
-def verifying(plan: Plan, run: Run) -> Iterator[None]:
+def verifying(run: Run) -> Iterator[None]:
     """Recalculates all staged results independently, of a large model while the body draws and writes, and records the rules that hold.
 
     Raises
@@ -155,24 +154,20 @@ def verifying(plan: Plan, run: Run) -> Iterator[None]:
     MissingPackage
         If a package that reads an input is not installed.
     """
-    record, stage = run.record, run.stage
-    record["project"] = os.path.relpath(plan.project.path, stage.parent)
+    record, stage, progress = run.record, run.stage, run.writing.progress
+    record["project"] = os.path.relpath(run.project.path, stage.parent)
     record["verified"] = []
     if not run.writing.verifies:
         yield
         return
     write_json(stage / names.RECORD, record)
-    if not is_apart(len(plan.table)):
-        record["verified"] = verified(lambda: planaudit.verify(stage, stage.parent), run.writing.progress)
+    if run.audit is None:
+        record["verified"] = verified(lambda: planaudit.verify(stage, stage.parent), progress)
         yield
         return
-    process = run.audit[0] if run.audit else AuditProcess(stage)
-    try:
-        process.begin()
-        yield
-        record["verified"] = verified(process.rules, run.writing.progress)
-    finally:
-        process.end()
+    run.audit.begin()
+    yield
+    record["verified"] = verified(run.audit.rules, progress)
 
 
 def verify(folder: Union[str, Path]) -> list[Rule]:

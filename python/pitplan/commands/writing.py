@@ -53,6 +53,8 @@ FIGURES = tuple(
         | (SCHEDULE_PICTURES | BLOCK_PICTURES | PRICE_PICTURES)
     ).values()
 )
+# The project and the block model if they were made in Python.
+PROJECT, MODEL = f"{layout.INPUTS}/project.toml", f"{layout.INPUTS}/block_model.csv"
 # The files that every run writes or removes.
 ALWAYS = (*mine_files.IN_FOLDER, names.RECORD, names.TABLE, project_writer.AS_RUN)
 WRITTEN = {
@@ -118,8 +120,8 @@ class Run:
         The folder in which files are written before they are moved to their place.
     writing : Writing
         How the folder is written.
-    audit : tuple of AuditProcess
-        The process that verifies the results, if it has begun to read the table.
+    audit : AuditProcess, optional
+        The process that verifies the results of a large model, and has begun to read the table.
     """
 
     project: Project
@@ -127,7 +129,7 @@ class Run:
     record: dict[str, Any]
     stage: Path
     writing: Writing
-    audit: tuple[AuditProcess, ...] = ()
+    audit: Optional[AuditProcess] = None
 
 
 def read(project: Source) -> Project:
@@ -142,6 +144,14 @@ def demand_apart(project: Project, folder: Path) -> None:
     for path in (*project.inputs, *inputs_beside(folder)):
         if path.parent.resolve() / path.name in written:
             raise PlanError(f"{path}: the run would overwrite it: give another folder with --out")
+
+
+@contextmanager
+def locked(project: Project, folder: Path) -> Iterator[None]:
+    """Refuses a folder in which an input would be overwritten, and lets no other run write into it during the body. Raises PlanError."""
+    demand_apart(project, folder)
+    with staging.alone(folder):
+        yield
 
 
 @contextmanager
@@ -167,31 +177,51 @@ def begun(project: Project, folder: Path, writing: Writing, planned: Optional[Pr
     ProgramError
         If there is no solver.
     """
-    demand_apart(project, folder)
-    with staging.alone(folder):
+    with locked(project, folder):
         solver = chosen(project.solver)
-        plan = prepared(planned or project, progress=writing.progress)
-        # With reblocking these are many times the rows of the blocks, and no command uses them.
-        plan.read = None
-        with staged_run(project, plan, solver, folder, writing) as run:
-            is_wanted = writing.verifies and is_apart(len(plan.table))
-            with reading_ahead(run.stage, is_wanted) as audit:
-                yield replace(run, audit=tuple(audit))
+        # With reblocking the rows are many times those of the blocks, and no command uses them.
+        plan = replace(prepared(planned or project, progress=writing.progress), given=project, read=None)
+        with staged_run(plan, solver, folder, writing) as run:
+            yield run
     warn(plan.notes, InputWarning)
     warn([note for note in run.record["notes"] if note not in plan.notes], ResultWarning)
 
 
 @contextmanager
-def staged_run(project: Project, plan: Plan, solver: Solver, folder: Path, writing: Writing) -> Iterator[Run]:
+def staged_run(plan: Plan, solver: Solver, folder: Path, writing: Writing) -> Iterator[Run]:
     """Yields the run of a plan into a folder; see `begun`. `solver` is the one that solves or has solved the plan."""
-    progress = writing.progress
+    plan = placed(plan, folder)
+    progress, project = writing.progress, plan.asked
     removed = (*mine_files.IN_FOLDER, *of_earlier_run(folder))
     with staged(folder, names.RECORD, removed, (*layout.FOLDERS, layout.INPUTS)) as stage:
         project_writer.write(project, stage / project_writer.AS_RUN, folder)
+        write_inputs(plan, stage)
         demand_within(project, plan.grid)
         with progress.step("writing blocks and precedences" if solver.by == PROGRAM else "listing precedences"):
             mine = problem.ready(plan, solver, stage / layout.SOLVER)
-        yield Run(project, mine, plan.record(mine.pairs) | {"solver": asdict(solver)}, stage, writing)
+        with reading_ahead(stage, writing.verifies and is_apart(len(plan.table))) as audit:
+            yield Run(project, mine, plan.record(mine.pairs) | {"solver": asdict(solver)}, stage, writing, audit)
+
+
+def placed(plan: Plan, folder: Path) -> Plan:
+    """A plan whose project, and whose block model if it was a DataFrame, lie among the inputs of the output folder."""
+    if plan.has_file and plan.model is None:
+        return plan
+    as_text = {"separator": None, "decimal": None, "encoding": "utf-8-sig"}
+
+    def moved(project: Project) -> Project:
+        table = project.table if plan.model is None else replace(project.table, file=folder / MODEL, **as_text)
+        return replace(project, path=folder / PROJECT, table=table)
+
+    return replace(plan, project=moved(plan.project), given=moved(plan.asked))
+
+
+def write_inputs(plan: Plan, stage: Path) -> None:
+    """Writes the block model if it was a DataFrame, and the project if it is not that of a file."""
+    if plan.model is not None:
+        plan.model.to_csv(stage / MODEL, index=False)
+    if not plan.has_file or plan.model is not None:
+        project_writer.write(plan.asked, stage / PROJECT, plan.asked.path.parent)
 
 
 def staged_input(path: Path, stage: Path) -> Path:
@@ -205,9 +235,9 @@ def write_table(blocks: pd.DataFrame, stage: Path) -> None:
     csv_writer.write(stage / names.TABLE, blocks)
 
 
-def hashed(plan: Plan, files: list[str], stage: Path) -> dict[str, dict[str, str]]:
+def hashed(project: Project, files: list[str], stage: Path) -> dict[str, dict[str, str]]:
     """Returns the hashes of the inputs, by their place relative to the project, and of the written files, as parts of the record."""
-    inputs = {name: staged_input(path, stage) for name, path in plan.project.named_inputs.items()}
+    inputs = {name: staged_input(path, stage) for name, path in project.named_inputs.items()}
     return {"inputs": hashes_of(inputs), "files": hashes(stage, [project_writer.AS_RUN, *files])}
 
 

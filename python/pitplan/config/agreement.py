@@ -135,13 +135,15 @@ def metals(project: Project, data: Mapping[str, Any]) -> Iterator[Fault]:
 
 def smelter(metal: Metal, terms: Smelter, section: str) -> Iterator[Fault]:
     grade, purest = terms.concentrate_grade, PURE[metal.unit]
-    needs = [key for key in OF_CONCENTRATE if getattr(terms, key)]
+    precedences = [key for key in OF_CONCENTRATE if getattr(terms, key)]
     if grade is not None and grade > purest:
         yield wrong(
             section, "concentrate_grade", f"found {grade}, expected above 0 and at most {purest:,} ({metal.unit})"
         )
-    if grade is None and needs:
-        yield wrong(section, "concentrate_grade", f"is missing: {needs[0]} depends on the grade of the concentrate")
+    if grade is None and precedences:
+        yield wrong(
+            section, "concentrate_grade", f"is missing: {precedences[0]} depends on the grade of the concentrate"
+        )
     if grade is not None and terms.minimum_deduction >= grade:
         why = f"found {terms.minimum_deduction}, expected less than concentrate_grade, {grade}"
         yield wrong(section, "minimum_deduction", why)
@@ -157,18 +159,18 @@ def sale(metal: Metal, section: str, has_cost: bool) -> Iterator[Fault]:
 
 
 def slopes(project: Project, data: Mapping[str, Any]) -> Iterator[Fault]:
-    walls = project.slopes.domains
-    for number, (wall, entry) in enumerate(zip(walls, data["slopes"]["domains"]), 1):
+    domains = project.slopes.domains
+    for number, (domain, entry) in enumerate(zip(domains, data["slopes"]["domains"]), 1):
         given = [key for key in OF_SLOPES if key in entry]
         if len(given) != 1:
             why = "give exactly one of angle, azimuths, bench, pattern and offsets"
             yield wrong(f"slopes.domains {number}", "angle", why)
-        if "azimuth_of" in entry and not wall.azimuths:
+        if "azimuth_of" in entry and not domain.azimuths:
             yield wrong(f"slopes.domains {number}", "azimuth_of", "requires azimuths")
-    named = [code for wall in walls for code in wall.domains or ()]
+    named = [code for domain in domains for code in domain.domains or ()]
     if len(set(named)) < len(named):
         yield wrong("slopes", "domains", "a domain occurs twice")
-    if sum(wall.domains is None for wall in walls) > 1:
+    if sum(domain.domains is None for domain in domains) > 1:
         yield wrong("slopes", "domains", "more than one entry names no domain")
 
 

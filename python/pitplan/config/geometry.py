@@ -69,7 +69,7 @@ class Bench:
 
 
 @dataclass(frozen=True, kw_only=True)
-class Wall:
+class SlopeDomain:
     """The slopes of some domains, by exactly one of an angle, angles by azimuth (north 0, east 90), a bench, a pattern and offsets."""
 
     domains: Optional[tuple[str, ...]] = key(
@@ -117,7 +117,7 @@ class Wall:
             return self.angles
         return tuple(sorted((round((azimuth + 180) % 360, 9) % 360, angle) for azimuth, angle in self.angles))
 
-    def with_angles(self, angles: Angles) -> Wall:
+    def with_angles(self, angles: Angles) -> SlopeDomain:
         """The same domains with other angles, by the azimuth as it is given here."""
         if self.angle is not None and len(angles) == 1:
             return replace(self, angle=angles[0][1])
@@ -134,7 +134,7 @@ class Slopes:
         otherwise="as many as [the angles require](../planning/slopes.md)",
     )
     never_steeper: bool = key(truth, "flatten the slopes until none is steeper than its angle", False)
-    domains: tuple[Wall, ...] = key(tables(Wall), "list of slope domains, below", in_python=())
+    domains: tuple[SlopeDomain, ...] = key(tables(SlopeDomain), "list of slope domains, below", in_python=())
 
 
 @dataclass(frozen=True)

@@ -34,7 +34,7 @@ class ClassRules:
         return self.given.get(code, WASTE if code.lower() in WASTE_NAMES else ORE)
 
     def may_be_reserve(self, code: str) -> bool:
-        """Whether reporting codes allow the class in reserves, by its name. A rule that treats inferred material as ore does not change that."""
+        """Whether reporting codes allow the class in reserves, by its name. Treating inferred material as ore does not make it a reserve."""
         return code.lower() not in WASTE_NAMES
 
 

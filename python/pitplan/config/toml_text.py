@@ -17,7 +17,7 @@ from typing import Any, Optional, Union
 
 import tomllib
 
-from pitplan.errors import PlanError
+from pitplan.errors import ErrorPlace, PlanError
 
 PART = r"(?:[A-Za-z0-9_-]+|\"(?:[^\"\\\n]|\\.)*\"|'[^'\n]*')"
 KEY = rf"{PART}(?:[ \t]*\.[ \t]*{PART})*"
@@ -140,20 +140,6 @@ GREATEST_POWER, LEAST_POWER = 1000, -60
 AT_LINE = re.compile(r"\(at line (\d+)")
 
 
-class ProjectError(PlanError):
-    """A text that is no project, or a key that is wrong.
-
-    Attributes
-    ----------
-    line : int, optional
-        The line of the text, from 1, if it is known.
-    """
-
-    def __init__(self, text: str, line: Optional[int] = None) -> None:
-        super().__init__(text)
-        self.line = line
-
-
 class Absurd:
     """A number that no project holds, as it is written: nothing computes with it, and each reader of a key refuses it."""
 
@@ -185,9 +171,9 @@ class Source:
     folder: Path = Path(".")
     text: str = ""
 
-    def error(self, why: str, at: str) -> ProjectError:
+    def error(self, why: str, at: str) -> PlanError:
         """Returns an error at a key or a section, which is named as in `metals 2.price`."""
-        return at_line(self.name, line_of(self.text, at) if self.text else None, why)
+        return at_line(self.name, line_of(self.text, at) if self.text else None, why, at)
 
     @property
     def has_processes(self) -> bool:
@@ -222,7 +208,7 @@ def text_of(path: Path) -> str:
 
 
 def parsed(text: str, path: str) -> dict[str, Any]:
-    """The sections of a text, which errors name by `path`. Raises ProjectError, with the line if it is known, if it is no TOML or no project's."""
+    """The sections of a text, which errors name by `path`. Raises PlanError, with the line if it is known, if it is no TOML or no project's."""
     if long := LONG_KEY.search(text):
         why = f"a key of more than {MOST_PARTS} parts: a project's keys have three at most"
         raise at_line(path, text.count("\n", 0, long.start()) + 1, why)
@@ -244,9 +230,9 @@ def parsed(text: str, path: str) -> dict[str, Any]:
         raise at_line(path, text.count("\n", 0, long.start() if long else 0) + 1, why) from error
 
 
-def at_line(path: str, line: Optional[int], why: str) -> ProjectError:
-    """Returns an error of a file, with its line if it is known."""
-    return ProjectError(f"{path}{f':{line}' if line else ''}: {why}", line)
+def at_line(path: str, line: Optional[int], why: str, key: str = "") -> PlanError:
+    """Returns an error of a file, with its line if it is known, and the path of a key or section."""
+    return PlanError(f"{path}{f':{line}' if line else ''}: {why}", place=ErrorPlace(key, line))
 
 
 # The least ratio of difflib between a missing key and an unknown one that may be meant by it.
@@ -274,7 +260,7 @@ class Section:
         self.name, self.data = name, data
         self.asked: set[str] = set()
 
-    def wrong(self, key: str, why: str, at: str = "") -> ProjectError:
+    def wrong(self, key: str, why: str, at: str = "") -> PlanError:
         """Returns the error of a key; `at` is the key whose line is meant, if it is another one."""
         named = f"[{self.name}] " if self.name else ""
         return self.source.error(f"{named}{key}: {why}", self.inner(at or key))

@@ -10,7 +10,7 @@ import numpy as np
 import pandas as pd
 from pandas.api import types
 
-from pitplan.errors import PlanError
+from pitplan.errors import ErrorPlace, PlanError
 
 # The row of the first block below a header of one line.
 HEADER_ROWS = 2
@@ -50,7 +50,7 @@ class Source(str):
 
 
 def row_of(source: str, row: int) -> int:
-    """Returns the row of the file of a block, which is counted from 0."""
+    """Returns the row in the file of a block, given its index from 0."""
     if not isinstance(source, Source):
         return row + HEADER_ROWS
     return source.first_row + (row if source.kept is None else int(source.kept[row]))
@@ -63,7 +63,8 @@ def header_row_of(source: str) -> int:
 
 def at_row(source: str, row: int, column: str, why: str) -> PlanError:
     """`row` counts the blocks from 0."""
-    return PlanError(f"{source} row {row_of(source, row)} column {column}: {why}")
+    place = ErrorPlace(row=row_of(source, row), column=column)
+    return PlanError(f"{source} row {place.row} column {column}: {why}", place=place)
 
 
 def is_numeric(column: pd.Series) -> bool:

@@ -26,7 +26,7 @@ import numpy as np
 import pandas as pd
 from pandas.api.types import union_categoricals
 
-from pitplan.errors import MissingPackage, PlanError
+from pitplan.errors import ErrorPlace, MissingPackage, PlanError
 
 from .libraries import is_of
 from .numeric_fields import header_row_of, without_truths
@@ -348,7 +348,8 @@ def nul_byte(file: Path, form: TableFormat) -> PlanError:
     number = max(1, len(fields))
     names = names_in_header(file, form) if row > form.header_row else []
     column = f" column {names[number - 1]}" if number <= len(names) else ""
-    return PlanError(f"{file} row {row}{column}: contains a NUL byte: {remedy}")
+    place = ErrorPlace(row=row, column=column.removeprefix(" column "))
+    return PlanError(f"{file} row {row}{column}: contains a NUL byte: {remedy}", place=place)
 
 
 @contextmanager
@@ -520,14 +521,16 @@ def no_table(file: Path, form: TableFormat, why: str) -> PlanError:
     if found := re.search(r"Expected (\d+) fields in line (\d+), saw (\d+)", why):
         names, row, fields = (int(it) for it in found.groups())
         remedy = "quote a field that contains the separator, or remove the surplus one"
-        return PlanError(f"{file} row {row}: has {fields} fields, expected the {names} of the names: {remedy}")
+        said = f"has {fields} fields, expected the {names} of the names: {remedy}"
+        return PlanError(f"{file} row {row}: {said}", place=ErrorPlace(row=row))
     if "does not match length of data" in why:
         return PlanError(
             f"{file} row {form.first_row}: has more fields than names in row {form.header_row}: name each column"
         )
     if found := re.search(r"EOF inside string starting at row (\d+)", why):
         row = int(found[1]) + 1 + len(form.skipped)
-        return PlanError(f"{file} row {row}: a quotation mark is opened and not closed: close it, or remove it")
+        said = "a quotation mark is opened and not closed: close it, or remove it"
+        return PlanError(f"{file} row {row}: {said}", place=ErrorPlace(row=row))
     return PlanError(f"{file}: is not a table: {' '.join(why.split())}")
 
 

@@ -18,6 +18,18 @@ MISSED_LIMIT = 1e-8
 ZERO_PRICE = 1e-15
 # NPVs that differ by less than this amount in the currency are equal, as are those within SUM_ERROR.
 EQUAL_MONEY = 1e-3
+# Tonnes by which a year may be above or below a capacity.
+TONNES_ERROR = 1e-9
+# Millionths of a share: a product of floats may lie this far below a whole number.
+MILLIONTHS_ERROR = 1e-6
+# Money of a block in the currency by which two years may differ besides SUM_ERROR, and still have one price.
+BLOCK_MONEY = 1e-6
+# Degrees by which a slope may be steeper than its angle and still keep it.
+SLOPE_ERROR = 1e-6
+# Roots of equations: the error of a rate or grade that is found by bisection.
+ROOT_ERROR = 1e-12
+# Blocks: a centroid this close below the side of a block lies on it.
+SIDE_ERROR = 1e-6
 # Components of unit vectors, and numbers in single precision.
 SINGLE_PRECISION = 1e-6
 # Metres by which the ends of a closed line may lie apart.

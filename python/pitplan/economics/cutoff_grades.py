@@ -13,6 +13,7 @@ from scipy.optimize import brentq
 
 from pitplan.config.economics import GRADE_UNITS, ByCode, ByDomain, Curve, Economics, Metal, Recovery
 from pitplan.config.project import Project
+from pitplan.core.tolerances import ROOT_ERROR, SUM_ERROR
 
 from .period_costs import net_price
 
@@ -82,8 +83,8 @@ class RockCosts:
             return needed - max(head - tail, 0.0) * share_at(recovery, head)
 
         # There the recovery is the greatest, which covers the cost.
-        high = max(needed / greatest(recovery) + tail, last_grade(recovery)) + 1e-9
-        return float(brentq(lacks, 0.0, high, xtol=1e-12)) if lacks(0.0) > 0 else 0.0
+        high = max(needed / greatest(recovery) + tail, last_grade(recovery)) + SUM_ERROR
+        return float(brentq(lacks, 0.0, high, xtol=ROOT_ERROR)) if lacks(0.0) > 0 else 0.0
 
     def equivalent(self, metal: Metal, premiums: dict[str, float]) -> float:
         """Returns what one unit of a metal's head grade is worth in units of the first metal; nan if a recovery depends on the grade."""

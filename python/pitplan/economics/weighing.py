@@ -19,6 +19,7 @@ from pitplan.config.material import Accepts
 from pitplan.config.project import Project
 from pitplan.core.decimals import Exact, Rounding, nearest, whole_and_places
 from pitplan.core.numeric_fields import at_row
+from pitplan.core.tolerances import SUM_ERROR
 
 from .smelter_terms import charge_of_ore, paid, penalty_rates
 
@@ -182,7 +183,7 @@ def reference_level(money: Economics, grid: Grid) -> int:
     """
     if money.mining_cost_reference is None:
         return 0
-    return math.ceil((grid.extent()[5] - float(money.mining_cost_reference)) / grid.size[2] - 1e-9) - 1
+    return math.ceil((grid.extent()[5] - float(money.mining_cost_reference)) / grid.size[2] - SUM_ERROR) - 1
 
 
 def added_cost(money: Economics, elevation: float) -> Decimal:

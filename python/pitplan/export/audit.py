@@ -90,7 +90,7 @@ def write_mine(stage: Path, folder: Folder, factor: float, progress: Progress) -
     else:
         plan = prepared_again(folder, progress)
         nodes = plan.values.nodes()
-        mine_files.write_needs(stage / PREC, plan, plan.needs)
+        mine_files.write_precedences(stage / PREC, plan, plan.precedences)
         if plan.settled is not None:
             constraints.write(stage / FIXED, plan.fixed)
     mine_files.write_model(

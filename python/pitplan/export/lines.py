@@ -58,8 +58,8 @@ def lines_of(folder: Folder, shape: Shape) -> Iterator[Line]:
 
 def lines_of_stage(stage: Stage, grid: Grid) -> Iterator[Line]:
     levels = grid.shape[0]
-    for level in np.flatnonzero(stage.dug.any(axis=(1, 2))):
-        outlines, floor = rings(stage.dug[level]), levels - 1 - int(level)
+    for level in np.flatnonzero(stage.mined.any(axis=(1, 2))):
+        outlines, floor = rings(stage.mined[level]), levels - 1 - int(level)
         bench = float(places_of(grid, np.array([[0, 0, floor]]))[0, 2])
         for kind, height in ((TOE, floor), (CREST, floor + 1)):
             for ring in outlines:

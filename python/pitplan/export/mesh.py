@@ -81,9 +81,9 @@ def heights_of(rock: np.ndarray, stage: Stage, grid: Grid) -> Heights:
     """
     levels = rock.shape[0]
     before = np.where(rock.any(axis=0), levels - rock.argmax(axis=0), NONE)
-    floor = stage.dug[::-1].argmax(axis=0)
-    after = np.where(stage.dug.any(axis=0), floor, before)
-    stays = rock & ~stage.dug & (np.arange(levels)[::-1, None, None] > after)
+    floor = stage.mined[::-1].argmax(axis=0)
+    after = np.where(stage.mined.any(axis=0), floor, before)
+    stays = rock & ~stage.mined & (np.arange(levels)[::-1, None, None] > after)
     if stays.any():
         level, row, column = np.argwhere(stays)[0]
         x, y, z = (
@@ -100,9 +100,9 @@ def stepped(heights: Heights) -> Surface:
     high = heights.after
     rows, columns = np.nonzero(high != NONE)
     tops = np.stack([columns, rows, high[rows, columns]], axis=1)
-    dug = high[rows, columns] < heights.before[rows, columns]
-    found = [(tops, np.array([[0, 0, 0], [1, 0, 0], [1, 1, 0], [0, 1, 0]]), np.where(dug, tops[:, 2], NONE))]
-    found += [walls(heights, 1, step) for step in (1, -1)] + [walls(heights, 0, step) for step in (1, -1)]
+    mined = high[rows, columns] < heights.before[rows, columns]
+    found = [(tops, np.array([[0, 0, 0], [1, 0, 0], [1, 1, 0], [0, 1, 0]]), np.where(mined, tops[:, 2], NONE))]
+    found += [domains(heights, 1, step) for step in (1, -1)] + [domains(heights, 0, step) for step in (1, -1)]
     # Four corners a face, shape (faces, 4, 3), in two triangles each.
     quads = np.concatenate([base[:, None] + corners for base, corners, _ in found])
     corners, at = np.unique(quads.reshape(-1, 3), axis=0, return_inverse=True)
@@ -111,7 +111,7 @@ def stepped(heights: Heights) -> Surface:
     return Surface(corners.astype(float), faces, np.repeat(np.concatenate([bench for _, _, bench in found]), 2))
 
 
-def walls(heights: Heights, axis: int, step: int) -> tuple[np.ndarray, np.ndarray, np.ndarray]:
+def domains(heights: Heights, axis: int, step: int) -> tuple[np.ndarray, np.ndarray, np.ndarray]:
     """Returns the walls between a higher column and a lower one next to it.
 
     Parameters
@@ -291,7 +291,7 @@ def write_each(path: Path, folder: Folder, shape: Shape, kind: str, writer_of: A
     said = []
     for stage in stages_of(folder, shape):
         place = path if shape.of == FACTOR else path / f"{stage.name}.{kind}"
-        if shape.surface != GROUND and not stage.dug.any():
+        if shape.surface != GROUND and not stage.mined.any():
             said.append(f"{stage.name}: nothing is mined by its end, so it has no surface")
             continue
         surface, told = (
@@ -322,10 +322,10 @@ def of_ground(folder: Folder, stage: Stage, shape: Shape) -> tuple[Any, str]:
 def of_pit(name: str, folder: Folder, stage: Stage) -> tuple[Any, str]:
     """Returns the closed surface around the blocks of a stage as vtkPolyData, and a sentence on both volumes. Raises PlanError as `write_stl`."""
     vtk, grid = load("vtk", PACKAGE, "a surface"), folder.grid
-    surface = round_cells(vtk, image_of(grid, {"dug": stage.dug.astype(np.uint8).ravel()}, "a surface"))
+    surface = round_cells(vtk, image_of(grid, {"mined": stage.mined.astype(np.uint8).ravel()}, "a surface"))
     measured = vtk.vtkMassProperties()
     measured.SetInputData(surface)
-    blocks = int(np.count_nonzero(stage.dug))
+    blocks = int(np.count_nonzero(stage.mined))
     volume, expected = measured.GetVolume(), blocks * float(np.prod(grid.size))
     said = (
         f"{surface.GetNumberOfCells():,} triangles hold {volume:,.0f} m3, and the {blocks:,} blocks {expected:,.0f} m3"
@@ -339,7 +339,7 @@ def round_cells(vtk: Any, image: Any) -> Any:
     """Returns the faces between mined cells of image data and all others, as triangles that face outwards."""
     cells, faces, triangles = vtk.vtkThreshold(), vtk.vtkGeometryFilter(), vtk.vtkTriangleFilter()
     cells.SetInputData(image)
-    cells.SetInputArrayToProcess(0, 0, 0, vtk.vtkDataObject.FIELD_ASSOCIATION_CELLS, "dug")
+    cells.SetInputArrayToProcess(0, 0, 0, vtk.vtkDataObject.FIELD_ASSOCIATION_CELLS, "mined")
     cells.SetThresholdFunction(vtk.vtkThreshold.THRESHOLD_UPPER)
     cells.SetUpperThreshold(0.5)
     cells.SetOutputPointsPrecision(vtk.vtkAlgorithm.DOUBLE_PRECISION)

@@ -4,7 +4,7 @@ from __future__ import annotations
 
 from dataclasses import dataclass
 from pathlib import Path
-from typing import Any, Optional
+from typing import Any
 
 import matplotlib
 import numpy as np
@@ -17,12 +17,14 @@ from numpy.typing import NDArray
 
 from pitplan.blockmodel.guesses import Model, least_gap, size_of, turned_grid
 from pitplan.config.economics import GRADE_SIGNS
+from pitplan.core.tolerances import SIDE_ERROR
 from pitplan.plan import Plan
 
 from . import palette
-from .map_marks import draw_line, name_lines, section_titles
+from .map_marks import name_lines
 from .palette import ORE
 from .plans_sections import Scene, draw_ground, draw_outline
+from .scene import Cut
 from .style import GROUND, MAP, STYLE, finish, list_of, name_axes, panels
 
 OTHERS = "others"
@@ -105,33 +107,26 @@ def plot_sections(scene: Scene, kinds: list[Kind], axes: Any) -> list[Axes]:
     list of Axes
     """
     found = list_of(axes, 2 * len(kinds))
-    row, column = scene.section_row, scene.section_column
-    titles, names = section_titles(scene.grid, row, column), scene.grid.frame.names
     for place, kind in enumerate(kinds):
         both = found[place], found[len(kinds) + place]
         used: set[int] = set()
-        for ax, along, title, name in zip(both, ((row, None), (None, column)), titles, names):
-            used |= draw_kind(ax, scene, kind, along)
-            ax.set_title(f"{kind.title}, {title}")
-            name_axes(ax, name, "elevation")
+        for ax, cut in zip(both, scene.sections):
+            used |= draw_kind(ax, scene, kind, cut)
+            ax.set_title(f"{kind.title}, {cut.title}")
+            scene.finish_section(ax, cut)
         name_codes(both[1], kind, used)
     if scene.topography is not None and found:
         name_lines(found[0], scene.topography)
     return found
 
 
-def draw_kind(ax: Axes, scene: Scene, kind: Kind, along: tuple[Optional[int], Optional[int]]) -> set[int]:
-    """Draws the codes of a section along a row or a column; returns the numbers of those that it shows."""
-    row, column = along
-    plane = scene.from_west_to_east(row) if row is not None else scene.from_south_to_north(column or 0)
-    cut: Any = (slice(None, None, -1), slice(None) if row is None else row, slice(None) if column is None else column)
-    number = kind.number[cut]
+def draw_kind(ax: Axes, scene: Scene, kind: Kind, cut: Cut) -> set[int]:
+    """Draws the codes of a section; returns the numbers of those that it shows."""
+    plane, number = scene.plane(cut), kind.number[cut.index]
     draw_ground(ax, plane)
     colours = ListedColormap([*kind.colours.values()])
     norm = BoundaryNorm(np.arange(len(kind.colours) + 1) - 0.5, len(kind.colours))
     ax.imshow(np.ma.masked_less(number, 0), extent=plane.extent, cmap=colours, norm=norm, alpha=PALE, **MAP)
-    if scene.topography is not None:
-        draw_line(ax, scene.topography, cut[1:])
     draw_outline(ax, plane)
     return set(np.unique(number[number >= 0]).tolist())
 
@@ -251,4 +246,4 @@ def along(model: Model, axis: str) -> tuple[np.ndarray, float, float]:
         known, _ = size_of(model)
         size = known["xyz".index(axis)] if known else least_gap(model, axis) or 1.0
         edge = float(values.min()) - size / 2
-    return np.floor((values - edge) / size + 1e-6).astype(np.int64), edge, size
+    return np.floor((values - edge) / size + SIDE_ERROR).astype(np.int64), edge, size

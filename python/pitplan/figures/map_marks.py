@@ -81,7 +81,7 @@ def axes_of_map(grid: Grid) -> tuple[str, str]:
 def nice_length(most: float) -> float:
     """Returns the largest of 1, 2 and 5 times a power of ten that is at most `most`."""
     power = 10.0 ** np.floor(np.log10(most))
-    return float(max(step * power for step in (1, 2, 5) if step * power <= most * (1 + 1e-9)))
+    return float(max(step * power for step in (1, 2, 5) if step * power <= most * (1 + SUM_ERROR)))
 
 
 def mark_sections(ax: Axes, grid: Grid, north_of: float, east_of: float) -> None:
@@ -106,17 +106,17 @@ def mark_section_cells(ax: Axes, grid: Grid, row: int, column: int) -> None:
     mark_sections(ax, grid, float(north), float(east))
 
 
-def floor_of(grid: Grid, dug: np.ndarray) -> np.ndarray:
+def floor_of(grid: Grid, mined: np.ndarray) -> np.ndarray:
     """Returns the elevation of the pit floor in metres, shape (rows, columns); nan where nothing is mined.
 
     Parameters
     ----------
     grid : Grid
-    dug : array of bool, shape (levels, rows, columns)
+    mined : array of bool, shape (levels, rows, columns)
         Whether a cell is mined; levels from the top.
     """
     level = np.arange(grid.shape[0])[:, None, None]
-    deepest = np.where(dug, level, -1).max(axis=0)
+    deepest = np.where(mined, level, -1).max(axis=0)
     return np.where(deepest >= 0, grid.extent()[5] - (deepest + 1) * grid.size[2], np.nan)
 
 

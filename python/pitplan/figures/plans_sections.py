@@ -24,24 +24,11 @@ from pitplan.config.economics import Metal
 from pitplan.config.project import FigureRules
 from pitplan.core.cell_outlines import edges
 from pitplan.core.revenue_factors import factor_text
-from pitplan.pits import shell_tables
-from pitplan.plan import Plan
-from pitplan.solver.program import Solution
+from pitplan.pits.shells import Shells
 
-from .map_marks import (
-    Cut,
-    Topography,
-    axes_of_map,
-    contours,
-    draw_line,
-    floor_of,
-    mark_map,
-    mark_section_cells,
-    name_lines,
-    section_titles,
-    topography_of,
-)
-from .style import GROUND, MAP, MOST_TICKS, STYLE, finish, list_of, name_axes, panels, write_maps
+from .map_marks import Topography, contours, floor_of, name_lines, topography_of
+from .scene import BlockScene, Cut, Extent
+from .style import GROUND, MAP, MOST_TICKS, STYLE, finish, list_of, panels, write_maps
 
 
 @dataclass(frozen=True)
@@ -50,7 +37,7 @@ class Plane:
 
     Attributes
     ----------
-    factor, solid, grade, dug : array, shape (rows, columns)
+    factor, solid, grade, mined : array, shape (rows, columns)
         As those of `Scene`; rows from the south or from the bottom.
     extent : tuple of float
         The sides in metres: left, right, bottom, top.
@@ -59,13 +46,13 @@ class Plane:
     factor: np.ndarray
     solid: np.ndarray
     grade: np.ndarray
-    dug: np.ndarray
-    extent: tuple[float, float, float, float]
+    mined: np.ndarray
+    extent: Extent
 
 
 @dataclass(frozen=True)
-class Scene:
-    """Contents of plans and sections; arrays have shape (levels, rows, columns), with levels from the top.
+class Scene(BlockScene):
+    """Contents of plans and sections of shells; arrays have shape (levels, rows, columns), with levels from the top.
 
     Attributes
     ----------
@@ -94,34 +81,15 @@ class Scene:
     rules: FigureRules = FigureRules()
     topography: Optional[Topography] = None
 
-    @property
-    def section_row(self) -> int:
-        """The row of blocks of the section from west to east."""
-        return section_row(self.rules, self.grid, self.dug)
-
-    @property
-    def section_column(self) -> int:
-        return section_column(self.rules, self.grid, self.dug)
-
     @cached_property
-    def dug(self) -> np.ndarray:
+    def mined(self) -> np.ndarray:
         """The cells of the selected pit that have tonnes, a boolean mask."""
         return (self.factor > 0) & (self.factor <= self.selected) & self.solid
 
-    def level(self, number: int) -> Plane:
-        west, east, south, north, _, _ = self.grid.extent()
-        return self.plane((number,), (west, east, south, north))
-
-    def from_west_to_east(self, row: int) -> Plane:
-        west, east, _, _, bottom, top = self.grid.extent()
-        return self.plane((slice(None, None, -1), row), (west, east, bottom, top))
-
-    def from_south_to_north(self, column: int) -> Plane:
-        _, _, south, north, bottom, top = self.grid.extent()
-        return self.plane((slice(None, None, -1), slice(None), column), (south, north, bottom, top))
-
-    def plane(self, cut: Any, extent: tuple[float, float, float, float]) -> Plane:
-        return Plane(self.factor[cut], self.solid[cut], self.grade[cut], self.dug[cut], extent)
+    def plane(self, cut: Cut) -> Plane:
+        """Returns what a level or section shows."""
+        at = cut.index
+        return Plane(self.factor[at], self.solid[at], self.grade[at], self.mined[at], cut.extent)
 
     @cached_property
     def shades(self) -> tuple[ListedColormap, BoundaryNorm, list[float]]:
@@ -134,48 +102,25 @@ class Scene:
         return colours, BoundaryNorm([used[0] - 1, *middles, used[-1] + 1], len(used)), used
 
 
-def scene_of(plan: Plan, solution: Solution, selected: Optional[float] = None) -> Scene:
-    """Returns the contents of plans and sections of a plan's shells.
-
-    Parameters
-    ----------
-    plan : Plan
-    solution : Solution
-        The solution of this plan.
-    selected : float, optional
-        Revenue factor of the selected shell. Default: that of the report.
-    """
+def scene_of(shells: Shells) -> Scene:
+    """Returns the contents of plans and sections of shells, with the floor of the selected one."""
+    plan, cells = shells.plan, shells.cells
     rules, grid = plan.project.figures or FigureRules(), plan.grid
     first = next(metal for metal in plan.project.metals if rules.metal in (None, metal.name))
-    cells = shell_tables.cells_of(plan, solution)
     return Scene(
         grid=grid,
         factor=grid.cube(cells.factor),
         solid=grid.cube(cells.tonnes > 0),
         grade=grid.cube(grid.spread(plan.table[first.column].to_numpy())),
         metal=first,
-        selected=shell_tables.selected_factor(shell_tables.shells(plan, solution), plan.project.shells)
-        if selected is None
-        else selected,
+        selected=shells.selected,
         rules=rules,
         topography=topography_of(plan),
     )
 
 
-def place_of(coordinate: float, grid: Grid, axis: int) -> int:
-    """Returns the column from the west (axis 0), row from the south (1) or level from the top (2) that holds a coordinate in metres; between
-    two of them the second."""
-    west, _, south, _, _, top = grid.extent()
-    steps = (
-        (coordinate - west) / grid.size[0],
-        (coordinate - south) / grid.size[1],
-        (top - coordinate) / grid.size[2],
-    )[axis]
-    return min(int(steps), grid.shape[2 - axis] - 1)
-
-
 def write_plans(scene: Scene, path: Path) -> None:
-    write_maps(scene.grid, partial(plot_plans, scene), path, 1 + len(levels_to_show(scene)))
+    write_maps(scene.grid, partial(plot_plans, scene), path, 1 + len(scene.levels))
 
 
 def plot_plans(scene: Scene, axes: Any) -> list[Axes]:
@@ -191,10 +136,9 @@ def plot_plans(scene: Scene, axes: Any) -> list[Axes]:
     -------
     list of Axes
     """
-    levels = levels_to_show(scene)
-    first, *others = found = list_of(axes, 1 + len(levels))
+    first, *others = found = list_of(axes, 1 + len(scene.levels))
     plot_floor(scene, first)
-    for ax, number in zip(others, levels):
+    for ax, number in zip(others, scene.levels):
         plot_level(scene, number, ax)
     return found
 
@@ -219,20 +163,13 @@ def plot_sections(scene: Scene, axes: Any) -> list[Axes]:
     -------
     list of Axes
     """
-    found = list_of(axes, 4)
-    row, column = scene.section_row, scene.section_column
-    (first, second), (east, north) = section_titles(scene.grid, row, column), scene.grid.frame.names
-    planes = scene.from_west_to_east(row), scene.from_south_to_north(column)
-    lines: tuple[Cut, Cut] = ((row, slice(None)), (slice(None), column))
-    cuts = zip(planes, (first, second), (east, north), lines)
+    found, planes = list_of(axes, 4), [scene.plane(cut) for cut in scene.sections]
     most = max(float(plane.grade[plane.solid].max(initial=0.0)) for plane in planes)
-    for (plane, where, label, line), left, right in zip(cuts, found[::2], found[1::2]):
-        plot_shells(scene, plane, left).set_title(f"Shells, {where}")
+    for cut, plane, left, right in zip(scene.sections, planes, found[::2], found[1::2]):
+        plot_shells(scene, plane, left).set_title(f"Shells, {cut.title}")
         plot_grades(scene, plane, right, most)
         for ax in (left, right):
-            name_axes(ax, label, "elevation")
-            if scene.topography is not None:
-                draw_line(ax, scene.topography, line)
+            scene.finish_section(ax, cut)
     if scene.topography is not None:
         name_lines(found[0], scene.topography)
     return found
@@ -240,25 +177,20 @@ def plot_sections(scene: Scene, axes: Any) -> list[Axes]:
 
 def plot_floor(scene: Scene, ax: Axes) -> Axes:
     """Draws the floor of the selected pit in metres, with contours of its benches and the lines of the sections; returns `ax`."""
-    west, east, south, north, _, _ = scene.grid.extent()
-    floor = floor_of(scene.grid, scene.dug)
-    image = ax.imshow(floor, extent=(west, east, south, north), cmap="cividis", **MAP)
+    floor = floor_of(scene.grid, scene.mined)
+    image = ax.imshow(floor, extent=scene.map_extent, cmap="cividis", **MAP)
     between = contours(ax, scene.grid, floor) * scene.grid.size[2]
     ax.set_title(f"Pit floor at revenue factor {factor_text(scene.selected)}, contours every {metres(between)} m")
     ax.figure.colorbar(image, ax=ax, shrink=0.85, label="elevation, m")
-    mark_section_cells(ax, scene.grid, scene.section_row, scene.section_column)
-    mark_map(ax, scene.grid)
-    name_axes(ax, *axes_of_map(scene.grid))
+    scene.finish_map(ax, has_sections=True)
     return ax
 
 
 def plot_level(scene: Scene, number: int, ax: Axes) -> Axes:
     """Draws the shells on a level, counted from 0 at the top; returns `ax`."""
-    top, height = scene.grid.extent()[5], scene.grid.size[2]
-    plot_shells(scene, scene.level(number), ax)
-    ax.set_title(f"Shells on the level {metres(top - (number + 1) * height)} to {metres(top - number * height)} m")
-    mark_map(ax, scene.grid)
-    name_axes(ax, *axes_of_map(scene.grid))
+    cut = scene.level(number)
+    plot_shells(scene, scene.plane(cut), ax).set_title(f"Shells on the {cut.title}")
+    scene.finish_map(ax)
     return ax
 
 
@@ -296,9 +228,9 @@ def draw_ground(axis: Axes, plane: Plane) -> None:
 def draw_outline(axis: Axes, plane: Plane) -> None:
     """Draws the outline of the selected pit as a black line."""
     left, right, low, high = plane.extent
-    rows, columns = plane.dug.shape
+    rows, columns = plane.mined.shape
     size = np.array([(right - left) / columns, (high - low) / rows])
-    axis.add_collection(LineCollection(edges(plane.dug) * size + (left, low), colors="black", linewidths=1.3))
+    axis.add_collection(LineCollection(edges(plane.mined) * size + (left, low), colors="black", linewidths=1.3))
 
 
 def colour_bar(image: AxesImage, axis: Axes, scene: Scene) -> None:
@@ -309,33 +241,3 @@ def colour_bar(image: AxesImage, axis: Axes, scene: Scene) -> None:
     bar = axis.figure.colorbar(image, ax=axis, shrink=0.85, label="lowest revenue factor", spacing="uniform")
     bar.set_ticks(middles[::step], labels=[factor_text(factor) for factor in used[::step]])
     bar.ax.minorticks_off()
-
-
-def levels_to_show(scene: Scene) -> list[int]:
-    return section_levels(scene.rules, scene.grid, scene.dug)
-
-
-def section_levels(rules: FigureRules, grid: Grid, dug: np.ndarray) -> list[int]:
-    """Returns the levels of `[figures]`, otherwise three of the mined levels: near the top, in the middle and near the floor."""
-    if rules.levels:
-        return [place_of(elevation, grid, 2) for elevation in rules.levels]
-    used = np.flatnonzero(dug.any(axis=(1, 2)))
-    if not len(used):
-        used = np.arange(grid.shape[0])
-    return [int(used[int(share * (len(used) - 1))]) for share in (0.2, 0.5, 0.8)]
-
-
-def section_row(rules: FigureRules, grid: Grid, dug: np.ndarray) -> int:
-    """Returns the row of blocks of the section from west to east: that of `[figures] north`, otherwise the one with most mined blocks."""
-    return busiest(dug, 1) if rules.north is None else place_of(rules.north, grid, 1)
-
-
-def section_column(rules: FigureRules, grid: Grid, dug: np.ndarray) -> int:
-    """Returns the column of blocks of the section from south to north, as `section_row` by `[figures] east`."""
-    return busiest(dug, 2) if rules.east is None else place_of(rules.east, grid, 0)
-
-
-def busiest(dug: np.ndarray, axis: int) -> int:
-    """Returns the row or column with most blocks of the pit."""
-    others = tuple(k for k in range(3) if k != axis)
-    return int(dug.sum(axis=others).argmax()) if dug.any() else dug.shape[axis] // 2

@@ -3,7 +3,7 @@
 from __future__ import annotations
 
 from dataclasses import dataclass
-from functools import partial
+from functools import cached_property, partial
 from pathlib import Path
 from typing import Any, Optional
 
@@ -17,31 +17,19 @@ from matplotlib.figure import Figure
 from pitplan.blockmodel.grid import Grid, metres
 from pitplan.config.project import FigureRules
 from pitplan.core.cell_outlines import edges
-from pitplan.figures.plans_sections import section_column, section_levels, section_row
 from pitplan.pushbacks.nested import Pushbacks
 
-from .map_marks import (
-    Topography,
-    axes_of_map,
-    contours,
-    draw_line,
-    floor_of,
-    mark_map,
-    mark_section_cells,
-    name_lines,
-    section_titles,
-    topography_of,
-)
-from .style import GROUND, MAP, MOST_TICKS, STYLE, finish, list_of, name_axes, write_maps
+from .map_marks import Topography, contours, floor_of, name_lines, topography_of
+from .scene import BlockScene, Cut, Extent
+from .style import GROUND, MAP, MOST_TICKS, STYLE, finish, list_of, write_maps
 
-Extent = tuple[float, float, float, float]
 LEAST_SHARE, GREATEST_SHARE = 0.18, 0.9
 # Ratio of width to height from which a map counts as wide.
 WIDE = 1.5
 
 
 @dataclass(frozen=True)
-class PushbackScene:
+class PushbackScene(BlockScene):
     """Contents of plans and sections of pushbacks; arrays have shape (levels, rows, columns), with levels from the top.
 
     Attributes
@@ -66,19 +54,10 @@ class PushbackScene:
     rules: FigureRules = FigureRules()
     topography: Optional[Topography] = None
 
-    @property
-    def dug(self) -> np.ndarray:
+    @cached_property
+    def mined(self) -> np.ndarray:
         """The cells of all pushbacks that have tonnes, a boolean mask."""
         return (self.pushback > 0) & self.solid
-
-    @property
-    def section_row(self) -> int:
-        """The row of blocks of the section from west to east."""
-        return section_row(self.rules, self.grid, self.dug)
-
-    @property
-    def section_column(self) -> int:
-        return section_column(self.rules, self.grid, self.dug)
 
 
 def scene_of(pushbacks: Pushbacks) -> PushbackScene:
@@ -89,7 +68,7 @@ def scene_of(pushbacks: Pushbacks) -> PushbackScene:
 
 
 def write_plans(scene: PushbackScene, path: Path) -> None:
-    write_maps(scene.grid, partial(plot_plans, scene), path, 1 + len(levels_to_show(scene)))
+    write_maps(scene.grid, partial(plot_plans, scene), path, 1 + len(scene.levels))
 
 
 def plot_plans(scene: PushbackScene, axes: Any) -> list[Axes]:
@@ -105,10 +84,9 @@ def plot_plans(scene: PushbackScene, axes: Any) -> list[Axes]:
     -------
     list of Axes
     """
-    levels = levels_to_show(scene)
-    first, *others = found = list_of(axes, 1 + len(levels))
+    first, *others = found = list_of(axes, 1 + len(scene.levels))
     plot_surface(scene, first)
-    for ax, number in zip(others, levels):
+    for ax, number in zip(others, scene.levels):
         plot_level(scene, number, ax)
     return found
 
@@ -124,61 +102,49 @@ def write_sections(scene: PushbackScene, path: Path) -> None:
 
 def plot_sections(scene: PushbackScene, axes: Any) -> list[Axes]:
     """Draws a section from west to east and one from south to north on two axes; returns them."""
-    across, along = found = list_of(axes, 2)
-    plot_from_west_to_east(scene, scene.section_row, across)
-    plot_from_south_to_north(scene, scene.section_column, along)
+    found = list_of(axes, 2)
+    for cut, ax in zip(scene.sections, found):
+        plot_section(scene, cut, ax)
     if scene.topography is not None:
-        name_lines(across, scene.topography)
+        name_lines(found[0], scene.topography)
     return found
 
 
 def plot_surface(scene: PushbackScene, ax: Axes) -> Axes:
     """Draws the pushback of the highest block with tonnes in each column, contours of the final floor, and the lines of the sections; returns
     `ax`."""
-    west, east, south, north, _, _ = scene.grid.extent()
     highest = scene.solid.argmax(axis=0)[None]
     pushback, solid = (np.take_along_axis(cube, highest, axis=0)[0] for cube in (scene.pushback, scene.solid))
-    draw(scene, (pushback, solid), (west, east, south, north), ax)
-    between = contours(ax, scene.grid, floor_of(scene.grid, scene.dug), over=True) * scene.grid.size[2]
+    draw(scene, (pushback, solid), scene.map_extent, ax)
+    between = contours(ax, scene.grid, floor_of(scene.grid, scene.mined), over=True) * scene.grid.size[2]
     ax.set_title(f"Pushbacks at the surface, contours of the floor every {metres(between)} m")
-    mark_section_cells(ax, scene.grid, scene.section_row, scene.section_column)
-    mark_map(ax, scene.grid)
-    name_axes(ax, *axes_of_map(scene.grid))
+    scene.finish_map(ax, has_sections=True)
     return ax
 
 
 def plot_level(scene: PushbackScene, number: int, ax: Axes) -> Axes:
     """Draws the pushbacks on a level, counted from 0 at the top; returns `ax`."""
-    west, east, south, north, _, top = scene.grid.extent()
-    height = scene.grid.size[2]
-    draw(scene, (scene.pushback[number], scene.solid[number]), (west, east, south, north), ax)
-    ax.set_title(f"Pushbacks on the level {metres(top - (number + 1) * height)} to {metres(top - number * height)} m")
-    mark_map(ax, scene.grid)
-    name_axes(ax, *axes_of_map(scene.grid))
+    cut = scene.level(number)
+    draw(scene, (scene.pushback[cut.index], scene.solid[cut.index]), cut.extent, ax)
+    ax.set_title(f"Pushbacks on the {cut.title}")
+    scene.finish_map(ax)
     return ax
 
 
 def plot_from_west_to_east(scene: PushbackScene, row: int, ax: Axes) -> Axes:
     """Draws the pushbacks along a row of blocks, counted from 0 in the south; returns `ax`."""
-    west, east, _, _, bottom, top = scene.grid.extent()
-    cut = (slice(None, None, -1), row)
-    draw(scene, (scene.pushback[cut], scene.solid[cut]), (west, east, bottom, top), ax)
-    if scene.topography is not None:
-        draw_line(ax, scene.topography, (row, slice(None)))
-    ax.set_title(f"Pushbacks, {section_titles(scene.grid, row, 0)[0]}")
-    name_axes(ax, scene.grid.frame.names[0], "elevation")
-    return ax
+    return plot_section(scene, scene.from_west_to_east(row), ax)
 
 
 def plot_from_south_to_north(scene: PushbackScene, column: int, ax: Axes) -> Axes:
     """Draws the pushbacks along a column of blocks, counted from 0 in the west; returns `ax`."""
-    _, _, south, north, bottom, top = scene.grid.extent()
-    cut = (slice(None, None, -1), slice(None), column)
-    draw(scene, (scene.pushback[cut], scene.solid[cut]), (south, north, bottom, top), ax)
-    if scene.topography is not None:
-        draw_line(ax, scene.topography, (slice(None), column))
-    ax.set_title(f"Pushbacks, {section_titles(scene.grid, 0, column)[1]}")
-    name_axes(ax, scene.grid.frame.names[1], "elevation")
+    return plot_section(scene, scene.from_south_to_north(column), ax)
+
+
+def plot_section(scene: PushbackScene, cut: Cut, ax: Axes) -> Axes:
+    draw(scene, (scene.pushback[cut.index], scene.solid[cut.index]), cut.extent, ax)
+    scene.finish_section(ax, cut)
+    ax.set_title(f"Pushbacks, {cut.title}")
     return ax
 
 
@@ -205,7 +171,3 @@ def draw(scene: PushbackScene, plane: tuple[np.ndarray, np.ndarray], extent: Ext
     bar.set_ticks(list(range(1, scene.count + 1, -(-scene.count // MOST_TICKS))))
     bar.minorticks_off()
     return ax
-
-
-def levels_to_show(scene: PushbackScene) -> list[int]:
-    return section_levels(scene.rules, scene.grid, scene.dug)

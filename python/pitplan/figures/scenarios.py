@@ -5,7 +5,7 @@ Each `plot_` function draws on the axes that it is given, and returns them; each
 
 from __future__ import annotations
 
-from functools import partial
+from functools import cached_property, partial
 from pathlib import Path
 from typing import Any
 
@@ -18,15 +18,14 @@ from matplotlib.colors import BoundaryNorm, ListedColormap, to_rgba
 from matplotlib.figure import Figure
 from matplotlib.lines import Line2D
 
-from pitplan.blockmodel.grid import metres
 from pitplan.core.cell_outlines import edges
 from pitplan.core.magnitude import scaled
 from pitplan.core.revenue_factors import factor_text
-from pitplan.figures.plans_sections import section_column, section_levels, section_row
+from pitplan.core.tolerances import SUM_ERROR
 from pitplan.studies.scenarios.pit_probability import QUANTILES, Likely
 
-from .map_marks import axes_of_map, mark_map, mark_section_cells, section_titles
-from .style import GROUND, MAP, STYLE, finish, list_of, name_axes, write_maps
+from .scene import BlockScene, Cut, levels_of
+from .style import GROUND, MAP, STYLE, finish, list_of, write_maps
 
 STEPS = np.linspace(0, 1, 11)
 COLOURS = ListedColormap(matplotlib.colormaps["viridis_r"](np.linspace(0.02, 1, len(STEPS) - 1)))
@@ -42,8 +41,30 @@ SET_COLOURS = ("#0072b2", "#d55e00", "#009e73", "#aa4499", "#b58900", "#555555")
 SET_MARKS = ("o", "s", "^", "D", "v", "P")
 
 
+class LikelyScene(BlockScene):
+    """The inclusion probabilities as plans and sections show them. Sections pass the blocks that half of the scenarios mine."""
+
+    def __init__(self, likely: Likely) -> None:
+        self.likely, self.grid, self.rules = likely, likely.grid, likely.rules
+
+    @cached_property
+    def mined(self) -> np.ndarray:
+        """The cells that half of the scenarios mine."""
+        return self.likely.shown >= 0.5
+
+    @property
+    def levels(self) -> list[int]:
+        """The levels of `[figures]`, otherwise three of those that a scenario mines."""
+        return levels_of(self.rules, self.grid, self.likely.shown > 0)
+
+    def draw(self, cut: Cut, ax: Axes) -> None:
+        """Draws a level or a section."""
+        draw(ax, self.likely.shown[cut.index], self.likely.solid[cut.index], cut.extent)
+        ax.set_title(f"{cut.title[0].upper()}{cut.title[1:]}")
+
+
 def write_plans(likely: Likely, path: Path) -> None:
-    write_maps(likely.grid, partial(plot_plans, likely), path, 1 + len(levels_to_show(likely)))
+    write_maps(likely.grid, partial(plot_plans, likely), path, 1 + len(LikelyScene(likely).levels))
 
 
 def plot_plans(likely: Likely, axes: Any) -> list[Axes]:
@@ -60,19 +81,14 @@ def plot_plans(likely: Likely, axes: Any) -> list[Axes]:
     -------
     list of Axes
     """
-    levels = levels_to_show(likely)
-    first, *others = found = list_of(axes, 1 + len(levels))
-    west, east, south, north, _, top = likely.grid.extent()
-    extent, height = (west, east, south, north), likely.grid.size[2]
-    draw(first, likely.shown.max(axis=0), likely.solid.any(axis=0), extent)
+    scene = LikelyScene(likely)
+    first, *others = found = list_of(axes, 1 + len(scene.levels))
+    draw(first, likely.shown.max(axis=0), likely.solid.any(axis=0), scene.map_extent)
     first.set_title("Any level")
-    mark_section_cells(first, likely.grid, row_of_section(likely), column_of_section(likely))
-    for ax, number in zip(others, levels):
-        draw(ax, likely.shown[number], likely.solid[number], extent)
-        ax.set_title(f"Level {metres(top - (number + 1) * height)} to {metres(top - number * height)} m")
-    for ax in found:
-        mark_map(ax, likely.grid)
-        name_axes(ax, *axes_of_map(likely.grid))
+    scene.finish_map(first, has_sections=True)
+    for ax, number in zip(others, scene.levels):
+        scene.draw(scene.level(number), ax)
+        scene.finish_map(ax)
     explain(found, likely)
     return found
 
@@ -89,19 +105,10 @@ def write_sections(likely: Likely, path: Path) -> None:
 def plot_sections(likely: Likely, axes: Any) -> list[Axes]:
     """Draws a section from west to east and one from south to north through the blocks that half of the scenarios mine, on two axes; returns
     them."""
-    found = list_of(axes, 2)
-    west, east, south, north, bottom, top = likely.grid.extent()
-    row, column = row_of_section(likely), column_of_section(likely)
-    (first, second), (along, up) = section_titles(likely.grid, row, column), likely.grid.frame.names
-    cuts: tuple[Any, ...] = ((slice(None, None, -1), row, slice(None)), (slice(None, None, -1), slice(None), column))
-    places = (
-        ((west, east, bottom, top), f"{first[0].upper()}{first[1:]}", along),
-        ((south, north, bottom, top), f"{second[0].upper()}{second[1:]}", up),
-    )
-    for ax, cut, (extent, title, label) in zip(found, cuts, places):
-        draw(ax, likely.shown[cut], likely.solid[cut], extent)
-        ax.set_title(title)
-        name_axes(ax, label, "elevation")
+    scene, found = LikelyScene(likely), list_of(axes, 2)
+    for cut, ax in zip(scene.sections, found):
+        scene.draw(cut, ax)
+        scene.finish_section(ax, cut)
     explain(found, likely)
     return found
 
@@ -116,7 +123,7 @@ def draw(axis: Axes, share: np.ndarray, solid: np.ndarray, extent: tuple[float, 
     size = np.array([(right - left) / share.shape[1], (high - low) / share.shape[0]])
     for least, style in LINES.items():
         # A share of nine in ten may be below 0.9 by rounding.
-        axis.add_collection(LineCollection(edges(share >= least - 1e-9) * size + (left, low), **style))
+        axis.add_collection(LineCollection(edges(share >= least - SUM_ERROR) * size + (left, low), **style))
 
 
 def explain(axes: list[Axes], likely: Likely) -> None:
@@ -132,21 +139,6 @@ def explain(axes: list[Axes], likely: Likely) -> None:
     figure.suptitle(
         f"Inclusion probability of each block at revenue factor {factor_text(likely.factor)}\n", x=0.01, ha="left"
     )
-
-
-def row_of_section(likely: Likely) -> int:
-    """Returns the row of blocks of the section from west to east, by the blocks that half of the scenarios mine."""
-    return section_row(likely.rules, likely.grid, likely.shown >= 0.5)
-
-
-def column_of_section(likely: Likely) -> int:
-    """Returns the column of blocks of the section from south to north, as `row_of_section`."""
-    return section_column(likely.rules, likely.grid, likely.shown >= 0.5)
-
-
-def levels_to_show(likely: Likely) -> list[int]:
-    """Returns the levels of `[figures]`, otherwise three of those that a scenario mines."""
-    return section_levels(likely.rules, likely.grid, likely.shown > 0)
 
 
 def write_spread(table: pd.DataFrame, currency: str, path: Path) -> None:

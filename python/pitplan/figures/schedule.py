@@ -24,19 +24,19 @@ from pitplan.config.project import Project
 from pitplan.config.shells import ShellRules
 from pitplan.core.magnitude import scaled
 from pitplan.core.revenue_factors import factor_text
-from pitplan.pits import shell_tables
+from pitplan.pits.shells import ratio
 from pitplan.pushbacks.bench_table import ROCK
 from pitplan.scheduling.cash_flow.tables import BlockOperation
 from pitplan.scheduling.flow.tables import feed_table
 from pitplan.scheduling.methods import LP, MILP, NAMES, RULE
-from pitplan.scheduling.pushback_schedule import YearlySchedule
+from pitplan.scheduling.pushback_schedule import PushbackSchedule
 
 from . import palette
 from .palette import WASTE
 from .style import BEST, BEST_MARK, PLAIN, SPECIFIED, SPECIFIED_MARK, STYLE, WORST, WORST_MARK, finish, list_of
 
 if TYPE_CHECKING:
-    from pitplan.scheduling.blocks.tables import ScheduledBlocks
+    from pitplan.scheduling.blocks.tables import BlockSchedule
 
 
 CASES = {"best": "Best case", "worst": "Worst case", "specified": "Specified case"}
@@ -270,7 +270,7 @@ MOST_NAMES, MOST_ROWS = 28, 80
 DARK = 0.45
 
 
-def write_gantt(schedule: YearlySchedule, path: Path) -> None:
+def write_gantt(schedule: PushbackSchedule, path: Path) -> None:
     count = len(schedule.shares)
     with matplotlib.rc_context(STYLE):
         if is_by_bench(schedule):
@@ -286,17 +286,17 @@ def write_gantt(schedule: YearlySchedule, path: Path) -> None:
         finish(figure, path)
 
 
-def is_by_bench(schedule: YearlySchedule) -> bool:
+def is_by_bench(schedule: PushbackSchedule) -> bool:
     """Returns whether each bench has a row of its own."""
     return len(schedule.benches) <= MOST_ROWS
 
 
-def plot_gantt(schedule: YearlySchedule, axes: Any) -> list[Axes]:
+def plot_gantt(schedule: PushbackSchedule, axes: Any) -> list[Axes]:
     """Draws the years in which benches are mined, by pushback from the top; of more than MOST_ROWS benches a row per pushback.
 
     Parameters
     ----------
-    schedule : YearlySchedule
+    schedule : PushbackSchedule
     axes : array or list of Axes
         One per method.
 
@@ -312,7 +312,7 @@ def plot_gantt(schedule: YearlySchedule, axes: Any) -> list[Axes]:
     return found
 
 
-def draw_pushbacks(schedule: YearlySchedule, way: str, ax: Axes) -> None:
+def draw_pushbacks(schedule: PushbackSchedule, way: str, ax: Axes) -> None:
     """Draws a row per pushback with a cell per year, darker the more is mined there, and the toes of its highest and lowest bench."""
     shares, benches = schedule.shares[way], schedule.benches
     toes, count = schedule.pushbacks.plan.grid.toes()[benches.level], int(benches.pushback.max())
@@ -339,7 +339,7 @@ def draw_pushbacks(schedule: YearlySchedule, way: str, ax: Axes) -> None:
         ax.text(0.5, 0.5, "nothing is mined", transform=ax.transAxes, ha="center", va="center")
 
 
-def draw_gantt(schedule: YearlySchedule, way: str, ax: Axes) -> None:
+def draw_gantt(schedule: PushbackSchedule, way: str, ax: Axes) -> None:
     """Draws a bar per bench and year, darker the larger the share of the bench."""
     shares, benches = schedule.shares[way], schedule.benches
     row = gantt_rows(schedule)
@@ -360,7 +360,7 @@ def draw_gantt(schedule: YearlySchedule, way: str, ax: Axes) -> None:
         ax.text(0.5, 0.5, "nothing is mined", transform=ax.transAxes, ha="center", va="center")
 
 
-def gantt_rows(schedule: YearlySchedule) -> np.ndarray:
+def gantt_rows(schedule: PushbackSchedule) -> np.ndarray:
     """Returns the row of each bench from the top of the figure, with space for the label of a pushback above its first."""
     pushback = schedule.benches.pushback
     return np.arange(len(pushback)) + 2.0 * (pushback - 1) + 1
@@ -371,7 +371,7 @@ def pushback_tints(count: int) -> np.ndarray:
     return matplotlib.colormaps["viridis_r"](np.linspace(0.08, 0.95, count))
 
 
-def name_benches(schedule: YearlySchedule, row: np.ndarray, longest: int, ax: Axes) -> None:
+def name_benches(schedule: PushbackSchedule, row: np.ndarray, longest: int, ax: Axes) -> None:
     benches, toes = schedule.benches, schedule.pushbacks.plan.grid.toes()
     each = -(-len(benches) // MOST_NAMES)
     shown = [bench for bench in range(len(benches)) if benches.level[bench] % each == 0]
@@ -382,7 +382,7 @@ def name_benches(schedule: YearlySchedule, row: np.ndarray, longest: int, ax: Ax
         ax.plot([0.5, longest + 0.5], [first - 0.55] * 2, color="#999999", linewidth=0.6)
 
 
-def money(amount: float, schedule: YearlySchedule) -> str:
+def money(amount: float, schedule: PushbackSchedule) -> str:
     size, sign = scaled(abs(amount))
     return f"{amount / size:,.2f} {sign} {schedule.pushbacks.plan.project.economics.currency}".replace("  ", " ")
 
@@ -412,7 +412,7 @@ LINES = {
 }
 
 
-def write_tonnes(schedule: YearlySchedule, path: Path) -> None:
+def write_tonnes(schedule: PushbackSchedule, path: Path) -> None:
     """Writes the tonnes of each method, and below them the metals of the one that is shown."""
     metals = schedule.pushbacks.plan.project.metals[:MOST_METALS]
     with matplotlib.rc_context(STYLE):
@@ -422,13 +422,13 @@ def write_tonnes(schedule: YearlySchedule, path: Path) -> None:
         finish(figure, path)
 
 
-def plot_tonnes(schedule: YearlySchedule, axes: Any) -> list[Axes]:
+def plot_tonnes(schedule: PushbackSchedule, axes: Any) -> list[Axes]:
     """Draws where the material that is mined in each year goes, with the capacities; reclaimed ore is beside it, on top of the ore that the
     processes take from the pit, so that the mining capacity holds for the one and the processing capacity for the other.
 
     Parameters
     ----------
-    schedule : YearlySchedule
+    schedule : PushbackSchedule
     axes : array or list of Axes
         One per method.
 
@@ -452,12 +452,12 @@ def plot_tonnes(schedule: YearlySchedule, axes: Any) -> list[Axes]:
     return found
 
 
-def plot_metals(schedule: YearlySchedule, axes: Any) -> list[Axes]:
+def plot_metals(schedule: PushbackSchedule, axes: Any) -> list[Axes]:
     """Draws recovered metal and head grade of each year of the method that is shown, of up to three metals.
 
     Parameters
     ----------
-    schedule : YearlySchedule
+    schedule : PushbackSchedule
     axes : array or list of Axes
         One per metal.
 
@@ -485,12 +485,12 @@ def add_legend(found: list[Axes], layers: list[str]) -> None:
     )
 
 
-def tonnes_of(schedule: YearlySchedule) -> pd.Series:
+def tonnes_of(schedule: PushbackSchedule) -> pd.Series:
     """Returns the in-situ tonnes that flow, by method, year, source and destination."""
     return schedule.material_flows.groupby(["method", "year", "source", "destination"])["total_tonnes"].sum()
 
 
-def layers_of(schedule: YearlySchedule) -> list[tuple[str, str, str, dict[str, Any]]]:
+def layers_of(schedule: PushbackSchedule) -> list[tuple[str, str, str, dict[str, Any]]]:
     """Returns the layers of a year's bar from below: source, destination, label and look."""
     processes, stockpiles = palette.of_processes(schedule.names), schedule.model.stockpiles
     found: list[tuple[str, str, str, dict[str, Any]]] = [
@@ -505,7 +505,7 @@ def layers_of(schedule: YearlySchedule) -> list[tuple[str, str, str, dict[str, A
     return found if dumps else [*found, (PIT, AS_WASTE, "waste", {"color": palette.WASTE})]
 
 
-def reclaimed_layers(schedule: YearlySchedule) -> list[tuple[str, str, str, dict[str, Any]]]:
+def reclaimed_layers(schedule: PushbackSchedule) -> list[tuple[str, str, str, dict[str, Any]]]:
     """Returns the layers of the ore that is reclaimed in a year, as `layers_of` does."""
     found: list[tuple[str, str, str, dict[str, Any]]] = []
     for name, colour in palette.of_processes(schedule.names).items():
@@ -514,7 +514,7 @@ def reclaimed_layers(schedule: YearlySchedule) -> list[tuple[str, str, str, dict
     return found
 
 
-def draw_flows(ax: Axes, schedule: YearlySchedule, way: str, size: float) -> None:
+def draw_flows(ax: Axes, schedule: PushbackSchedule, way: str, size: float) -> None:
     """Draws a bar per year with a layer per destination, and one beside it of the ore that is reclaimed; a text if nothing is mined."""
     count = schedule.flows[way].years
     ax.set_xlabel(label_of(schedule.settings.calendar, count))
@@ -545,7 +545,7 @@ def draw_flows(ax: Axes, schedule: YearlySchedule, way: str, size: float) -> Non
     ax.set_xlim(0.4, count + 0.6)
 
 
-def draw_limits(ax: Axes, schedule: YearlySchedule, count: int, unit: tuple[float, str]) -> None:
+def draw_limits(ax: Axes, schedule: PushbackSchedule, count: int, unit: tuple[float, str]) -> None:
     """Draws a line per capacity; that of the mill with its ramp-up."""
     size, sign = unit
     limits = schedule.problem.limits
@@ -566,7 +566,7 @@ def draw_limits(ax: Axes, schedule: YearlySchedule, count: int, unit: tuple[floa
             )
 
 
-def write_cumulative(schedule: YearlySchedule, years: pd.DataFrame, path: Path) -> None:
+def write_cumulative(schedule: PushbackSchedule, years: pd.DataFrame, path: Path) -> None:
     with matplotlib.rc_context(STYLE):
         figure = Figure(figsize=(9.5, 4.8))
         plot_cumulative(schedule, years, figure.subplots())
@@ -574,7 +574,7 @@ def write_cumulative(schedule: YearlySchedule, years: pd.DataFrame, path: Path) 
         finish(figure, path)
 
 
-def curves_of(schedule: YearlySchedule, years: pd.DataFrame) -> dict[str, np.ndarray]:
+def curves_of(schedule: PushbackSchedule, years: pd.DataFrame) -> dict[str, np.ndarray]:
     """Returns by case the discounted cash flow to the end of each year, from year 0."""
     shown = years[years["revenue_factor"] == schedule.factor]
     curves = {
@@ -588,13 +588,13 @@ def curves_of(schedule: YearlySchedule, years: pd.DataFrame) -> dict[str, np.nda
     return curves
 
 
-def plot_cumulative(schedule: YearlySchedule, years: pd.DataFrame, ax: Axes) -> Axes:
+def plot_cumulative(schedule: PushbackSchedule, years: pd.DataFrame, ax: Axes) -> Axes:
     """Draws the cumulative discounted cash flow of each case and method, of the optimum of the linear programme, and the
     upper bound.
 
     Parameters
     ----------
-    schedule : YearlySchedule
+    schedule : PushbackSchedule
     years : DataFrame
         As years.csv.
     ax : Axes
@@ -629,7 +629,7 @@ def plot_cumulative(schedule: YearlySchedule, years: pd.DataFrame, ax: Axes) -> 
     return ax
 
 
-def write(made: ScheduledBlocks, path: Path) -> None:
+def write(made: BlockSchedule, path: Path) -> None:
     """Writes tonnes and cash flow, and below them the metals."""
     metals = made.planned.plan.project.metals[:MOST_METALS]
     with matplotlib.rc_context(STYLE):
@@ -639,12 +639,12 @@ def write(made: ScheduledBlocks, path: Path) -> None:
         finish(figure, path)
 
 
-def plot(made: ScheduledBlocks, axes: Any) -> list[Axes]:
+def plot(made: BlockSchedule, axes: Any) -> list[Axes]:
     """Draws ore and waste of each year with the capacities, and the cumulative discounted cash flow with the upper bound.
 
     Parameters
     ----------
-    made : ScheduledBlocks
+    made : BlockSchedule
     axes : array or list of two Axes
 
     Returns
@@ -657,7 +657,7 @@ def plot(made: ScheduledBlocks, axes: Any) -> list[Axes]:
     return [tonnes, money]
 
 
-def plot_block_metals(made: ScheduledBlocks, axes: Any) -> list[Axes]:
+def plot_block_metals(made: BlockSchedule, axes: Any) -> list[Axes]:
     """Draws recovered metal and head grade of each year, of up to three metals; one axes per metal."""
     project = made.planned.plan.project
     metals, feed = project.metals[:MOST_METALS], feed_of(made)
@@ -667,7 +667,7 @@ def plot_block_metals(made: ScheduledBlocks, axes: Any) -> list[Axes]:
     return found
 
 
-def feed_of(made: ScheduledBlocks) -> pd.DataFrame:
+def feed_of(made: BlockSchedule) -> pd.DataFrame:
     """Returns year, process, feed_tonnes, head_grade_METAL and recovered_METAL."""
     operation, parts = BlockOperation(made), []
     for number, process in enumerate(made.planned.destinations[1:]):
@@ -675,13 +675,13 @@ def feed_of(made: ScheduledBlocks) -> pd.DataFrame:
         found = {"year": np.arange(1, made.count + 1), "process": process, "feed_tonnes": feed}
         for metal in operation.plan.project.metals:
             content = operation.fed(operation.amounts.contained[metal.name], number) / float(GRADE_UNITS[metal.unit])
-            found[f"head_grade_{metal.name}"] = shell_tables.ratio(content, feed)
+            found[f"head_grade_{metal.name}"] = ratio(content, feed)
             found[f"recovered_{metal.name}"] = operation.recovered(metal.name)[number]
         parts.append(pd.DataFrame(found))
     return pd.concat(parts, ignore_index=True)
 
 
-def draw_bars(ax: Axes, made: ScheduledBlocks, size: float) -> None:
+def draw_bars(ax: Axes, made: BlockSchedule, size: float) -> None:
     """Draws the in-situ tonnes of each year by process, and waste; a text if nothing is mined."""
     years, calendar = made.years, made.planned.limits.calendar
     ax.set_xlabel(label_of(calendar, len(years)))
@@ -702,7 +702,7 @@ def draw_bars(ax: Axes, made: ScheduledBlocks, size: float) -> None:
     ax.set_xlim(0.4, float(years["year"].max()) + 0.6)
 
 
-def plot_block_tonnes(made: ScheduledBlocks, ax: Axes) -> None:
+def plot_block_tonnes(made: BlockSchedule, ax: Axes) -> None:
     years, limits = made.years, made.planned.limits
     top = max(float(years["total_tonnes"].max()), 1.0) if len(years) else 1.0
     size, sign = scaled(top)
@@ -731,7 +731,7 @@ def plot_block_tonnes(made: ScheduledBlocks, ax: Axes) -> None:
     ax.legend(loc="upper right", ncol=2, facecolor="white", edgecolor="none", framealpha=0.9)
 
 
-def plot_value(made: ScheduledBlocks, ax: Axes) -> None:
+def plot_value(made: BlockSchedule, ax: Axes) -> None:
     earned = np.append(0.0, made.years["discounted_cash_flow"].cumsum())
     size, sign = scaled(max(float(np.abs(earned).max()), made.found.bound))
     currency = made.planned.plan.project.economics.currency

@@ -26,7 +26,7 @@ from numpy.typing import NDArray
 from pitplan.config.economics import MOST_YEARS
 from pitplan.config.project import Project
 from pitplan.config.shells import ShellRules, SpecifiedCase
-from pitplan.core.tolerances import EQUAL_MONEY, STRICT_SUM_ERROR, SUM_ERROR
+from pitplan.core.tolerances import EQUAL_MONEY, STRICT_SUM_ERROR, SUM_ERROR, TONNES_ERROR
 from pitplan.economics.period_costs import MINING_COST, PLAIN, YearlyMoney, is_shown
 from pitplan.errors import PlanError
 
@@ -103,7 +103,7 @@ class Shipments:
         """Tonnes above each capacity."""
         over = self.loads - self.limits
         return np.where(
-            over > STRICT_SUM_ERROR * np.where(np.isfinite(self.limits), self.limits, 0.0) + 1e-9, over, 0.0
+            over > STRICT_SUM_ERROR * np.where(np.isfinite(self.limits), self.limits, 0.0) + TONNES_ERROR, over, 0.0
         )
 
     @property
@@ -111,7 +111,7 @@ class Shipments:
         """Tonnes below each capacity."""
         free = self.limits - self.loads
         return np.where(
-            free > STRICT_SUM_ERROR * np.where(np.isfinite(self.limits), self.limits, 0.0) + 1e-9, free, 0.0
+            free > STRICT_SUM_ERROR * np.where(np.isfinite(self.limits), self.limits, 0.0) + TONNES_ERROR, free, 0.0
         )
 
     def moves(self) -> tuple[Floats, Ints]:

@@ -12,6 +12,7 @@ from numpy.typing import NDArray
 
 from pitplan.config.economics import GRADE_UNITS, Metal
 from pitplan.config.material import MILL
+from pitplan.core.tolerances import SUM_ERROR
 from pitplan.economics.cutoff_grades import RockCosts
 from pitplan.plan import Plan
 
@@ -133,7 +134,7 @@ def cutoffs_of(plan: Plan, metal: Metal) -> list[Cutoff]:
 def nice(step: float) -> float:
     """Returns the least of 1, 2, 2.5 and 5 times a power of ten that is at least a step."""
     power = 10.0 ** math.floor(math.log10(step))
-    return next(it * power for it in NICE if it * power >= step * (1 - 1e-9))
+    return next(it * power for it in NICE if it * power >= step * (1 - SUM_ERROR))
 
 
 def marks_of(plan: Plan, metal: Metal) -> Iterator[Cutoff]:

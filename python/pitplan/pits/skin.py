@@ -3,18 +3,17 @@
 from __future__ import annotations
 
 from collections.abc import Callable
-from dataclasses import dataclass, replace
+from dataclasses import dataclass
 from decimal import Decimal
 
 import numpy as np
 
-from pitplan.config.project import Project
 from pitplan.config.shells import LEAST_FACTOR
 from pitplan.core.revenue_factors import of_per_mille, per_mille
 from pitplan.plan import Plan
 from pitplan.solver import problem
 
-from . import shell_tables
+from .shells import Shells
 
 # How many factors between two known ones are solved together.
 TRIED = 8
@@ -22,12 +21,6 @@ TRIED = 8
 
 # From factors to the tonnes of rock in their shells.
 TonnesAt = Callable[[tuple[float, ...]], dict[float, float]]
-
-
-def with_factors(project: Project, factors: tuple[float, ...]) -> Project:
-    """Returns the project with other revenue factors; the last is selected."""
-    rules = replace(project.shells, revenue_factors=factors, selected=factors[-1], base_price_added=False)
-    return replace(project, shells=rules)
 
 
 def neighbours(known: dict[float, float], share: float) -> tuple[float, float]:
@@ -105,20 +98,18 @@ def of_pit(plan: Plan, share: Decimal) -> Skin:
     last = plan.project.shells.revenue_factors[-1]
     with problem.temporary(plan) as mine:
 
-        def entry_at(factors: tuple[float, ...]) -> np.ndarray:
-            part = replace(plan, project=with_factors(plan.project, factors))
-            return problem.solve(part, mine).entry[: plan.grid.count]
+        def shells_at(*factors: float) -> Shells:
+            return Shells.at_factors(plan, factors, mine)
 
-        def tonnes_at(factors: tuple[float, ...]) -> dict[float, float]:
-            part = replace(plan, project=with_factors(plan.project, factors))
-            return dict(zip(factors, shell_tables.within(part, entry_at(factors), plan.values.tonnes).tolist()))
+        def entry_at(factor: float) -> np.ndarray:
+            return shells_at(factor).solution.entry[: plan.grid.count]
 
-        known = tonnes_at(tuple(sorted({LEAST_FACTOR, last})))
+        known = shells_at(*sorted({LEAST_FACTOR, last})).tonnes
         most = known[last] * float(1 - share)
         while more := between(*neighbours(known, most)):
-            known |= tonnes_at(tuple(more))
+            known |= shells_at(*more).tonnes
         shell = neighbours(known, most)[0]
-        pit = entry_at((last,)) > 0
+        pit = entry_at(last) > 0
         if known[shell] > most:
             return Skin(0, pit)
-        return Skin(shell, pit & (entry_at((shell,)) == 0))
+        return Skin(shell, pit & (entry_at(shell) == 0))

@@ -7,7 +7,7 @@ from functools import cached_property
 
 import numpy as np
 
-from pitplan.pits import shell_tables
+from pitplan.pits.shells import feeds_of
 
 from .nested import Pushbacks
 
@@ -47,12 +47,12 @@ class PushbackBenches:
     @cached_property
     def before(self) -> np.ndarray:
         """Returns a boolean matrix: whether each bench depends on each other one, directly or indirectly."""
-        needs = np.zeros((len(self), len(self)), dtype=bool)
+        precedences = np.zeros((len(self), len(self)), dtype=bool)
         for bench in range(len(self)):
             for other in self.candidates(bench):
-                needs[bench] |= needs[other]
-                needs[bench, other] = True
-        return needs
+                precedences[bench] |= precedences[other]
+                precedences[bench, other] = True
+        return precedences
 
     @cached_property
     def waits(self) -> tuple[np.ndarray, ...]:
@@ -88,14 +88,14 @@ def benches_of_cells(pushbacks: Pushbacks, benches: PushbackBenches, cells: np.n
 
 def of_pushbacks(pushbacks: Pushbacks, lag: int = 0) -> PushbackBenches:
     """Returns the benches of pushbacks, at the base price and with the mining costs of the pushbacks."""
-    plan, cells = pushbacks.plan, shell_tables.cells_of(pushbacks.plan, pushbacks.solution)
+    plan, cells = pushbacks.plan, pushbacks.shells.cells
     inside = np.flatnonzero((pushbacks.pushback > 0) & (cells.tonnes > 0))
     levels = plan.grid.shape[0]
     place = (pushbacks.pushback[inside].astype(np.int64) - 1) * levels + inside // plan.grid.per_level
     used, bench = np.unique(place, return_inverse=True)
     ore = cells.ore[inside]
     flows = {ROCK: cells.tonnes[inside], ORE: np.where(ore, cells.feed[inside], 0.0)}
-    flows |= {name: feed[inside] for name, feed in shell_tables.feeds_of(plan, cells).items()}
+    flows |= {name: feed[inside] for name, feed in feeds_of(plan, cells).items()}
     flows |= {f"recovered_{name}": np.where(ore, metal[inside], 0.0) for name, metal in plan.values.metal.items()}
     flows[CASH] = (cells.worth - pushbacks.mining_cost_added)[inside]
     sums = np.column_stack([np.bincount(bench, flow, minlength=len(used)) for flow in flows.values()])

@@ -77,7 +77,7 @@ class Ground:
 
 def ground_of(plan: Plan, rules: PushbackRules) -> Ground:
     grid, last = plan.grid, plan.project.shells.revenue_factors[-1]
-    closed = closure.users_of(grid, plan.walls, unknown(plan))
+    closed = closure.users_of(grid, plan.domains, unknown(plan))
     if plan.settled is not None:
         closed |= plan.settled.left
     sides = (grid.size[1], grid.size[0])
@@ -99,7 +99,7 @@ def unknown(plan: Plan) -> np.ndarray:
 def free_of(plan: Plan) -> np.ndarray:
     """Returns the mask of the room for every pushback: air and must-mine blocks; shape (levels, rows, columns)."""
     free = (plan.values.tonnes == 0) & ~unknown(plan)
-    return plan.grid.cube(free if plan.settled is None else free | plan.settled.dug)
+    return plan.grid.cube(free if plan.settled is None else free | plan.settled.mined)
 
 
 def rectangle(wide: float, sides: tuple[float, float]) -> Rectangle:
@@ -143,7 +143,7 @@ def best(pit: np.ndarray, ground: Ground) -> np.ndarray:
     alone, more = lean(pit, ground), lean(grown(pit, ground), ground)
     pieces, count = ndimage.label(alone ^ more, TOUCHING)
     gains = ndimage.sum_labels(np.where(more, 1.0, -1.0) * ground.worth.astype(float), pieces, np.arange(count + 1))
-    some = lean(with_needs(np.where((gains > 0)[pieces], more, alone), ground), ground)
+    some = lean(with_precedences(np.where((gains > 0)[pieces], more, alone), ground), ground)
     return max((alone, more, some), key=ground.worth_of)
 
 
@@ -152,7 +152,7 @@ def lean(pit: np.ndarray, ground: Ground) -> np.ndarray:
     nothing = np.zeros_like(pit)
     whole = shrunk(pit, nothing, ground)
     wanted = (ground.worth > 0).astype(bool) | (ground.free & (ground.tonnes > 0))
-    less = shrunk(with_needs(whole & wanted, ground), nothing, ground)
+    less = shrunk(with_precedences(whole & wanted, ground), nothing, ground)
     return max((whole, less), key=ground.worth_of)
 
 
@@ -160,12 +160,12 @@ def advanced(inner: np.ndarray, outer: np.ndarray, ground: Ground) -> np.ndarray
     """Returns the inner pit with the small narrow pieces of the pushback between the two, and their predecessors."""
     between = outer & ~inner
     narrow = [pushback & ~opened(pushback, free, ground.width) for pushback, free in zip(between, ground.free)]
-    more = with_needs(inner | np.stack(narrow), ground) & between
+    more = with_precedences(inner | np.stack(narrow), ground) & between
     pieces, count = ndimage.label(more, TOUCHING)
     weights = ndimage.sum_labels(ground.tonnes, pieces, np.arange(count + 1))
     small = weights <= SMALL * ground.tonnes[between].sum()
     small[0] = False
-    return with_needs(inner | small[pieces], ground)
+    return with_precedences(inner | small[pieces], ground)
 
 
 def shrunk(inner: np.ndarray, outer: np.ndarray, ground: Ground) -> np.ndarray:
@@ -175,7 +175,7 @@ def shrunk(inner: np.ndarray, outer: np.ndarray, ground: Ground) -> np.ndarray:
     """
     found, left, plan = inner.copy(), np.zeros_like(inner), ground.plan
     for level in range(len(found)):
-        pit = found[level] & ~closure.users_at(left, level, plan.grid, plan.walls)
+        pit = found[level] & ~closure.users_at(left, level, plan.grid, plan.domains)
         found[level] = shrunk_level(pit, outer[level], level, ground)
         left[level] = inner[level] & ~found[level]
     return found
@@ -211,7 +211,7 @@ def grown(pit: np.ndarray, ground: Ground) -> np.ndarray:
     for level in range(len(found) - 1, -1, -1):
         for shape in (ground.width, ground.bottom):
             grow(found[level], ground.may[level], shape, ground.free[level])
-        closure.mark_needs(found, level, plan.grid, plan.walls)
+        closure.mark_predecessors(found, level, plan.grid, plan.domains)
     return found
 
 
@@ -234,9 +234,9 @@ def grow(mask: np.ndarray, may: np.ndarray, shape: Optional[Rectangle], free: np
             mask[least] |= ~free[least]
 
 
-def with_needs(pit: np.ndarray, ground: Ground) -> np.ndarray:
+def with_precedences(pit: np.ndarray, ground: Ground) -> np.ndarray:
     """Returns the pit with all predecessors."""
-    return ground.plan.grid.cube(closure.used_blocks(ground.plan.grid, ground.plan.walls, pit.ravel()))
+    return ground.plan.grid.cube(closure.used_blocks(ground.plan.grid, ground.plan.domains, pit.ravel()))
 
 
 def min_width(pushback: np.ndarray, free: np.ndarray, sides: tuple[float, float]) -> float:

@@ -9,51 +9,67 @@ reports the gap.
 from __future__ import annotations
 
 from dataclasses import dataclass, replace
-from functools import partial
-from typing import Optional
+from functools import cached_property
+from pathlib import Path
+from typing import TYPE_CHECKING, Any, Optional, Union
 
 import numpy as np
 import pandas as pd
+from numpy.typing import NDArray
 from scipy import ndimage
 
 from pitplan.config.project import Project
 from pitplan.config.shells import LEAST_FACTOR, MOST_PUSHBACKS, PushbackRules
-from pitplan.core.progress import Progress, silent
 from pitplan.core.revenue_factors import BASE_PRICE, factor_text, factor_texts
 from pitplan.errors import WARNING, PlanError
-from pitplan.pits import shell_tables
-from pitplan.pits.skin import TonnesAt, between, neighbours, with_factors
+from pitplan.pits import grade_tonnage
+from pitplan.pits.answer import Answer
+from pitplan.pits.shells import MINERALISED, Shells, of_outlines, with_factors, within
+from pitplan.pits.skin import TonnesAt, between, neighbours
 from pitplan.plan import Plan
 from pitplan.solver import problem
 from pitplan.solver.problem import Mine
-from pitplan.solver.program import Solution
 
 from . import mining_width
+
+if TYPE_CHECKING:
+    from pitplan.commands.writing import Writing
+    from pitplan.scheduling.pushback_schedule import PushbackSchedule
 
 # A shell that misses its share by more than this part of it is reported as a gap.
 FAR_OFF = 0.1
 
 
-@dataclass(frozen=True)
-class Pushbacks:
-    """A pit in pushbacks.
+@dataclass(frozen=True, eq=False, repr=False)
+class Pushbacks(Answer):
+    """A pit divided into pushbacks.
 
     Attributes
     ----------
-    plan : Plan
-        The plan, with the revenue factors of the pushbacks.
-    solution : Solution
-        The shells of these.
+    planned : Plan
+        The plan that was divided, with the revenue factors up to that of the last pushback.
+    shells : Shells
+        The shells that end the pushbacks.
     pushback : int array, shape (cells,)
         The pushback of each cell, from 1; 0: none.
     notes : tuple of str
         Notes on the division.
     """
 
-    plan: Plan
-    solution: Solution
-    pushback: np.ndarray
+    planned: Plan
+    shells: Shells
+    pushback: NDArray[Any]
     notes: tuple[str, ...]
+
+    def __repr__(self) -> str:
+        """The pushbacks with their tonnes."""
+        tonnes = ", ".join(f"{amount:,.0f} t" for amount in self.table["tonnes"])
+        return f"{len(self.table)} pushbacks of {self.plan.project.title}: {tonnes}"
+
+    @property
+    def plan(self) -> Plan:
+        """The plan, with the revenue factors of the pushbacks."""
+        return self.shells.plan
 
     @property
     def factors(self) -> tuple[float, ...]:
@@ -61,12 +77,120 @@ class Pushbacks:
         return self.plan.project.shells.revenue_factors
 
     @property
-    def mining_cost_added(self) -> np.ndarray:
+    def mining_cost_added(self) -> NDArray[Any]:
         """The added mining cost of each cell in its pushback, in the currency; it is not part of the block values."""
-        a_tonne = np.zeros(len(self.factors) + 1)
-        if amounts := rules_of(self.plan.project).mining_cost_added:
-            a_tonne[1:] = [float(amount) for amount in amounts]
-        return np.asarray(a_tonne[self.pushback] * self.plan.values.tonnes)
+        return cost_added(self.plan, self.pushback)
+
+    @property
+    def blocks(self) -> pd.DataFrame:
+        """One row per block of the pushbacks' shells, with its `pushback` from 1 (0: none)."""
+        frame = self.shells.blocks
+        return frame.assign(pushback=self.pushback[frame["id"].to_numpy()])
+
+    @cached_property
+    def table(self) -> pd.DataFrame:
+        """One row per pushback: what it adds to those before, at the base price. `results.columns` describes the columns.
+
+        `deferred_value` is the value of the shell that ends a pushback less that of the pushbacks up to it: blocks that a minimum width moves to a
+        later one. In the last row the same is `value_lost_to_width`.
+        """
+        plan, cells, total = self.plan, self.shells.cells, self.total
+        number = np.arange(1, len(self.factors) + 1)
+        columns = {"pushback": number, "revenue_factor": np.array(self.factors)}
+        columns |= of_outlines(plan, cells, outline=self.pushback, total=total, mineralised=self.mineralised_waste)
+        if rules_of(plan.project).mining_cost_added:
+            columns["mining_cost_added"] = total(self.pushback, self.mining_cost_added)
+        lacking = within(plan, cells.factor, cells.worth) - np.cumsum(columns["undiscounted_cash_flow"])
+        is_last = number == len(self.factors)
+        columns["deferred_value"] = np.where(is_last, 0.0, lacking)
+        columns["value_lost_to_width"] = np.where(is_last, lacking, 0.0)
+        return pd.DataFrame(columns | self.shapes)
+
+    @property
+    def mineralised_waste(self) -> dict[str, NDArray[Any]]:
+        """The column of mineralised waste at the base price, if the table has resource classes."""
+        if self.plan.project.table.resource_class is None:
+            return {}
+        values = self.plan.values
+        tonnes = np.where(values.mineralised_waste(BASE_PRICE), values.tonnes, 0.0)
+        return {MINERALISED: self.total(self.pushback, tonnes)}
+
+    @property
+    def shapes(self) -> dict[str, list[float]]:
+        """The number of pieces of each pushback that share no side, and its minimum width in metres."""
+        grid, free = self.plan.grid, mining_width.free_of(self.plan)
+        rock, cube = grid.cube(self.plan.values.tonnes > 0), grid.cube(self.pushback)
+        each = [cube == number for number in range(1, len(self.factors) + 1)]
+        return {
+            "pieces": [int(ndimage.label(pushback & rock)[1]) for pushback in each],
+            "min_width": [mining_width.min_width(pushback, free, (grid.size[1], grid.size[0])) for pushback in each],
+        }
+
+    def total(self, pushback: NDArray[Any], values: NDArray[Any]) -> NDArray[Any]:
+        """Returns the sum of the values over the cells of each pushback."""
+        return np.bincount(pushback, values, minlength=len(self.factors) + 1)[1:]
+
+    @property
+    def grade_tonnage(self) -> pd.DataFrame:
+        """The grade-tonnage curves of the model, the pit and the pushbacks."""
+        return grade_tonnage.of_pushbacks(self.plan, self.pushback, len(self.factors))
+
+    @property
+    def as_shells(self) -> Shells:
+        """The shells that end the pushbacks."""
+        return self.shells
+
+    @property
+    def as_pushbacks(self) -> Pushbacks:
+        """Itself."""
+        return self
+
+    def tables(self) -> dict[str, pd.DataFrame]:
+        """The tables by name: those of the shells, and pushbacks."""
+        of_shells = {"blocks": self.blocks, "shells": self.shells.table, "years": self.shells.years}
+        return of_shells | {"pushbacks": self.table, "grade_tonnage": self.grade_tonnage}
+
+    def summary(self) -> dict[str, Any]:
+        """The part of the record plan.json."""
+        return self.shells.summary() | {"pushbacks": len(self.factors)}
+
+    def schedule(self, **keys: Any) -> PushbackSchedule:
+        """The yearly schedule of the pushbacks' benches.
+
+        Parameters
+        ----------
+        **keys
+            The keys of `[schedule]`, such as `mining_capacity=2e6, bench_lag=1`. Default: those of the project.
+
+        Raises
+        ------
+        PlanError
+            If a key is wrong, or no schedule keeps within the limits.
+        """
+        from pitplan.scheduling import pushback_schedule
+
+        asked = self.planned.asked.changed("schedule", keys) if keys else None
+        pushbacks = of_project(self.planned, asked).warned() if asked else self
+        return pushback_schedule.make(pushbacks, self.plan.progress).warned()
+
+    def write(self, folder: Union[str, Path, None] = None, writing: Optional[Writing] = None) -> Path:
+        """Writes what `pitplan pushbacks` writes, by default into pushbacks in the project's output folder; see `Shells.write`."""
+        from pitplan.commands.answers import write
+
+        return write(self, folder or self.planned.asked.folder / "pushbacks", writing)
+
+
+def cost_added(plan: Plan, pushback: NDArray[Any]) -> NDArray[Any]:
+    """Returns the mining cost that the pushback of each cell adds, in the currency."""
+    a_tonne = np.zeros(len(plan.project.shells.revenue_factors) + 1)
+    if amounts := rules_of(plan.project).mining_cost_added:
+        a_tonne[1:] = [float(amount) for amount in amounts]
+    return np.asarray(a_tonne[pushback] * plan.values.tonnes)
+
+
+def of_project(plan: Plan, asked: Project) -> Pushbacks:
+    """Returns the pushbacks of a plan's rows by a project."""
+    return divide(plan.with_project(ending(asked), asked))
 
 
 def rules_of(project: Project) -> PushbackRules:
@@ -94,31 +218,30 @@ def ended(project: Project, last: float) -> Project:
     return with_factors(project, (*(factor for factor in project.shells.revenue_factors if factor < last), last))
 
 
-def selected(plan: Plan, mine: Mine, progress: Progress) -> tuple[Plan, list[str]]:
+def selected(plan: Plan, mine: Mine) -> tuple[Plan, list[str]]:
     """Returns the plan with the revenue factors up to the shell that `shells` selects, and a note of it, unless the project names the last shell.
 
     If the selected shell is empty, since no shell has an NPV above 0, the shell of the base price takes its place, with a warning.
     """
     if named_last(plan.project) is not None:
         return plan, []
-    table = shell_tables.shells(plan, problem.solve(plan, mine, progress))
-    last = shell_tables.selected_factor(table, plan.project.shells)
+    shells = Shells.solved(plan, mine)
+    last = shells.selected
     note = f"the last pushback ends at the selected shell, revenue factor {factor_text(last)}; [pushbacks] ultimate_pit sets another"
-    if not table["tonnes"][table["revenue_factor"] == last].any():
+    if not shells.tonnes[last]:
         last = BASE_PRICE
         note = f"{WARNING}no shell has an NPV above 0; the last pushback ends at the shell of revenue factor {factor_text(last)}"
     return replace(plan, project=ended(plan.project, last)), [note]
 
 
-def divide(plan: Plan, mine: Optional[Mine] = None, progress: Progress = silent) -> Pushbacks:
+def divide(planned: Plan, mine: Optional[Mine] = None) -> Pushbacks:
     """Divides a pit into pushbacks: that of the plan's last revenue factor if the project names one, otherwise the one that `shells` selects.
 
     Parameters
     ----------
-    plan : Plan
+    planned : Plan
     mine : Mine, optional
         The mine of the plan. Default: it is made for this call.
-    progress : Progress
 
     Raises
     ------
@@ -128,20 +251,16 @@ def divide(plan: Plan, mine: Optional[Mine] = None, progress: Progress = silent)
         If the solver refuses.
     """
     if mine is None:
-        with problem.temporary(plan) as made:
-            return divide(plan, made, progress)
-    plan, notes = selected(plan, mine, progress)
+        with problem.temporary(planned) as made:
+            return divide(planned, made)
+    solver, (plan, notes) = mine, selected(planned, mine)
     rules, last = rules_of(plan.project), plan.project.shells.revenue_factors[-1]
 
-    def solved(factors: tuple[float, ...]) -> tuple[Plan, Solution]:
-        part = replace(plan, project=with_factors(plan.project, factors))
-        return part, problem.solve(part, mine, progress)
+    def shells_at(factors: tuple[float, ...]) -> Shells:
+        return Shells.at_factors(plan, factors, solver)
 
     def tonnes_at(factors: tuple[float, ...]) -> dict[float, float]:
-        part, solution = solved(factors)
-        return dict(
-            zip(factors, shell_tables.within(part, solution.entry[: plan.grid.count], plan.values.tonnes).tolist())
-        )
+        return shells_at(factors).tonnes
 
     if rules.revenue_factors is not None:
         tonnes, gaps = tonnes_at(rules.revenue_factors), list[str]()
@@ -150,14 +269,15 @@ def divide(plan: Plan, mine: Optional[Mine] = None, progress: Progress = silent)
     factors, more = not_empty(tonnes, plan.project)
     notes += gaps
     more += notes_of_added(rules, factors, plan.project)
-    part, solution = solved(factors)
-    entry = solution.entry[: plan.grid.count]
+    shells = shells_at(factors)
+    entry = shells.solution.entry[: plan.grid.count]
     pushback = np.where(entry > 0, np.searchsorted(factors, entry) + 1, 0).astype(np.int16)
     if rules.min_mining_width is not None or rules.min_bottom_width is not None:
-        with progress.step("applying the minimum mining width"):
-            pushback, told = mining_width.widened(pushback, part, rules)
+        with plan.progress.step("applying the minimum mining width"):
+            pushback, told = mining_width.widened(pushback, shells.plan, rules)
         more = [*more, *told]
-    return Pushbacks(part, solution, pushback, (*notes, *more))
+    shells = replace(shells, mining_cost_added=cost_added(shells.plan, pushback))
+    return Pushbacks(planned, shells, pushback, (*notes, *more))
 
 
 def not_empty(tonnes: dict[float, float], project: Project) -> tuple[tuple[float, ...], list[str]]:
@@ -231,62 +351,3 @@ def gap(known: dict[float, float], low: float, high: float) -> str:
         f"between revenue factors {factor_text(low)} and {factor_text(high)} the shells grow by {known[high] - known[low]:,.0f} t in one step, "
         f"from {known[low]:,.0f} to {known[high]:,.0f}; no revenue factor divides it"
     )
-
-
-def blocks(pushbacks: Pushbacks) -> pd.DataFrame:
-    """Returns `shell_tables.blocks` of the pushbacks' shells with the column `pushback`, from 1 (0: none)."""
-    frame = shell_tables.blocks(pushbacks.plan, pushbacks.solution)
-    return frame.assign(pushback=pushbacks.pushback[frame["id"].to_numpy()])
-
-
-def table(pushbacks: Pushbacks) -> pd.DataFrame:
-    """Returns a row per pushback: what it adds to those before, at the base price. `results.columns` describes the columns.
-
-    `deferred_value` is the value of the shell that ends a pushback less that of the pushbacks up to it: blocks that a minimum width moves to a later
-    one. In the last row the same is `value_lost_to_width`.
-    """
-    plan, cells = pushbacks.plan, shell_tables.cells_of(pushbacks.plan, pushbacks.solution)
-    columns = {
-        "pushback": np.arange(1, len(pushbacks.factors) + 1),
-        "revenue_factor": np.array(pushbacks.factors),
-        **shell_tables.of_outlines(
-            plan,
-            cells,
-            outline=pushbacks.pushback,
-            total=partial(added, pushbacks),
-            mineralised=mineralised_waste(pushbacks),
-        ),
-    }
-    if rules_of(plan.project).mining_cost_added:
-        columns["mining_cost_added"] = added(pushbacks, pushbacks.pushback, pushbacks.mining_cost_added)
-    lacking = shell_tables.within(plan, cells.factor, cells.worth) - np.cumsum(columns["undiscounted_cash_flow"])
-    is_last = columns["pushback"] == len(pushbacks.factors)
-    columns["deferred_value"], columns["value_lost_to_width"] = np.where(is_last, 0.0, lacking), np.where(
-        is_last, lacking, 0.0
-    )
-    return pd.DataFrame(columns | shapes(pushbacks))
-
-
-def mineralised_waste(pushbacks: Pushbacks) -> dict[str, np.ndarray]:
-    """Returns the column of mineralised waste at the base price, if the table has resource classes."""
-    if pushbacks.plan.project.table.resource_class is None:
-        return {}
-    values = pushbacks.plan.values
-    tonnes = np.where(values.mineralised_waste(BASE_PRICE), values.tonnes, 0.0)
-    return {shell_tables.MINERALISED: added(pushbacks, pushbacks.pushback, tonnes)}
-
-
-def shapes(pushbacks: Pushbacks) -> dict[str, list[float]]:
-    """Returns the number of pieces of each pushback that share no side, and its minimum width in metres."""
-    grid, free = pushbacks.plan.grid, mining_width.free_of(pushbacks.plan)
-    rock, cube = grid.cube(pushbacks.plan.values.tonnes > 0), grid.cube(pushbacks.pushback)
-    each = [cube == number for number in range(1, len(pushbacks.factors) + 1)]
-    return {
-        "pieces": [int(ndimage.label(pushback & rock)[1]) for pushback in each],
-        "min_width": [mining_width.min_width(pushback, free, (grid.size[1], grid.size[0])) for pushback in each],
-    }
-
-
-def added(pushbacks: Pushbacks, pushback: np.ndarray, values: np.ndarray) -> np.ndarray:
-    """Returns the sum of the values over the cells of each pushback."""
-    return np.bincount(pushback, values, minlength=len(pushbacks.factors) + 1)[1:]

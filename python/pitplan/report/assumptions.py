@@ -8,7 +8,7 @@ from decimal import Decimal
 from typing import Any, Optional
 
 from pitplan.config.economics import BOTH, CHARGES, ByDomain, Curve, Metal, Smelter
-from pitplan.config.geometry import DIP, Wall
+from pitplan.config.geometry import DIP, SlopeDomain
 from pitplan.config.keys import declared
 from pitplan.config.material import STOCKPILE, TREATMENTS, FeedGrade
 from pitplan.config.periods import MONTHS, Period
@@ -241,24 +241,24 @@ def of_period(entry: Period, project: Project) -> Iterator[str]:
 
 
 def slopes(project: Project) -> Iterator[tuple[str, str]]:
-    walls = project.slopes.domains
-    for wall in walls:
-        others = "all domains" if len(walls) == 1 else "other domains"
-        yield f"domain {', '.join(wall.domains)}" if wall.domains else others, angle_of(wall)
+    domains = project.slopes.domains
+    for domain in domains:
+        others = "all domains" if len(domains) == 1 else "other domains"
+        yield f"domain {', '.join(domain.domains)}" if domain.domains else others, angle_of(domain)
 
 
-def angle_of(wall: Wall) -> str:
-    if wall.bench:
-        it = wall.bench
+def angle_of(domain: SlopeDomain) -> str:
+    if domain.bench:
+        it = domain.bench
         faces = f"faces of {number(it.face_angle)} degrees, berms of {number(it.berm_width)} m"
         return f"{it.angle:.1f} degrees: benches of {number(it.height)} m, {faces}"
-    if wall.angles:
-        of = "dip direction" if wall.azimuth_of == DIP else "azimuth of the wall"
-        angles = [number(angle) for _, angle in wall.angles]
-        if len(wall.angles) == 1:
+    if domain.angles:
+        of = "dip direction" if domain.azimuth_of == DIP else "azimuth of the wall"
+        angles = [number(angle) for _, angle in domain.angles]
+        if len(domain.angles) == 1:
             return f"{angles[0]} degrees"
-        return f"{', '.join(f'{angle} at {number(azimuth)}' for angle, (azimuth, _) in zip(angles, wall.angles))} degrees, by {of}"
-    return f"pattern {wall.pattern}" if wall.pattern else "offsets of the planner"
+        return f"{', '.join(f'{angle} at {number(azimuth)}' for angle, (azimuth, _) in zip(angles, domain.angles))} degrees, by {of}"
+    return f"pattern {domain.pattern}" if domain.pattern else "offsets of the planner"
 
 
 def classes(project: Project) -> Iterator[tuple[str, str]]:

@@ -201,12 +201,12 @@ def of_answer(folder: Path, project: Project, record: dict[str, Any]) -> dict[st
         found["statements"] = statements.schedule_statements(folder, project, record, shown)
         found["physicals"] = physicals_of(folder, project, shown) if found["statements"] else []
         cases, figures = [shown], statements.schedule_results(folder, project, shown)
-    dug = years.frame[
+    mined = years.frame[
         years.frame["case"].isin(cases)
         & ((years.frame["revenue_factor"] == chosen) | (years.frame["case"] == BY_BLOCK))
     ]
-    dug = dug.drop(columns="case") if dug["case"].nunique() == 1 else dug
-    found["years"] = parts_of(Written(years.file, dug), report.OF_YEARS.of, project) if len(dug) else []
+    mined = mined.drop(columns="case") if mined["case"].nunique() == 1 else mined
+    found["years"] = parts_of(Written(years.file, mined), report.OF_YEARS.of, project) if len(mined) else []
     return found | {"figures": figures}
 
 

@@ -94,7 +94,7 @@ SHELLS = {"revenue_factors": RISING, "selected": FACTOR, "solver": SOLVER}
 PLAN = {
     "title": TEXT,
     "grid": GRID,
-    "walls": [{"levels": Lacking(whole(1, 1000))}],
+    "slope_domains": [{"precedence_benches": Lacking(whole(1, 1000))}],
     "revenue_factors": RISING,
     "summary": [TEXT],
     "notes": [TEXT],
@@ -216,11 +216,11 @@ class Folder:
     def factors(self) -> list[float]:
         return list(self.record["shells"]["revenue_factors"])
 
-    def dug(self, factor: float) -> NDArray[Any]:
-        """Whether the pit of a factor digs rock of a cell; a truth for each level (from the top), row and column."""
+    def mined(self, factor: float) -> NDArray[Any]:
+        """Whether the pit of a factor mines rock of a cell; a truth for each level (from the top), row and column."""
         first, grid = self.blocks["revenue_factor"], self.grid
-        dug = (first > 0) & (first <= factor) & (self.blocks[self.record["tonnes"]] > 0)
-        return grid.cube(grid.spread(dug.to_numpy(), fill=False))
+        mined = (first > 0) & (first <= factor) & (self.blocks[self.record["tonnes"]] > 0)
+        return grid.cube(grid.spread(mined.to_numpy(), fill=False))
 
 
 def read_folder(path: Path) -> Folder:

@@ -38,6 +38,11 @@ OF_SOME = (
 )
 
 
+def of_table(name: str) -> str:
+    """Returns the file of a table by its name."""
+    return f"{TABLES}/{name}.csv"
+
+
 def bridge_figure(number: int) -> str:
     """Returns the figure of the bridge to a run, by its number from 1."""
     return f"{FIGURES}/bridge-{number}.png"

@@ -53,13 +53,13 @@ class Stage:
         FACTOR, PUSHBACK, YEAR or PERIOD.
     number : float
         That of the factor, pushback or year; 0: before mining.
-    dug : array of bool, shape (levels, rows, columns)
+    mined : array of bool, shape (levels, rows, columns)
         The mined cells; levels from the top.
     """
 
     kind: str
     number: float
-    dug: NDArray[Any]
+    mined: NDArray[Any]
 
     @property
     def name(self) -> str:
@@ -87,12 +87,12 @@ def stages_of(folder: Folder, shape: Shape) -> list[Stage]:
         If the folder has no pushbacks or years, or the pit of the revenue factor is empty.
     """
     if shape.of == FACTOR:
-        dug = folder.dug(shape.revenue_factor)
-        if not dug.any():
+        mined = folder.mined(shape.revenue_factor)
+        if not mined.any():
             raise PlanError(
                 f"{folder.path}: the pit of revenue factor {factor_text(shape.revenue_factor)} is empty and has no surface"
             )
-        return [Stage(FACTOR, shape.revenue_factor, dug)]
+        return [Stage(FACTOR, shape.revenue_factor, mined)]
     kind = PERIOD if shape.of == YEAR and PERIOD in folder.blocks else shape.of
     if kind not in folder.blocks:
         raise PlanError(f"{folder.path}: has no {kind}s: run {MADE_BY[kind]}, and give its folder")

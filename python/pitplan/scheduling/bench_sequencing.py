@@ -1,4 +1,4 @@
-"""Schedules that can be dug: benches in an order, each begun when all that it waits for are through, within the limits of each year."""
+"""Schedules that can be mined: benches in an order, each begun when all that it waits for are through, within the limits of each year."""
 
 from __future__ import annotations
 
@@ -147,7 +147,7 @@ class Problem:
         return float((self.worths(shares.shape[1]) * shares).sum() - self.costs(shares).sum())
 
     def worths(self, years: int) -> np.ndarray:
-        """What each bench earns, discounted, where it is dug in each year: an array of benches and years."""
+        """What each bench earns, discounted, where it is mined in each year: an array of benches and years."""
         cash = self.benches.of(CASH)[:, None] + self.benches.amounts @ self.money.premium(self.benches.names, years).T
         return cash * year_discounts(self.settings, years)
 
@@ -183,13 +183,13 @@ def running(flows: np.ndarray) -> np.ndarray:
 
 @dataclass(frozen=True)
 class Sequence:
-    """How benches are dug one after the other.
+    """How benches are mined one after the other.
 
-    order  the benches that are dug, each behind those that it waits for
-    first  for each bench the first year, from 1, in which it may be dug; None: any
+    order  the benches that are mined, each behind those that it waits for
+    first  for each bench the first year, from 1, in which it may be mined; None: any
     eager  whether benches further down the order use what a full limit leaves of the others; otherwise the first limit that is full ends the
            year, except for that of sinking, which holds up its pushback alone
-    pace   the most rock that is dug by the end of each year; None: any
+    pace   the most rock that is mined by the end of each year; None: any
     """
 
     order: np.ndarray
@@ -198,7 +198,7 @@ class Sequence:
     pace: Optional[np.ndarray] = None
 
 
-class Digging:
+class Mining:
     """A schedule in the making, year by year."""
 
     def __init__(self, problem: Problem) -> None:
@@ -214,7 +214,7 @@ class Digging:
         return float(min(1 - self.done[bench], depth, *(left[some] / takes[some])))
 
     def year(self, sequence: Sequence, pending: list[int], number: int) -> np.ndarray:
-        """Digs one year, numbered from 1, of what is pending; gives the share of each bench."""
+        """Mines one year, numbered from 1, of what is pending; gives the share of each bench."""
         pace = (
             np.inf if sequence.pace is None else max(0.0, sequence.pace[number - 1] - self.benches.of(ROCK) @ self.done)
         )
@@ -237,21 +237,21 @@ class Digging:
         return shares
 
 
-def dig(problem: Problem, sequence: Sequence, years: Optional[int] = None) -> np.ndarray:
-    """The share of each bench that is dug in each year: an array of benches and years, up to the year when all is dug or the last that
+def mine_in_order(problem: Problem, sequence: Sequence, years: Optional[int] = None) -> np.ndarray:
+    """The share of each bench that is mined in each year: an array of benches and years, up to the year when all is mined or the last that
     is allowed.
 
     Raises PlanError where it takes more than a thousand years.
     """
-    digging, found = Digging(problem), list[np.ndarray]()
+    mining, found = Mining(problem), list[np.ndarray]()
     pending = sequence.order.tolist()
     while pending and (years is None or len(found) < years):
         if len(found) == MOST_YEARS:
             raise PlanError(
                 f"[schedule] the pit would take more than {MOST_YEARS:,} years: check that the limits are in tonnes per year"
             )
-        found.append(digging.year(sequence, pending, len(found) + 1))
-        pending = [bench for bench in pending if digging.done[bench] < 1]
+        found.append(mining.year(sequence, pending, len(found) + 1))
+        pending = [bench for bench in pending if mining.done[bench] < 1]
     return np.column_stack(found) if found else np.zeros((len(problem.benches), 0))
 
 
@@ -271,6 +271,6 @@ def by_rule(problem: Problem, years: Optional[int] = None) -> tuple[np.ndarray, 
 
     Raises PlanError where it takes more than a thousand years.
     """
-    tried = {lead: dig(problem, by_lead(problem.benches, lead), years) for lead in leads(problem.benches)}
+    tried = {lead: mine_in_order(problem, by_lead(problem.benches, lead), years) for lead in leads(problem.benches)}
     best = max(tried, key=lambda lead: problem.value(tried[lead]))
     return tried[best], best

@@ -3,6 +3,7 @@
 from __future__ import annotations
 
 from collections.abc import Sequence
+from typing import TYPE_CHECKING
 
 import numpy as np
 import pandas as pd
@@ -12,10 +13,11 @@ from pitplan.config.economics import GRADE_UNITS
 from pitplan.config.material import MILL, WASTE
 from pitplan.config.project import Project
 from pitplan.economics.smelter_terms import payable_share
-from pitplan.pits import shell_tables
+from pitplan.pits.shells import ratio
 from pitplan.plan import shown_name
 
-from .pushback_schedule import YearlySchedule
+if TYPE_CHECKING:
+    from .pushback_schedule import PushbackSchedule
 
 # What a row counts as: mill feed of a class that may be a reserve, mill feed of another class, what lies on a stockpile, or waste.
 ORE, NOT_RESERVE, STOCKPILED = "ore", "not_reserve", "stockpile"
@@ -29,7 +31,7 @@ def codes_of(project: Project) -> list[str]:
     return [shown_name(name) for name in (project.table.rock_type, project.table.resource_class) if name]
 
 
-def inventory_table(schedule: YearlySchedule) -> pd.DataFrame:
+def inventory_table(schedule: PushbackSchedule) -> pd.DataFrame:
     """Returns the inventory of a schedule of pushbacks. What lay on a stockpile at the start is of pushback 0 and of no bench."""
     stockpiles = [it.name for it in schedule.model.stockpiles]
     return summed(schedule.material_flows, schedule.pushbacks.plan.project, list(schedule.flows), stockpiles)
@@ -63,7 +65,7 @@ def summed(
     for metal in project.metals:
         unit, name = float(GRADE_UNITS[metal.unit]), metal.name
         for grade, content, whole in (("grade", "in_situ", "total_tonnes"), ("head_grade", "contained", "feed_tonnes")):
-            values = shell_tables.ratio(sums[f"{content}_{name}"].to_numpy() / unit, sums[whole].to_numpy())
+            values = ratio(sums[f"{content}_{name}"].to_numpy() / unit, sums[whole].to_numpy())
             sums.insert(sums.columns.get_loc(f"{content}_{names[0]}"), f"{grade}_{name}", values)
     for number, metal in enumerate(project.metals):
         if metal.smelter:
@@ -90,14 +92,14 @@ def categories(rows: pd.DataFrame, project: Project, stockpiles: Sequence[str]) 
     return feed
 
 
-def blocks_shares(schedule: YearlySchedule) -> dict[str, NDArray[np.float64]]:
+def blocks_shares(schedule: PushbackSchedule) -> dict[str, NDArray[np.float64]]:
     """Returns for each cell the share that is mined, and those that processes take, by the method that is shown, over all years.
 
     Of a share of a bench that is mined the same share of each block is mined, and of a parcel that goes somewhere the same share of each block.
     """
     flows, material, grid = schedule.flows[schedule.shown], schedule.material, schedule.pushbacks.plan.grid
     benches = np.zeros((len(schedule.pushbacks.factors) + 1, grid.shape[0]))
-    benches[schedule.benches.pushback, schedule.benches.level] = flows.dug.sum(axis=1)
+    benches[schedule.benches.pushback, schedule.benches.level] = flows.mined.sum(axis=1)
     found = {"share_mined": benches[schedule.pushbacks.pushback, np.arange(grid.count) // grid.per_level]}
     for name, shares in zip(schedule.names, flows.fed.sum(axis=2)):
         of_blocks = found[f"share_{name or MILL}"] = np.zeros(grid.count)

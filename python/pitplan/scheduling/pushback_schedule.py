@@ -7,7 +7,7 @@ from collections.abc import Iterator
 from dataclasses import dataclass, field, replace
 from functools import cached_property
 from pathlib import Path
-from typing import Any, Optional
+from typing import TYPE_CHECKING, Any, Optional, Union
 
 import numpy as np
 import pandas as pd
@@ -20,20 +20,25 @@ from pitplan.config.periods import Calendar
 from pitplan.config.project import Project
 from pitplan.config.schedule import Effort, ScheduleRules
 from pitplan.config.shells import ShellRules
-from pitplan.core.progress import Progress, silent
-from pitplan.core.tolerances import SUM_ERROR
+from pitplan.core.progress import Progress
+from pitplan.core.tolerances import SOLVER_SUM, SUM_ERROR
 from pitplan.economics import period_costs
 from pitplan.errors import WARNING, PlanError
 from pitplan.pits.best_worst_case import year_discounts
+from pitplan.pits.shells import Shells
+from pitplan.plan import Plan
 from pitplan.pushbacks import bench_table
 from pitplan.pushbacks.bench_table import CASH, ORE, ROCK, PushbackBenches
 from pitplan.pushbacks.nested import Pushbacks
+from pitplan.scheduling import inventory
+from pitplan.scheduling.cash_flow.lines import Operation
+from pitplan.scheduling.cash_flow.tables import Finance, operations, pushback_finances
 from pitplan.scheduling.flow.material import Material, by_choice, by_value, names_of, of_pushbacks, with_grades
 from pitplan.scheduling.flow.opening import balance_at_start
 from pitplan.scheduling.flow.tables import cutoffs
 
 from .bench_sequencing import Problem, running
-from .certificate import Certified, checked, write
+from .certificate import checked, write
 from .flow import bound, opening, scheduler, tables
 from .flow.certificate import FlowCertificate
 from .flow.conflicts import Conflict
@@ -45,6 +50,12 @@ from .flow.programme import FlowOptimum, FlowProgramme
 from .flow.tables import stockpile_table
 from .limits import Prices, all_limits_of, periods_of
 from .methods import LP, MILP, NAMES, RULE, notes_of_gap
+from .schedule import Schedule
+
+if TYPE_CHECKING:
+    from matplotlib.axes import Axes
+
+    from pitplan.commands.writing import Writing
 
 # The years around those of a bench in which the next programme may mine it.
 NEAR = 3.0
@@ -68,13 +79,15 @@ MORE_YEARS = 0.2
 FINE, FINE_OF_LARGE, REFINEMENTS = 0.002, 0.006, 3
 # Value bins of each process, and parts by limited grades, of the first of these programmes.
 FEW_BINS, FEW_PARTS = 4, 2
+# A grade that differs by a smaller share from another is the same for a planner.
+APART = 0.01
 # The integer programme of so few benches times years, and unknowns in all, is solved unasked for some seconds, if the gap exceeds this share.
 SMALL, SMALL_UNKNOWNS, UNASKED, WORTH_SEARCHING = 40, 5_000, Effort(gap=1e-4, seconds=10.0), 1e-3
 
 
-@dataclass(frozen=True)
-class YearlySchedule:
-    """What is mined in which year and where it goes, by method.
+@dataclass(frozen=True, eq=False, repr=False)
+class PushbackSchedule(Schedule):
+    """A yearly schedule of pushbacks: what is mined in which year and where it goes, by method.
 
     Attributes
     ----------
@@ -99,8 +112,6 @@ class YearlySchedule:
         What the integer programme had shown by its end that no schedule of these parcels exceeds; None if it was not solved.
     interrupted : bool
         Whether a method is missing since the run was interrupted.
-    certified : Certified, optional
-        What is proved of the method that is shown; None if there is no certificate.
     """
 
     pushbacks: Pushbacks
@@ -114,7 +125,16 @@ class YearlySchedule:
     interrupted: bool = False
     prices: Prices = field(default_factory=dict)
     lots: Optional[Lots] = None
-    certified: Optional[Certified] = None
+
+    def __repr__(self) -> str:
+        """The methods with their NPVs."""
+        each = ", ".join(f"{row.method} {row.npv:,.0f}" for row in self.methods.itertuples())
+        return f"Schedule of {len(self.pushbacks.table)} pushbacks; NPV: {each}"
+
+    @property
+    def plan(self) -> Plan:
+        """The plan, with the rules of `[schedule]`."""
+        return self.pushbacks.plan
 
     @property
     def problem(self) -> Problem:
@@ -128,15 +148,10 @@ class YearlySchedule:
     def settings(self) -> ShellRules:
         return self.problem.settings
 
-    @property
-    def years(self) -> int:
-        """The greatest number of years."""
-        return self.model.years
-
     @cached_property
     def shares(self) -> dict[str, np.ndarray]:
         """By method the share of each bench that is mined in each year, shape (benches, years)."""
-        return {method: flows.dug for method, flows in self.flows.items()}
+        return {method: flows.mined for method, flows in self.flows.items()}
 
     def time(self, count: int) -> float:
         """Returns the years that `count` periods last."""
@@ -200,13 +215,285 @@ class YearlySchedule:
         """Returns the tonnes of the pushbacks that a method leaves unmined."""
         return float(self.benches.of(ROCK) @ (1 - self.shares[method].sum(axis=1)))
 
+    @cached_property
+    def table(self) -> pd.DataFrame:
+        """One row per method, bench and year in which a share of the bench is mined; and in pushback 0, without a bench, one per year in which
+        ore is reclaimed from stockpiles.
+
+        Columns: method; year from 1; pushback; bench, the elevation of its toe; share of the bench; total_tonnes, feed_tonnes,
+        recovered_METAL; cash_flow at the year's prices, and discounted_cash_flow, both without period costs.
+        """
+        return pd.concat([self.rows_of(method) for method in self.flows], ignore_index=True)
+
+    def rows_of_reclaimed(self, method: str) -> pd.DataFrame:
+        """Returns the rows of a method for the ore that is reclaimed."""
+        amounts = self.reclaimed(method)
+        year = np.flatnonzero(amounts[ORE])
+        head = {"method": np.full(len(year), method, dtype=object), "year": year + 1, "pushback": 0}
+        flows = {name: values[year] for name, values in amounts.items()}
+        present = flows[CASH] * self.discounts(self.flows[method].years)[year]
+        return pd.DataFrame(head | {"bench": np.nan, "share": 0.0} | flows | {"discounted_cash_flow": present})
+
+    def rows_of(self, method: str) -> pd.DataFrame:
+        benches, shares, amounts = self.benches, self.shares[method], self.mined(method)
+        year, bench = np.nonzero(shares.T)
+        discounts = self.discounts(shares.shape[1])
+        head = {
+            "method": np.full(len(year), method, dtype=object),
+            "year": year + 1,
+            "pushback": benches.pushback[bench],
+            "bench": self.plan.grid.toes()[benches.level[bench]],
+            "share": shares[bench, year],
+        }
+        flows = {name: values[bench, year] for name, values in amounts.items()}
+        rows = pd.DataFrame(head | flows | {"discounted_cash_flow": flows[CASH] * discounts[year]})
+        reclaimed = self.rows_of_reclaimed(method)
+        return pd.concat([reclaimed, rows]).sort_values("year", kind="stable") if len(reclaimed) else rows
+
+    @cached_property
+    def years(self) -> pd.DataFrame:
+        """One row per method and year, as `Shells.years` has of cases; the factor is that of the last pushback."""
+        found = []
+        for method in self.flows:
+            years = self.yearly(method)
+            head = {"case": method, "revenue_factor": self.factor, "year": years.index + 1}
+            for place, (name, values) in enumerate(head.items()):
+                years.insert(place, name, values)
+            found.append(years)
+        return pd.concat(found, ignore_index=True)
+
+    @cached_property
+    def methods(self) -> pd.DataFrame:
+        """One row per method: NPV, upper bound and optimality gap, with stockpiles also the NPV if each gives back its mean grade, years, tonnes that
+        are mined, mill feed, tonnes that stay unmined, and recovered metal."""
+        rows = []
+        for method, flows in self.flows.items():
+            value, yearly = self.value(method), self.yearly(method)
+            most = np.nan if self.upper_bound is None else self.upper_bound
+            rows.append(
+                {
+                    "method": method,
+                    "npv": value,
+                    "upper_bound": most,
+                    "optimality_gap": (most - value) / abs(most) if most else np.nan,
+                    **({"npv_at_mean_grade": value - loss_by_mixing(flows)} if self.is_stocked else {}),
+                    "years": self.time(flows.years),
+                    "tonnes": yearly[ROCK].sum(),
+                    "feed_tonnes": yearly[ORE].sum(),
+                    "unmined_tonnes": self.left(method),
+                    **yearly.filter(like="recovered_").sum(),
+                }
+            )
+        return pd.DataFrame(rows)
+
+    @property
+    def record(self) -> dict[str, Any]:
+        """What schedule.json has: of each method NPV, years, unmined tonnes and cut-offs; the bounds; and the limits."""
+        limits = self.problem.limits
+        most = self.milp_upper_bound
+        return {
+            "revenue_factor": self.factor,
+            "methods": {method: self.record_of(method) for method in self.flows},
+            "upper_bound": None if self.upper_bound is None else round(self.upper_bound, 3),
+            "milp_upper_bound": None if most is None or math.isinf(most) else round(most, 3),
+            "years": self.time(self.model.years),
+            **self.periods_in(self.model.years),
+            "shown": self.shown,
+            "lead": self.lead,
+            "lag": self.benches.lag,
+            "limits": limits.most,
+            **({"least": limits.least} if limits.least else {}),
+            "ramp_up": list(limits.ramp_up),
+            "vertical_advance_rate": None if math.isinf(limits.vertical_advance_rate) else limits.vertical_advance_rate,
+            "bins": {name or MILL: edges.tolist() for name, edges in self.material.edges.items()},
+            "stockpiles": [it.name for it in self.model.stockpiles],
+            **({"dumps": [it.name for it in self.model.dumps]} if self.model.dumps else {}),
+            "interrupted": self.interrupted,
+            **({"certificate": self.certified.record} if self.certified else {}),
+            "solver": f"HiGHS of scipy {scipy.__version__}",
+        }
+
+    def record_of(self, method: str) -> dict[str, Any]:
+        """Returns the record of a method; those of programmes with the cut-offs, by process, in net value per tonne of feed by year."""
+        years = self.flows[method].years
+        by_process = {name or MILL: values[:years].round(6).tolist() for name, values in cutoffs(self).items()}
+        return {
+            "npv": round(self.value(method), 3),
+            "years": self.time(years),
+            **self.periods_in(years),
+            "unmined_tonnes": round(self.left(method), 3),
+            **({} if method == RULE or self.optimum is None else {"cutoffs": by_process}),
+        }
+
+    def periods_in(self, count: int) -> dict[str, Any]:
+        """Returns the number of periods unless they are years."""
+        return {} if self.settings.calendar.is_yearly else {"periods": count}
+
+    @property
+    def notes(self) -> list[str]:
+        """What a planner should know of the schedule."""
+        found = []
+        if RULE in self.flows:
+            found.append(
+                f"rule: each pushback follows the one before by {self.lead} benches, the lead with the highest NPV"
+            )
+        if self.interrupted:
+            found.append(
+                f"{WARNING}the run was interrupted before all methods had finished; the table has those that did"
+            )
+        if self.upper_bound is not None:
+            scope = f"any schedule of these pushbacks of up to {self.time(self.model.years):.10g} years within these limits, wherever each block goes"
+            found.append(f"upper bound on the NPV of {scope}: {self.upper_bound:,.0f}")
+        if self.milp_upper_bound is not None and MILP not in self.flows:
+            found.append(f"{WARNING}milp found no schedule within its time limit")
+        elif self.milp_upper_bound is not None:
+            found.append(f"upper bound of milp on schedules by these value bins: {self.milp_upper_bound:,.0f}")
+        found += [self.certified.note] if self.certified else []
+        currency = self.plan.project.economics.currency
+        for name, values in cutoffs(self).items() if self.optimum is not None else ():
+            by_year = ", ".join(f"{worth:.2f}" for worth in values[: self.flows[self.shown].years])
+            found.append(
+                f"cut-off of {name or MILL} by {self.settings.calendar.word} (net value of a tonne of feed, {currency}): {by_year}"
+            )
+        if self.upper_bound is not None and not self.interrupted:
+            rules = self.plan.project.schedule
+            found += notes_of_gap(self.value(self.shown), self.upper_bound, rules.milp if rules else None)
+        found += self.notes_of_stockpiles()
+        if self.model.dumps and RULE not in self.flows and not self.model.asks_least:
+            found.append("no schedule by rule: its waste finds no room in the dumps")
+        for method in self.flows:
+            rock = self.left(method)
+            if not self.shares[method].any():
+                pays = self.shown == method and (self.upper_bound or 0.0) > 0
+                found.append(
+                    f"{WARNING if pays else ''}{NAMES[method]} mines nothing: at these prices and costs it finds no schedule with an NPV above 0"
+                )
+            elif rock > 0.5:
+                found.append(f"{NAMES[method]}: {rock:,.0f} t of the pushbacks remain unmined")
+        return [*found, *self.uncertified]
+
+    def notes_of_stockpiles(self) -> list[str]:
+        """Returns what a planner should know of stockpiles whose reclaimed grade differs from the mean of the pile, and what the mean would earn."""
+        found, metals = [], self.plan.project.metals
+        table = stockpile_table(self).query("method == @self.shown") if self.is_stocked else pd.DataFrame()
+        for name, rows in table.groupby("stockpile", sort=False) if len(table) else ():
+            start = balance_at_start(self, str(name))
+            for metal in metals:
+                at_start = float(start[f"contained_{metal.name}"]) / float(GRADE_UNITS[metal.unit])
+                first = at_start / start["feed_tonnes"] if start["feed_tonnes"] > 0 else np.nan
+                lay, taken = np.append(first, rows[f"grade_{metal.name}"])[:-1], rows[f"reclaimed_grade_{metal.name}"]
+                apart = np.flatnonzero(np.abs(taken - lay) > APART * np.abs(lay))
+                by_year = [f"{rows['year'].iloc[k]}: {taken.iloc[k]:.4g} of {lay[k]:.4g}" for k in apart]
+                if by_year:
+                    what = f"reclaimed grade of {metal.name} of the mean of the pile, {metal.sign}"
+                    found.append(f"stockpile {name}: {what}, by {self.settings.calendar.word}: {', '.join(by_year)}")
+        if found:
+            value = self.value(self.shown) - loss_by_mixing(self.flows[self.shown])
+            found.append(f"{WARNING}if each stockpile gives back the mean of what lies there, the NPV is {value:,.0f}")
+        return found
+
+    @property
+    def blocks_year(self) -> np.ndarray:
+        """For each cell the year by whose end its bench of its pushback is mined, by the method that is shown; 0 if it never is."""
+        shares, grid = self.shares[self.shown], self.plan.grid
+        # Before the first year nothing is mined.
+        through = (np.pad(shares, ((0, 0), (1, 0))).cumsum(axis=1) > 1 - SOLVER_SUM).argmax(axis=1)
+        year_of = np.zeros((len(self.pushbacks.factors) + 1, grid.shape[0]), dtype=np.int16)
+        year_of[self.benches.pushback, self.benches.level] = through
+        return year_of[self.pushbacks.pushback, np.arange(grid.count) // grid.per_level]
+
+    @property
+    def blocks_bin(self) -> np.ndarray:
+        """The value bin of each cell's ore, from 1; 0 for waste, and with dumps minus the number of the set that accepts it."""
+        found, sets = np.zeros(self.plan.grid.count, dtype=np.int16), self.material.sets
+        if sets is not None:
+            found[:] = -np.maximum(sets.of_cell, 0)
+        found[self.material.cells] = self.material.blocks.bin
+        return found
+
+    @property
+    def blocks(self) -> pd.DataFrame:
+        """One row per block of the pushbacks, with the `year` and the value `bin` of the method that is shown, and the shares that go elsewhere."""
+        frame = self.pushbacks.blocks
+        ids = frame["id"].to_numpy()
+        columns = {"year": self.blocks_year, "bin": self.blocks_bin} | inventory.blocks_shares(self)
+        return frame.assign(**{name: values[ids] for name, values in columns.items()})
+
+    @cached_property
+    def finances(self) -> list[Finance]:
+        """The cash flow of each method."""
+        return pushback_finances(self)
+
+    @property
+    def operation(self) -> Operation:
+        """What the method that is shown mines and feeds."""
+        return operations(self)[self.shown]
+
+    @property
+    def material_tables(self) -> dict[str, pd.DataFrame]:
+        """Tables of material by name, the inventory among them; a workbook has these."""
+        found = {"feed": tables.feed_table(self), "flows": self.material_flows, "cutoffs": tables.cutoff_table(self)}
+        found["inventory"] = inventory.inventory_table(self)
+        found |= {"stockpiles": tables.stockpile_table(self)} if self.is_stocked else {}
+        return found | ({"dumps": tables.dump_table(self)} if self.model.dumps else {})
+
+    @property
+    def as_shells(self) -> Shells:
+        """The shells that end the pushbacks."""
+        return self.pushbacks.shells
+
+    @property
+    def as_pushbacks(self) -> Pushbacks:
+        """The pushbacks."""
+        return self.pushbacks
+
+    @property
+    def all_notes(self) -> list[str]:
+        """The notes that the record has."""
+        return [*self.pushbacks.notes, *self.notes, *self.pushbacks.shells.notes]
+
+    def tables(self) -> dict[str, pd.DataFrame]:
+        """The tables by name: those of the pushbacks, and of the schedule."""
+        found = self.pushbacks.tables() | {"blocks": self.blocks}
+        found["years"] = pd.concat([found["years"], self.years], ignore_index=True)
+        found |= {"schedule": self.table, "methods": self.methods, "limits": tables.limit_table(self)}
+        found |= {"bound": tables.bound_table(self)} if self.optimum is not None else {}
+        return found | self.money_tables | self.material_tables
+
+    def summary(self) -> dict[str, Any]:
+        """The part of the record plan.json."""
+        return self.pushbacks.summary() | {"schedule": self.shown}
+
+    def proved(self, stage: Path, program: Optional[Path]) -> PushbackSchedule:
+        """Writes the texts of the schedule that is shown into a folder, and returns it with what the program proves."""
+        model = replace(self.model, ore=self.material.blocks)
+        found = FlowCertificate(model, self.material.parcel, self.flows[self.shown], prices_of(self))
+        toes, made = self.plan.grid.toes(), found.made
+        write(made, found.names(toes, self.material.cells), stage)
+        processes, stockpiles = [it or "mill" for it in self.names], [it.name for it in model.stockpiles]
+        destinations = tuple(it.named(processes, stockpiles) for it in found.destinations)
+        proved = checked(stage, program, made.unit)
+        return replace(self, certified=replace(proved, destinations=destinations, limits=tuple(found.amounts)))
+
+    def plot(self, axes: Any) -> list[Axes]:
+        """Draws the years of the benches of each pushback, a method on each of the axes; returns these."""
+        from pitplan.figures import schedule
+
+        return schedule.plot_gantt(self, axes)
+
+    def write(self, folder: Union[str, Path, None] = None, writing: Optional[Writing] = None) -> Path:
+        """Writes what `pitplan schedule` writes, by default into schedule in the project's output folder; see `Shells.write`."""
+        from pitplan.commands.answers import write
+
+        return write(self, folder or self.pushbacks.planned.asked.folder / "schedule", writing)
+
 
 def rules_of(project: Project) -> ScheduleRules:
     """Returns `[schedule]`; without it the limits are those of `[shells]`."""
     return project.schedule or ScheduleRules()
 
 
-def make(pushbacks: Pushbacks, progress: Progress = silent) -> YearlySchedule:
+def make(pushbacks: Pushbacks, progress: Optional[Progress] = None) -> PushbackSchedule:
     """Schedules a pit's pushbacks. An interruption while programmes are solved ends these only.
 
     Raises
@@ -215,6 +502,7 @@ def make(pushbacks: Pushbacks, progress: Progress = silent) -> YearlySchedule:
         If it takes more than a thousand years, nothing can be mined, no schedule meets the minimums, no dump accepts some rock, or HiGHS finds
         nothing.
     """
+    progress = progress or pushbacks.plan.progress
     project, rules = pushbacks.plan.project, rules_of(pushbacks.plan.project)
     material = of_pushbacks(pushbacks, rules)
     limits = with_grades(all_limits_of(project, rules), project)
@@ -224,7 +512,7 @@ def make(pushbacks: Pushbacks, progress: Progress = silent) -> YearlySchedule:
     ore = lots.ore(rules, problem.money) if lots else None
     accepted = None if material.sets is None else material.sets.accepted
     model = FlowModel(problem, material.parcels, most or 1, rules.stockpiles, ore, project.dumps, accepted)
-    schedule = YearlySchedule(pushbacks, material, model, {}, 0, lots=lots)
+    schedule = PushbackSchedule(pushbacks, material, model, {}, 0, lots=lots)
     with progress.step(f"scheduling {count:,} benches of {len(pushbacks.factors)} pushbacks by rule"):
         flows, lead = scheduler.by_rule(model, pace_of(schedule), most)
     model = replace(model, years=most or max(1, math.ceil((1 + MORE_YEARS) * flows.years)))
@@ -243,7 +531,7 @@ def make(pushbacks: Pushbacks, progress: Progress = silent) -> YearlySchedule:
     return schedule
 
 
-def better(schedule: YearlySchedule, rules: ScheduleRules, progress: Progress) -> Iterator[YearlySchedule]:
+def better(schedule: PushbackSchedule, rules: ScheduleRules, progress: Progress) -> Iterator[PushbackSchedule]:
     """Yields the schedule with one result of the programmes after the other. Raises KeyboardInterrupt if one is interrupted."""
     for schedule in relaxations(schedule, rules, progress):
         if schedule.flows:
@@ -281,17 +569,17 @@ def better(schedule: YearlySchedule, rules: ScheduleRules, progress: Progress) -
     yield schedule
 
 
-def is_small(schedule: YearlySchedule) -> bool:
+def is_small(schedule: PushbackSchedule) -> bool:
     """Returns whether the integer programme is solved in any case: if it takes no time, and may find a better schedule."""
     unknowns = sum(FlowProgramme(schedule.model).sizes)
-    if len(schedule.benches) * schedule.years > SMALL or unknowns > SMALL_UNKNOWNS:
+    if len(schedule.benches) * schedule.model.years > SMALL or unknowns > SMALL_UNKNOWNS:
         return False
     best = max((flows.value for flows in schedule.flows.values()), default=-math.inf)
     assert schedule.upper_bound is not None
     return schedule.upper_bound - best > WORTH_SEARCHING * abs(schedule.upper_bound)
 
 
-def with_integer_programme(schedule: YearlySchedule) -> YearlySchedule:
+def with_integer_programme(schedule: PushbackSchedule) -> PushbackSchedule:
     """Returns the schedule with that of a short integer programme, if it is better than all others."""
     try:
         best, most = scheduler.best_schedule(schedule.model, UNASKED)
@@ -303,11 +591,11 @@ def with_integer_programme(schedule: YearlySchedule) -> YearlySchedule:
     return replace(schedule, flows=schedule.flows | {MILP: best}, milp_upper_bound=most)
 
 
-def relaxations(schedule: YearlySchedule, rules: ScheduleRules, progress: Progress) -> Iterator[YearlySchedule]:
+def relaxations(schedule: PushbackSchedule, rules: ScheduleRules, progress: Progress) -> Iterator[PushbackSchedule]:
     """Yields the schedule with the optimum of the linear programme and the upper bound, then with those of finer parcels while it pays.
 
-    A large programme begins with few parcels. Those of blocks that choose alike follow, each in the years near those in which the programme before
-    mines its bench. The bound holds for any parcels and years.
+    A large programme begins with few parcels. The next programmes group blocks that chose the same destinations. Each parcel is then usable only
+    near the years in which the previous programme mined its bench. The bound holds for any parcels and years.
     """
     is_large = FlowProgramme(schedule.model).is_large
     if is_large:
@@ -334,7 +622,7 @@ def relaxations(schedule: YearlySchedule, rules: ScheduleRules, progress: Progre
         yield schedule
 
 
-def relaxed(schedule: YearlySchedule, progress: Progress, near: Optional[np.ndarray] = None) -> YearlySchedule:
+def relaxed(schedule: PushbackSchedule, progress: Progress, near: Optional[np.ndarray] = None) -> PushbackSchedule:
     """Returns the schedule with the optimum of the linear programme, near some years if they are given, and the upper bound, unless it has a lower
     one. Raises PlanError, with the minimums that lack, if no schedule meets them."""
     model, programme = schedule.model, FlowProgramme(schedule.model, near=near)
@@ -355,14 +643,14 @@ def relaxed(schedule: YearlySchedule, progress: Progress, near: Optional[np.ndar
     return found if before is not None and before <= upper else replace(found, upper_bound=upper, prices=optimum.prices)
 
 
-def in_finer_bins(schedule: YearlySchedule, rules: ScheduleRules) -> YearlySchedule:
+def in_finer_bins(schedule: PushbackSchedule, rules: ScheduleRules) -> PushbackSchedule:
     """Returns the schedule with parcels of blocks that choose alike at the prices of the linear programme, and the rule's flows of these."""
     assert schedule.optimum is not None
     relaxation = bound.Lagrangian(replace(schedule.model, ore=schedule.material.blocks), schedule.optimum.prices)
     return with_material(schedule, by_choice(schedule.material, relaxation.choices[1]), rules)
 
 
-def with_material(schedule: YearlySchedule, material: Material, rules: ScheduleRules) -> YearlySchedule:
+def with_material(schedule: PushbackSchedule, material: Material, rules: ScheduleRules) -> PushbackSchedule:
     """Returns the schedule with other parcels, and the rule's flows of these."""
     model = replace(schedule.model, ore=material.parcels)
     most = periods_of(schedule.pushbacks.plan.project, rules)
@@ -375,194 +663,10 @@ def kept(flows: Flows) -> dict[str, Flows]:
     return {RULE: flows} if scheduler.keeps_dumps(flows) else {}
 
 
-def pace_of(schedule: YearlySchedule) -> scheduler.Pace:
+def pace_of(schedule: PushbackSchedule) -> scheduler.Pace:
     """Returns the benches by which the rule paces the mine."""
     assigned = bench_table.of_pushbacks(schedule.pushbacks, schedule.benches.lag)
     return scheduler.pace_of(schedule.problem, assigned)
-
-
-def table(schedule: YearlySchedule) -> pd.DataFrame:
-    """Returns one row per method, bench and year in which a share of the bench is mined; and in pushback 0, without a bench, one per year in which
-    ore is reclaimed from stockpiles.
-
-    Columns: method; year from 1; pushback; bench, the elevation of its toe; share of the bench; total_tonnes, feed_tonnes,
-    recovered_METAL; cash_flow at the year's prices, and discounted_cash_flow, both without period costs.
-    """
-    return pd.concat([rows_of(schedule, method) for method in schedule.flows], ignore_index=True)
-
-
-def rows_of_reclaimed(schedule: YearlySchedule, method: str) -> pd.DataFrame:
-    """Returns the rows of a method for the ore that is reclaimed."""
-    amounts = schedule.reclaimed(method)
-    year = np.flatnonzero(amounts[ORE])
-    head = {"method": np.full(len(year), method, dtype=object), "year": year + 1, "pushback": 0}
-    flows = {name: values[year] for name, values in amounts.items()}
-    present = flows[CASH] * schedule.discounts(schedule.flows[method].years)[year]
-    return pd.DataFrame(head | {"bench": np.nan, "share": 0.0} | flows | {"discounted_cash_flow": present})
-
-
-def rows_of(schedule: YearlySchedule, method: str) -> pd.DataFrame:
-    benches, shares, amounts = schedule.benches, schedule.shares[method], schedule.mined(method)
-    year, bench = np.nonzero(shares.T)
-    discounts = schedule.discounts(shares.shape[1])
-    head = {
-        "method": np.full(len(year), method, dtype=object),
-        "year": year + 1,
-        "pushback": benches.pushback[bench],
-        "bench": schedule.pushbacks.plan.grid.toes()[benches.level[bench]],
-        "share": shares[bench, year],
-    }
-    flows = {name: values[bench, year] for name, values in amounts.items()}
-    rows = pd.DataFrame(head | flows | {"discounted_cash_flow": flows[CASH] * discounts[year]})
-    reclaimed = rows_of_reclaimed(schedule, method)
-    return pd.concat([reclaimed, rows]).sort_values("year", kind="stable") if len(reclaimed) else rows
-
-
-def years(schedule: YearlySchedule) -> pd.DataFrame:
-    """Returns one row per method and year, as `shell_tables.years` has of cases; the factor is that of the last pushback."""
-    found = []
-    for method in schedule.flows:
-        years = schedule.yearly(method)
-        head = {"case": method, "revenue_factor": schedule.factor, "year": years.index + 1}
-        for place, (name, values) in enumerate(head.items()):
-            years.insert(place, name, values)
-        found.append(years)
-    return pd.concat(found, ignore_index=True)
-
-
-def methods(schedule: YearlySchedule) -> pd.DataFrame:
-    """Returns one row per method: NPV, upper bound and optimality gap, with stockpiles also the NPV if each gives back its mean grade, years, tonnes that
-    are mined, mill feed, tonnes that stay unmined, and recovered metal."""
-    rows = []
-    for method, flows in schedule.flows.items():
-        value, yearly = schedule.value(method), schedule.yearly(method)
-        most = np.nan if schedule.upper_bound is None else schedule.upper_bound
-        rows.append(
-            {
-                "method": method,
-                "npv": value,
-                "upper_bound": most,
-                "optimality_gap": (most - value) / abs(most) if most else np.nan,
-                **({"npv_at_mean_grade": value - loss_by_mixing(flows)} if schedule.is_stocked else {}),
-                "years": schedule.time(flows.years),
-                "tonnes": yearly[ROCK].sum(),
-                "feed_tonnes": yearly[ORE].sum(),
-                "unmined_tonnes": schedule.left(method),
-                **yearly.filter(like="recovered_").sum(),
-            }
-        )
-    return pd.DataFrame(rows)
-
-
-# A grade that differs by a smaller share from another is the same for a planner.
-APART = 0.01
-
-
-def record(schedule: YearlySchedule) -> dict[str, Any]:
-    """Returns what schedule.json has: of each method NPV, years, unmined tonnes and cut-offs; the bounds; and the limits."""
-    limits = schedule.problem.limits
-    most = schedule.milp_upper_bound
-    return {
-        "revenue_factor": schedule.factor,
-        "methods": {method: record_of(schedule, method) for method in schedule.flows},
-        "upper_bound": None if schedule.upper_bound is None else round(schedule.upper_bound, 3),
-        "milp_upper_bound": None if most is None or math.isinf(most) else round(most, 3),
-        "years": schedule.time(schedule.years),
-        **periods_in(schedule, schedule.years),
-        "shown": schedule.shown,
-        "lead": schedule.lead,
-        "lag": schedule.benches.lag,
-        "limits": limits.most,
-        **({"least": limits.least} if limits.least else {}),
-        "ramp_up": list(limits.ramp_up),
-        "vertical_advance_rate": None if math.isinf(limits.vertical_advance_rate) else limits.vertical_advance_rate,
-        "bins": {name or MILL: edges.tolist() for name, edges in schedule.material.edges.items()},
-        "stockpiles": [it.name for it in schedule.model.stockpiles],
-        **({"dumps": [it.name for it in schedule.model.dumps]} if schedule.model.dumps else {}),
-        "interrupted": schedule.interrupted,
-        **({"certificate": schedule.certified.record} if schedule.certified else {}),
-        "solver": f"HiGHS of scipy {scipy.__version__}",
-    }
-
-
-def record_of(schedule: YearlySchedule, method: str) -> dict[str, Any]:
-    """Returns the record of a method; those of programmes with the cut-offs, by process, in net value per tonne of feed by year."""
-    years = schedule.flows[method].years
-    by_process = {name or MILL: values[:years].round(6).tolist() for name, values in cutoffs(schedule).items()}
-    return {
-        "npv": round(schedule.value(method), 3),
-        "years": schedule.time(years),
-        **periods_in(schedule, years),
-        "unmined_tonnes": round(schedule.left(method), 3),
-        **({} if method == RULE or schedule.optimum is None else {"cutoffs": by_process}),
-    }
-
-
-def periods_in(schedule: YearlySchedule, count: int) -> dict[str, Any]:
-    """Returns the number of periods unless they are years."""
-    return {} if schedule.settings.calendar.is_yearly else {"periods": count}
-
-
-def notes(schedule: YearlySchedule) -> list[str]:
-    """Returns what a planner should know of the schedule."""
-    found = []
-    if RULE in schedule.flows:
-        found.append(
-            f"rule: each pushback follows the one before by {schedule.lead} benches, the lead with the highest NPV"
-        )
-    if schedule.interrupted:
-        found.append(f"{WARNING}the run was interrupted before all methods had finished; the table has those that did")
-    if schedule.upper_bound is not None:
-        scope = f"any schedule of these pushbacks of up to {schedule.time(schedule.years):.10g} years within these limits, wherever each block goes"
-        found.append(f"upper bound on the NPV of {scope}: {schedule.upper_bound:,.0f}")
-    if schedule.milp_upper_bound is not None and MILP not in schedule.flows:
-        found.append(f"{WARNING}milp found no schedule within its time limit")
-    elif schedule.milp_upper_bound is not None:
-        found.append(f"upper bound of milp on schedules by these value bins: {schedule.milp_upper_bound:,.0f}")
-    found += [schedule.certified.note] if schedule.certified else []
-    currency = schedule.pushbacks.plan.project.economics.currency
-    for name, values in cutoffs(schedule).items() if schedule.optimum is not None else ():
-        by_year = ", ".join(f"{worth:.2f}" for worth in values[: schedule.flows[schedule.shown].years])
-        found.append(
-            f"cut-off of {name or MILL} by {schedule.settings.calendar.word} (net value of a tonne of feed, {currency}): {by_year}"
-        )
-    if schedule.upper_bound is not None and not schedule.interrupted:
-        rules = schedule.pushbacks.plan.project.schedule
-        found += notes_of_gap(schedule.value(schedule.shown), schedule.upper_bound, rules.milp if rules else None)
-    found += notes_of_stockpiles(schedule)
-    if schedule.model.dumps and RULE not in schedule.flows and not schedule.model.asks_least:
-        found.append("no schedule by rule: its waste finds no room in the dumps")
-    for method in schedule.flows:
-        rock = schedule.left(method)
-        if not schedule.shares[method].any():
-            pays = schedule.shown == method and (schedule.upper_bound or 0.0) > 0
-            found.append(
-                f"{WARNING if pays else ''}{NAMES[method]} mines nothing: at these prices and costs it finds no schedule with an NPV above 0"
-            )
-        elif rock > 0.5:
-            found.append(f"{NAMES[method]}: {rock:,.0f} t of the pushbacks remain unmined")
-    return found
-
-
-def notes_of_stockpiles(schedule: YearlySchedule) -> list[str]:
-    """Returns what a planner should know of stockpiles whose reclaimed grade differs from the mean of the pile, and what the mean would earn."""
-    found, metals = [], schedule.pushbacks.plan.project.metals
-    table = stockpile_table(schedule).query("method == @schedule.shown") if schedule.is_stocked else pd.DataFrame()
-    for name, rows in table.groupby("stockpile", sort=False) if len(table) else ():
-        start = balance_at_start(schedule, str(name))
-        for metal in metals:
-            at_start = float(start[f"contained_{metal.name}"]) / float(GRADE_UNITS[metal.unit])
-            first = at_start / start["feed_tonnes"] if start["feed_tonnes"] > 0 else np.nan
-            lay, taken = np.append(first, rows[f"grade_{metal.name}"])[:-1], rows[f"reclaimed_grade_{metal.name}"]
-            apart = np.flatnonzero(np.abs(taken - lay) > APART * np.abs(lay))
-            by_year = [f"{rows['year'].iloc[k]}: {taken.iloc[k]:.4g} of {lay[k]:.4g}" for k in apart]
-            if by_year:
-                what = f"reclaimed grade of {metal.name} of the mean of the pile, {metal.sign}"
-                found.append(f"stockpile {name}: {what}, by {schedule.settings.calendar.word}: {', '.join(by_year)}")
-    if found:
-        value = schedule.value(schedule.shown) - loss_by_mixing(schedule.flows[schedule.shown])
-        found.append(f"{WARNING}if each stockpile gives back the mean of what lies there, the NPV is {value:,.0f}")
-    return found
 
 
 class LimitsAlone(FlowProgramme):
@@ -576,45 +680,6 @@ class LimitsAlone(FlowProgramme):
         return np.ones((len(self.model.benches), self.years))
 
 
-def prices_of(schedule: YearlySchedule) -> Prices:
+def prices_of(schedule: PushbackSchedule) -> Prices:
     """Returns the prices of limits at which the bound of the texts is lowest; none if the run was interrupted before the linear programme."""
     return {} if schedule.optimum is None else LimitsAlone(schedule.model).solved().prices
-
-
-def certified(schedule: YearlySchedule, stage: Path, program: Optional[Path]) -> YearlySchedule:
-    """Writes the texts of the schedule that is shown into a folder, and returns it with what the program proves.
-
-    Raises
-    ------
-    PlanError
-        If the texts cannot state the problem.
-    ProgramError
-        If the program does not prove the texts.
-    """
-    model = replace(schedule.model, ore=schedule.material.blocks)
-    found = FlowCertificate(model, schedule.material.parcel, schedule.flows[schedule.shown], prices_of(schedule))
-    toes, made = schedule.pushbacks.plan.grid.toes(), found.made
-    write(made, found.names(toes, schedule.material.cells), stage)
-    processes, stockpiles = [it or "mill" for it in schedule.names], [it.name for it in model.stockpiles]
-    destinations = tuple(it.named(processes, stockpiles) for it in found.destinations)
-    proved = checked(stage, program, made.unit)
-    return replace(schedule, certified=replace(proved, destinations=destinations, limits=tuple(found.amounts)))
-
-
-def blocks_year(schedule: YearlySchedule) -> np.ndarray:
-    """Returns for each cell the year by whose end its bench of its pushback is mined, by the method that is shown; 0 if it never is."""
-    shares, grid = schedule.shares[schedule.shown], schedule.pushbacks.plan.grid
-    # Before the first year nothing is mined.
-    through = (np.pad(shares, ((0, 0), (1, 0))).cumsum(axis=1) > 1 - 1e-6).argmax(axis=1)
-    year_of = np.zeros((len(schedule.pushbacks.factors) + 1, grid.shape[0]), dtype=np.int16)
-    year_of[schedule.benches.pushback, schedule.benches.level] = through
-    return year_of[schedule.pushbacks.pushback, np.arange(grid.count) // grid.per_level]
-
-
-def blocks_bin(schedule: YearlySchedule) -> np.ndarray:
-    """Returns the value bin of each cell's ore, from 1; 0 for waste, and with dumps minus the number of the set that accepts it."""
-    found, sets = np.zeros(schedule.pushbacks.plan.grid.count, dtype=np.int16), schedule.material.sets
-    if sets is not None:
-        found[:] = -np.maximum(sets.of_cell, 0)
-    found[schedule.material.cells] = schedule.material.blocks.bin
-    return found

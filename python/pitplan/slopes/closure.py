@@ -12,44 +12,44 @@ import numpy as np
 
 from pitplan.blockmodel.grid import Grid
 
-from .domains import Walls
+from .domains import SlopeDomains
 
 
-def used_blocks(grid: Grid, walls: Walls, paying: np.ndarray) -> np.ndarray:
+def used_blocks(grid: Grid, domains: SlopeDomains, paying: np.ndarray) -> np.ndarray:
     """Returns the given blocks and all their predecessors, a boolean mask of shape (cells,)."""
     used = grid.cube(paying).copy()
     # Precedences lead upwards only, so a level is complete after those below it.
     for level in range(grid.shape[0] - 1, 0, -1):
-        mark_needs(used, level, grid, walls)
+        mark_predecessors(used, level, grid, domains)
     return used.ravel()
 
 
-def mark_needs(used: np.ndarray, level: int, grid: Grid, walls: Walls) -> None:
+def mark_predecessors(used: np.ndarray, level: int, grid: Grid, domains: SlopeDomains) -> None:
     """Marks the predecessors of the marked cells of a level, in a boolean array of shape (levels, rows, columns)."""
-    list_of = grid.cube(walls.list_of)[level]
+    list_of = grid.cube(domains.list_of)[level]
     for number in np.flatnonzero(np.bincount(list_of[used[level]])):
         mine = used[level] & (list_of == number)
         # A step without an arc is a precedence too, which others imply.
-        for east, north, up in walls.lists[number].steps:
+        for east, north, up in domains.lists[number].steps:
             if up <= level:
                 mark(used[level - up], mine, east, north)
 
 
-def users_of(grid: Grid, walls: Walls, needed: np.ndarray) -> np.ndarray:
+def users_of(grid: Grid, domains: SlopeDomains, needed: np.ndarray) -> np.ndarray:
     """Returns the given blocks and all that depend on them, a boolean mask of shape (cells,)."""
     found = grid.cube(needed).copy()
     for level in range(1, grid.shape[0]):
-        found[level] |= users_at(found, level, grid, walls)
+        found[level] |= users_at(found, level, grid, domains)
     return found.ravel()
 
 
-def users_at(found: np.ndarray, level: int, grid: Grid, walls: Walls) -> np.ndarray:
+def users_at(found: np.ndarray, level: int, grid: Grid, domains: SlopeDomains) -> np.ndarray:
     """Returns the cells of a level that depend on a marked cell above it, a boolean mask of shape (rows, columns)."""
-    list_of = grid.cube(walls.list_of)[level]
+    list_of = grid.cube(domains.list_of)[level]
     result = np.zeros_like(found[level])
     for number in np.flatnonzero(np.bincount(list_of.ravel())):
         users = np.zeros_like(result)
-        for east, north, up in walls.lists[number].steps:
+        for east, north, up in domains.lists[number].steps:
             if up <= level:
                 mark(users, found[level - up], -east, -north)
         result |= users & (list_of == number)

@@ -45,7 +45,7 @@ class StepList:
 
 
 @dataclass(frozen=True)
-class Walls:
+class SlopeDomains:
     """All slope patterns, and the list of steps of each cell.
 
     Attributes
@@ -65,12 +65,12 @@ class Walls:
     list_of: np.ndarray
 
 
-def walls_of(region: np.ndarray, grid: Grid, slopes: Slopes) -> Walls:
+def domains_of(domain_code: np.ndarray, grid: Grid, slopes: Slopes) -> SlopeDomains:
     """Returns the slopes of a project.
 
     Parameters
     ----------
-    region : array of str, shape (cells,)
+    domain_code : array of str, shape (cells,)
         The slope domain of each cell, "" if it is unknown.
     grid : Grid
     slopes : Slopes
@@ -80,20 +80,20 @@ def walls_of(region: np.ndarray, grid: Grid, slopes: Slopes) -> Walls:
     PlanError
         If a domain of blocks has no slopes.
     """
-    patterns = tuple(pattern_of(wall, grid.size, slopes, grid.azimuth) for wall in slopes.domains)
-    return laid(patterns, pattern_codes(region, slopes), grid)
+    patterns = tuple(pattern_of(domain, grid.size, slopes, grid.azimuth) for domain in slopes.domains)
+    return laid(patterns, pattern_codes(domain_code, slopes), grid)
 
 
-def pattern_codes(region: np.ndarray, slopes: Slopes) -> np.ndarray:
+def pattern_codes(domain_code: np.ndarray, slopes: Slopes) -> np.ndarray:
     """Returns the index of each cell's entry in `[[slopes.domains]]`. Raises PlanError if a domain of blocks has none."""
-    by_region = {name: k for k, wall in enumerate(slopes.domains) for name in wall.domains or ()}
-    others = next((k for k, wall in enumerate(slopes.domains) if wall.domains is None), None)
-    inverse, codes = pd.factorize(region.astype(object), sort=True)
+    by_domain = {name: k for k, domain in enumerate(slopes.domains) for name in domain.domains or ()}
+    others = next((k for k, domain in enumerate(slopes.domains) if domain.domains is None), None)
+    inverse, codes = pd.factorize(domain_code.astype(object), sort=True)
     if others is None and not any(codes):
         raise PlanError("[slopes] all [[slopes.domains]] name a domain, and [table] names no column as domain")
     numbers = []
     for name in codes:
-        number = by_region.get(str(name), others)
+        number = by_domain.get(str(name), others)
         if number is None and name != "":
             raise PlanError(
                 f"[slopes] no [[slopes.domains]] is for domain {name}, and none applies to all other domains"
@@ -102,7 +102,7 @@ def pattern_codes(region: np.ndarray, slopes: Slopes) -> np.ndarray:
     return np.array(numbers, dtype=np.int16)[inverse]
 
 
-def laid(patterns: tuple[Pattern, ...], code: np.ndarray, grid: Grid) -> Walls:
+def laid(patterns: tuple[Pattern, ...], code: np.ndarray, grid: Grid) -> SlopeDomains:
     """Returns the lists of each pattern next to the others of the grid, and the list of each cell."""
     present = np.unique(code)
     shared = slope_patterns.least(slope_patterns.meet([patterns[number].cone for number in present]))
@@ -114,7 +114,7 @@ def laid(patterns: tuple[Pattern, ...], code: np.ndarray, grid: Grid) -> Walls:
         if number in present:
             lists[-1] = where_regions_meet(pattern, patterns, shared)
             list_of[(code == number) & not_led(lists[-1], code, grid)] += 1
-    return Walls(patterns, code, tuple(lists), list_of)
+    return SlopeDomains(patterns, code, tuple(lists), list_of)
 
 
 def always_written(steps: np.ndarray, patterns: int) -> StepList:
@@ -164,7 +164,7 @@ def mark(found: np.ndarray, there: np.ndarray, step: np.ndarray) -> None:
     found[up:, of[0], of[1]] |= there[: levels - up, to[0], to[1]]
 
 
-def regions_of(frame: pd.DataFrame, grid: Grid, column: str | None) -> np.ndarray:
+def domain_codes_of(frame: pd.DataFrame, grid: Grid, column: str | None) -> np.ndarray:
     """Returns the slope domain of each cell, shape (cells,). A cell without a row takes that of the next block below, otherwise above."""
     if column is None:
         return np.full(grid.count, "", dtype="U1")
@@ -191,37 +191,38 @@ class Slice:
     ----------
     ids : array of int, shape (blocks,)
         The blocks, ascending.
-    needs : array of int, shape (blocks, most)
+    precedences : array of int, shape (blocks, most)
         The predecessors of each block, ascending, with ABSENT between and after them.
     clipped : int
         The number of precedences of minimal lists that leave the grid at its sides, where the ground is unknown.
     """
 
     ids: np.ndarray
-    needs: np.ndarray
+    precedences: np.ndarray
     clipped: int
 
 
-def slices(grid: Grid, walls: Walls, blocks: np.ndarray) -> Iterator[Slice]:
+def slices(grid: Grid, domains: SlopeDomains, blocks: np.ndarray) -> Iterator[Slice]:
     """Yields the predecessors of blocks, whose ids ascend. Above the highest level none exist."""
-    most = max((len(walls.lists[number].steps) for number in np.unique(walls.list_of[blocks])), default=1)
+    most = max((len(domains.lists[number].steps) for number in np.unique(domains.list_of[blocks])), default=1)
     step = max(1, FIELDS // most)
     for start in range(0, len(blocks), step):
-        yield slice_of(grid, walls, blocks[start : start + step])
+        yield slice_of(grid, domains, blocks[start : start + step])
 
 
-def slice_of(grid: Grid, walls: Walls, ids: np.ndarray) -> Slice:
-    mine = walls.list_of[ids]
+def slice_of(grid: Grid, domains: SlopeDomains, ids: np.ndarray) -> Slice:
+    mine = domains.list_of[ids]
     found = [
-        (mine == number, listed(grid, walls, ids[mine == number], walls.lists[number])) for number in np.unique(mine)
+        (mine == number, listed(grid, domains, ids[mine == number], domains.lists[number]))
+        for number in np.unique(mine)
     ]
-    needs = np.full((len(ids), max(part.shape[1] for _, (part, _) in found)), ABSENT, dtype=np.int64)
+    precedences = np.full((len(ids), max(part.shape[1] for _, (part, _) in found)), ABSENT, dtype=np.int64)
     for rows, (part, _) in found:
-        needs[rows, : part.shape[1]] = part
-    return Slice(ids, needs, sum(clipped for _, (_, clipped) in found))
+        precedences[rows, : part.shape[1]] = part
+    return Slice(ids, precedences, sum(clipped for _, (_, clipped) in found))
 
 
-def listed(grid: Grid, walls: Walls, ids: np.ndarray, steps: StepList) -> tuple[np.ndarray, int]:
+def listed(grid: Grid, domains: SlopeDomains, ids: np.ndarray, steps: StepList) -> tuple[np.ndarray, int]:
     """Returns the predecessors of blocks with one list, shape (blocks, steps), and how many unconditional steps leave the grid at its sides."""
     column, row, level = (part[:, None] for part in grid.indices(ids))
     east, north, up = steps.steps.T
@@ -231,16 +232,16 @@ def listed(grid: Grid, walls: Walls, ids: np.ndarray, steps: StepList) -> tuple[
     clipped = int(np.count_nonzero((beside & below_top)[:, steps.always]))
     there = below_top & ~beside
     if not steps.always.all():
-        there &= ~led_on(grid, walls, ids, steps, there)
+        there &= ~led_on(grid, domains, ids, steps, there)
         return packed(there, (z * grid.shape[1] + y) * grid.shape[2] + x), clipped
     return np.where(there, (z * grid.shape[1] + y) * grid.shape[2] + x, ABSENT), clipped
 
 
-def led_on(grid: Grid, walls: Walls, ids: np.ndarray, steps: StepList, there: np.ndarray) -> np.ndarray:
+def led_on(grid: Grid, domains: SlopeDomains, ids: np.ndarray, steps: StepList, there: np.ndarray) -> np.ndarray:
     """Returns whether the slopes of an intermediate block imply a step, which then needs no arc; bool, shape (blocks, steps)."""
     east, north, up = steps.via.T
     way = ids[:, None] + (north - up * grid.shape[1]) * grid.shape[2] + east
-    return steps.led[np.arange(len(up)), walls.code[np.where(there, way, ids[:, None])]]
+    return steps.led[np.arange(len(up)), domains.code[np.where(there, way, ids[:, None])]]
 
 
 def packed(there: np.ndarray, values: np.ndarray) -> np.ndarray:

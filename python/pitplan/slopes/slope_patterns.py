@@ -13,8 +13,8 @@ from typing import Iterator, Optional
 import numpy as np
 from scipy.spatial import ConvexHull, QhullError
 
-from pitplan.config.geometry import DIP, MOST_LEVELS, WALL, Slopes, Wall
-from pitplan.core.tolerances import SUM_ERROR
+from pitplan.config.geometry import DIP, MOST_LEVELS, WALL, SlopeDomain, Slopes
+from pitplan.core.tolerances import SLOPE_ERROR, STRICT_SUM_ERROR, SUM_ERROR
 from pitplan.errors import PlanError
 
 # Slope cones as boolean templates, and the smallest arc set whose transitive closure is the cone.
@@ -166,9 +166,9 @@ class Pattern:
 
     def as_json(self) -> dict[str, object]:
         result: dict[str, object] = {
-            "walls": self.name,
-            "levels": self.levels,
-            "needs_per_block": len(self.offsets),
+            "domain": self.name,
+            "precedence_benches": self.levels,
+            "precedences_per_block": len(self.offsets),
             "angle_least": round(float(self.angles.min()), 2),
             "angle_greatest": round(float(self.angles.max()), 2),
         }
@@ -243,7 +243,7 @@ def angles_of(points: set[Point]) -> np.ndarray:
     towards = np.stack([np.sin(np.radians(AZIMUTHS)), np.cos(np.radians(AZIMUTHS))])
     along = sides[:, :2] @ towards
     with np.errstate(divide="ignore", invalid="ignore"):
-        reach = np.where(along > 1e-12, -sides[:, 2:] / along, np.inf).min(0)
+        reach = np.where(along > STRICT_SUM_ERROR, -sides[:, 2:] / along, np.inf).min(0)
     return np.degrees(np.arctan2(1.0, np.maximum(reach, 0.0)))
 
 
@@ -276,21 +276,23 @@ def angles_of_cone(cone: np.ndarray, size: tuple[float, float, float]) -> np.nda
     return angles_of(set().union(*(rim_of(cone[up], up, size) for up in range(1, len(cone)))))
 
 
-def from_grid_north(wall: Wall, azimuth: float) -> Wall:
+def from_grid_north(domain: SlopeDomain, azimuth: float) -> SlopeDomain:
     """Returns a domain whose azimuths are bearings to the wall from the north of the grid, which has an azimuth."""
-    wall = replace(wall.with_angles(wall.bearings), azimuth_of=WALL)
-    if not azimuth or len(wall.angles) < 2:
-        return wall
-    turned = ((round((of_wall - azimuth) % 360, 9) % 360, angle) for of_wall, angle in wall.angles)
-    return wall.with_angles(tuple(sorted(turned)))
+    domain = replace(domain.with_angles(domain.bearings), azimuth_of=WALL)
+    if not azimuth or len(domain.angles) < 2:
+        return domain
+    turned = ((round((of_domain - azimuth) % 360, 9) % 360, angle) for of_domain, angle in domain.angles)
+    return domain.with_angles(tuple(sorted(turned)))
 
 
-def pattern_of(asked_wall: Wall, size: tuple[float, float, float], slopes: Slopes, azimuth: float = 0.0) -> Pattern:
+def pattern_of(
+    asked_domain: SlopeDomain, size: tuple[float, float, float], slopes: Slopes, azimuth: float = 0.0
+) -> Pattern:
     """Returns the precedences of one entry of `[[slopes.domains]]` with their slope errors, on a grid whose north has an azimuth.
 
     Parameters
     ----------
-    asked_wall : Wall
+    asked_domain : SlopeDomain
         The entry.
     size : tuple of float
         Block size east, north and up, metres.
@@ -303,71 +305,71 @@ def pattern_of(asked_wall: Wall, size: tuple[float, float, float], slopes: Slope
     PlanError
         If `never_steeper` cannot be met.
     """
-    wall = from_grid_north(asked_wall, azimuth)
-    where = "other domains" if wall.domains is None else f"domain {', '.join(wall.domains)}"
-    if wall.pattern:
-        offsets = PATTERN_OFFSETS[wall.pattern]
+    domain = from_grid_north(asked_domain, azimuth)
+    where = "other domains" if domain.domains is None else f"domain {', '.join(domain.domains)}"
+    if domain.pattern:
+        offsets = PATTERN_OFFSETS[domain.pattern]
         angles = wall_angles(offsets, size)
-        return Pattern(f"{where}, {wall.pattern}", of_steps(offsets), offsets, angles, np.zeros(0))
-    if wall.offsets:
-        cells = of_steps(wall.offsets)
+        return Pattern(f"{where}, {domain.pattern}", of_steps(offsets), offsets, angles, np.zeros(0))
+    if domain.offsets:
+        cells = of_steps(domain.offsets)
         return Pattern(
-            f"{where}, {len(wall.offsets)} offsets of the project",
+            f"{where}, {len(domain.offsets)} offsets of the project",
             cells,
             offsets_of(cells),
             angles_of_cone(cells, size),
             np.zeros(0),
         )
-    of_dip = " (dip directions)" if asked_wall.azimuth_of == DIP else ""
-    asked = np.degrees(np.arctan2(1.0, cotangents(wall.angles, AZIMUTHS)))
-    wanted = levels_of(wall, size, asked) if slopes.precedence_benches is None else slopes.precedence_benches
-    levels = wanted if slopes.precedence_benches is not None else within_most_chosen(wall, size, wanted)
-    widened = widening(wall, size, levels, asked) if slopes.never_steeper else 1.0
-    cells = cone(wall.angles, size, levels, widened)
+    of_dip = " (dip directions)" if asked_domain.azimuth_of == DIP else ""
+    asked = np.degrees(np.arctan2(1.0, cotangents(domain.angles, AZIMUTHS)))
+    wanted = levels_of(domain, size, asked) if slopes.precedence_benches is None else slopes.precedence_benches
+    levels = wanted if slopes.precedence_benches is not None else within_most_chosen(domain, size, wanted)
+    widened = widening(domain, size, levels, asked) if slopes.never_steeper else 1.0
+    cells = cone(domain.angles, size, levels, widened)
     angles = angles_of_cone(cells, size)
     said = (
-        ", ".join(f"{angle:g} at {of_wall:g}" for of_wall, angle in asked_wall.angles) + of_dip
-        if len(wall.angles) > 1
-        else f"{wall.angles[0][1]:g}"
+        ", ".join(f"{angle:g} at {of_domain:g}" for of_domain, angle in asked_domain.angles) + of_dip
+        if len(domain.angles) > 1
+        else f"{domain.angles[0][1]:g}"
     )
-    if wall.bench:
-        where += f", benches of {wall.bench.height:g} m, face angle {wall.bench.face_angle:g} degrees, berms of {wall.bench.berm_width:g} m"
-    reach = Reach(wanted, len(offsets_of(cone(wall.angles, size, wanted)))) if levels < wanted else None
+    if domain.bench:
+        where += f", benches of {domain.bench.height:g} m, face angle {domain.bench.face_angle:g} degrees, berms of {domain.bench.berm_width:g} m"
+    reach = Reach(wanted, len(offsets_of(cone(domain.angles, size, wanted)))) if levels < wanted else None
     return Pattern(
         f"{where}, {said} degrees", cells, offsets_of(cells), angles, angles - asked, widened, azimuth, reach
     )
 
 
-def levels_of(wall: Wall, size: tuple[float, float, float], asked: np.ndarray) -> int:
+def levels_of(domain: SlopeDomain, size: tuple[float, float, float], asked: np.ndarray) -> int:
     """Returns the least number of benches, up to MOST_LEVELS, with which no slope error exceeds STEEPER degrees."""
     points: set[Point] = set()
     for levels in range(1, MOST_LEVELS + 1):
-        points |= rim_of(within(wall.angles, size, np.array([levels]))[0], levels, size)
+        points |= rim_of(within(domain.angles, size, np.array([levels]))[0], levels, size)
         if (angles_of(points) - asked).max() <= STEEPER:
             return levels
     return MOST_LEVELS
 
 
-def within_most_chosen(wall: Wall, size: tuple[float, float, float], levels: int) -> int:
+def within_most_chosen(domain: SlopeDomain, size: tuple[float, float, float], levels: int) -> int:
     """Returns the greatest number of benches, up to `levels`, over which a block has at most MOST_CHOSEN precedences; at least 1.
 
     Those to a bench do not depend on the benches above it, so they are counted from the lowest bench up.
     """
-    ups = [up for _, _, up in offsets_of(cone(wall.angles, size, levels))]
+    ups = [up for _, _, up in offsets_of(cone(domain.angles, size, levels))]
     return levels if len(ups) <= MOST_CHOSEN else max(1, ups[MOST_CHOSEN] - 1)
 
 
-def widening(wall: Wall, size: tuple[float, float, float], levels: int, asked: np.ndarray) -> float:
+def widening(domain: SlopeDomain, size: tuple[float, float, float], levels: int, asked: np.ndarray) -> float:
     """Returns the least factor, to a thousandth, by which the cone is widened so that no slope is steeper than required.
 
     One factor for all azimuths is simple to state and to check, but makes slopes flatter than necessary at some of them.
     """
 
     def steepest(by: float) -> float:
-        return float((angles_of_cone(cone(wall.angles, size, levels, by), size) - asked).max())
+        return float((angles_of_cone(cone(domain.angles, size, levels, by), size) - asked).max())
 
     low, high = 1.0, 1.0
-    while steepest(high) > 1e-6:
+    while steepest(high) > SLOPE_ERROR:
         low, high = high, high * 1.1
         if high > 50:
             raise PlanError(
@@ -375,5 +377,5 @@ def widening(wall: Wall, size: tuple[float, float, float], levels: int, asked: n
             )
     while high - low > 0.001:
         middle = (low + high) / 2
-        low, high = (middle, high) if steepest(middle) > 1e-6 else (low, middle)
+        low, high = (middle, high) if steepest(middle) > SLOPE_ERROR else (low, middle)
     return high

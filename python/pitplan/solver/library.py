@@ -79,7 +79,7 @@ def shells(nodes: tuple[np.ndarray, np.ndarray], rows: Rows, factors: tuple[floa
     """
     revenue, cost = nodes
     solved = [per_mille(factor) for factor in factors]
-    found = called("shells", revenue, cost, (rows.starts, rows.needs), solved, millionths=True)
+    found = called("shells", revenue, cost, (rows.starts, rows.precedences), solved, millionths=True)
     inside = np.bincount(found.first, minlength=len(factors) + 1)
     return Solution(
         worth=pd.Series(found.worths, index=factors, dtype=object),
@@ -107,7 +107,7 @@ def pit(values: np.ndarray, rows: Rows, fixed: np.ndarray, factor: float) -> Sol
     ProgramError
         If the library refuses, for example because a must-mine block depends on an excluded one.
     """
-    found = called("solve", values, (rows.starts, rows.needs), fixed, millionths=True)
+    found = called("solve", values, (rows.starts, rows.precedences), fixed, millionths=True)
     nodes = pd.Series([int(np.count_nonzero(found.in_pit))], index=[factor])
     # From text, so that the decimal context does not round it.
     worth = pd.Series([Decimal(f"{found.worth}E-3")], index=[factor], dtype=object)

@@ -11,7 +11,7 @@ from pitplan.blockmodel.grid import Grid
 from pitplan.core import byte_lines
 from pitplan.core.layout import SOLVER
 from pitplan.plan import Plan
-from pitplan.precedences import MOST_PAIRS, Needs, Pairs
+from pitplan.precedences import MOST_PAIRS, Pairs, Precedences
 from pitplan.slopes.domains import ABSENT, slices
 
 BLOCKS, MODEL, PREC, FIXED = "mine.blocks", "mine.upit", "mine.prec", "mine.fixed"
@@ -46,17 +46,17 @@ def write(plan: Plan, folder: Path) -> Pairs:
     nodes, processed = plan.values.nodes(), plan.values.processed
     write_blocks(folder / BLOCKS, plan.grid, processed, nodes)
     write_model(folder / MODEL, plan.project.title, nodes[0] - nodes[1])
-    pairs = write_needs(folder / PREC, plan, plan.needs)
+    pairs = write_precedences(folder / PREC, plan, plan.precedences)
     if plan.settled is not None:
         constraints.write(folder / FIXED, plan.fixed)
         write_blocks(folder / REST_BLOCKS, plan.grid, processed, constraints.nodes_of_rest(plan.values, plan.settled))
-        write_needs(folder / REST_PREC, plan, plan.needs_of_rest)
+        write_precedences(folder / REST_PREC, plan, plan.precedences_of_rest)
     return pairs
 
 
-def write_needs(path: Path, plan: Plan, needs: Needs) -> Pairs:
+def write_precedences(path: Path, plan: Plan, precedences: Precedences) -> Pairs:
     """Writes precedences of a plan. Raises PlanError if there are more than the program takes."""
-    pairs = write_prec(path, needs, MOST_PAIRS)
+    pairs = write_prec(path, precedences, MOST_PAIRS)
     plan.demand_few(pairs)
     return pairs
 
@@ -93,13 +93,13 @@ def write_model(path: Path, name: str, values: np.ndarray) -> None:
             file.write(byte_lines.lines([byte_lines.whole(numbers), byte_lines.decimals(part)]))
 
 
-def write_prec(path: Path, needs: Needs, most: int) -> Pairs:
+def write_prec(path: Path, precedences: Precedences, most: int) -> Pairs:
     """Writes a line for each block and each processing node with predecessors. Precedences beyond `most` are only counted."""
     written = clipped = 0
-    nodes, blocks = needs.binding()
+    nodes, blocks = precedences.binding()
     with open(path, "wb") as file:
-        for part in slices(needs.grid, needs.walls, needs.blocks):
-            needed = needs.open(part.needs)
+        for part in slices(precedences.grid, precedences.domains, precedences.blocks):
+            needed = precedences.open(part.precedences)
             count = (needed != ABSENT).sum(axis=1)
             some = count > 0
             written += int(count.sum())

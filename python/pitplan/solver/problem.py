@@ -25,7 +25,7 @@ from pitplan.core.revenue_factors import PER_MILLE, factor_text, per_mille
 from pitplan.economics.block_values import Values
 from pitplan.errors import PlanError
 from pitplan.plan import Plan
-from pitplan.precedences import MOST_PAIRS, Needs, Pairs, Rows, rows_of
+from pitplan.precedences import MOST_PAIRS, Pairs, Precedences, Rows, rows_of
 from pitplan.solver import mine_files
 
 from . import library, program
@@ -87,7 +87,7 @@ class MineInArrays:
 
     @cached_property
     def rows_of_rest(self) -> Rows:
-        return self.rows if self.plan.settled is None else counted_rows(self.plan.needs_of_rest, self.plan)[0]
+        return self.rows if self.plan.settled is None else counted_rows(self.plan.precedences_of_rest, self.plan)[0]
 
     def shells(self, factors: tuple[float, ...]) -> Solution:
         settled, values = self.plan.settled, self.plan.values
@@ -110,12 +110,12 @@ def ready(plan: Plan, solver: Solver, folder: Path) -> Mine:
     precedences than the solver takes.
     """
     if solver.by == LIBRARY:
-        return MineInArrays(plan, solver, *counted_rows(plan.needs, plan))
+        return MineInArrays(plan, solver, *counted_rows(plan.precedences, plan))
     return MineInFiles(plan, solver, mine_files.write(plan, folder), folder)
 
 
-def counted_rows(needs: Needs, plan: Plan) -> tuple[Rows, Pairs]:
-    rows, pairs = rows_of(needs, MOST_PAIRS)
+def counted_rows(precedences: Precedences, plan: Plan) -> tuple[Rows, Pairs]:
+    rows, pairs = rows_of(precedences, MOST_PAIRS)
     plan.demand_few(pairs)
     return rows, pairs
 
@@ -188,15 +188,15 @@ def joined(rest: Solution, settled: Optional[Settled], values: Values) -> Soluti
     if settled is None:
         return rest
     factors = list(rest.worth.index)
-    count = len(settled.dug)
+    count = len(settled.mined)
     entry = rest.entry.copy()
-    entry[:count][settled.dug] = factors[0]
-    revenue, cost = (int(amounts[:count][settled.dug].sum(dtype=object)) for amounts in values.nodes())
+    entry[:count][settled.mined] = factors[0]
+    revenue, cost = (int(amounts[:count][settled.mined].sum(dtype=object)) for amounts in values.nodes())
     worth = [
         amount + Decimal(per_mille(factor) * revenue - PER_MILLE * cost).scaleb(-9)
         for factor, amount in rest.worth.items()
     ]
-    nodes = rest.nodes + int(np.count_nonzero(settled.dug))
+    nodes = rest.nodes + int(np.count_nonzero(settled.mined))
     return replace(rest, worth=pd.Series(worth, index=factors, dtype=object), nodes=nodes, entry=entry)
 
 

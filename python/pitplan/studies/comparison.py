@@ -21,7 +21,7 @@ from pitplan.config.project_writer import place, shown
 from pitplan.core.atomic_files import hash_of
 from pitplan.core.progress import Progress, silent
 from pitplan.errors import MissingPackage, PlanError
-from pitplan.pits import shell_tables
+from pitplan.pits.shells import npv_of
 from pitplan.results import names
 from pitplan.results.folder import read_record
 from pitplan.results.rounding import decimals_of
@@ -84,7 +84,7 @@ class Run:
         """The row of the selected shell in shells.csv, or of the shown method in methods.csv, with `npv`."""
         if self.kind == SHELLS:
             table = self.table(names.SHELLS)
-            found = table.assign(npv=shell_tables.npv_of(table)).set_index("revenue_factor")
+            found = table.assign(npv=npv_of(table)).set_index("revenue_factor")
             return found.loc[self.record["shells"]["selected"]]
         return self.table(names.METHODS).set_index("method").loc[self.case]
 

@@ -30,8 +30,8 @@ from pitplan.core.processes import each_done
 from pitplan.core.progress import Progress, silent
 from pitplan.core.revenue_factors import factor_text
 from pitplan.errors import PlanError
-from pitplan.pits import shell_tables
-from pitplan.pits.skin import Skin, of_pit, refined, with_factors
+from pitplan.pits.shells import Shells, npv_of, with_factors
+from pitplan.pits.skin import Skin, of_pit, refined
 from pitplan.plan import Plan, prepared
 from pitplan.results import names
 from pitplan.solver import choice as solver, problem
@@ -76,7 +76,7 @@ def with_settings(project: Project, settings: tuple[Setting, ...]) -> Project:
     return planned_as(project, of_data(data, project.path, f"{where} {said}"))
 
 
-def moves_walls(name: str) -> bool:
+def moves_slopes(name: str) -> bool:
     """Returns whether a parameter changes slopes."""
     return name == "slopes" or name.startswith("slopes.")
 
@@ -181,15 +181,15 @@ def processing_cost(project: Project, by: Decimal, metal: str) -> Project:
 
 def slopes(project: Project, by: Decimal, metal: str) -> Project:
     """Changes all slope angles, those by bench geometry included, but no patterns and offsets."""
-    walls = []
-    for wall in project.slopes.domains:
-        angles = tuple((azimuth, angle * float(by)) for azimuth, angle in wall.angles)
+    domains = []
+    for domain in project.slopes.domains:
+        angles = tuple((azimuth, angle * float(by)) for azimuth, angle in domain.angles)
         if any(not FLATTEST <= angle <= STEEPEST for _, angle in angles):
             raise PlanError(
                 f"{project.path}: [sensitivity] changes: slope angles times {by} are outside 1 to 90 degrees"
             )
-        walls.append(replace(wall.with_angles(angles), bench=None))
-    return replace(project, slopes=replace(project.slopes, domains=tuple(walls)))
+        domains.append(replace(domain.with_angles(angles), bench=None))
+    return replace(project, slopes=replace(project.slopes, domains=tuple(domains)))
 
 
 def capacity(project: Project, by: Decimal, metal: str) -> Project:
@@ -235,7 +235,7 @@ def given(project: Project) -> tuple[str, ...]:
     """Returns the parameters that a project has and that can be changed."""
     is_there = {
         "selling_cost": any(it.selling_cost or it.smelter and it.smelter.has_charges for it in project.metals),
-        "slopes": any(wall.angles for wall in project.slopes.domains),
+        "slopes": any(domain.angles for domain in project.slopes.domains),
         "haulage": project.haulage is not None,
     }
     return tuple(name for name in VARIED if is_there.get(name, True))
@@ -271,8 +271,8 @@ class Case:
         return ", ".join([*(f"{name} {share:+.4g}" for name, share in self.changes), *set_to]) or "base case"
 
     @property
-    def moves_walls(self) -> bool:
-        return any(moves_walls(name) for name, _ in (*self.changes, *self.settings))
+    def moves_slopes(self) -> bool:
+        return any(moves_slopes(name) for name, _ in (*self.changes, *self.settings))
 
     @property
     def as_json(self) -> dict[str, Any]:
@@ -295,7 +295,7 @@ class Found:
         The columns of `Shells.table` for the pit, with the prefix kept_ those of the base case's pit, and the value of the skin of that.
     entry : array of float, shape (cells,)
         The least revenue factor whose shell holds the cell; 0: none.
-    walls : list of dict
+    domains : list of dict
         The record of slope patterns.
     skin : Skin, optional
         For the base case the skin of its pit.
@@ -303,7 +303,7 @@ class Found:
 
     row: dict[str, Any]
     entry: np.ndarray
-    walls: list[dict[str, Any]]
+    domains: list[dict[str, Any]]
     skin: Skin | None = None
 
 
@@ -414,9 +414,9 @@ def solve(project: Project, folder: Path, where: dask_pool.Where | None, progres
     table = reader.read(project)
     plan = prepared(project, table, progress)
     demand_whole(plan)
-    solution = problem.solve(plan, progress=progress)
-    factor = shell_tables.selected_factor(shell_tables.shells(plan, solution), project.shells)
-    asked = Asked(up_to(project, factor), table, found_by)
+    factor = Shells.solved(plan).selected
+    lower = tuple(it for it in project.shells.revenue_factors if it <= factor)
+    asked = Asked(with_factors(project, lower), table, found_by)
     rules = rules_of(project)
     begun = {
         "project": project.to_toml(),
@@ -462,68 +462,56 @@ def over_dask(missing: dict[Case, Path], asked: Asked, where: dask_pool.Where, p
             task.result()
 
 
-def up_to(project: Project, factor: float) -> Project:
-    """Returns the project with the revenue factors up to one, which is selected."""
-    factors = tuple(it for it in project.shells.revenue_factors if it <= factor)
-    return replace(
-        project, shells=replace(project.shells, revenue_factors=factors, selected=factor, base_price_added=False)
-    )
-
-
 def find(case: Case, asked: Asked) -> Found:
     """Returns the pit of a case, and the values of the base case's pit in it. Raises ProgramError if the solver here is another one."""
     solver.demand_same(asked.solver)
-    plan, solution = with_fine_shells(
-        prepared(varied(with_settings(asked.project, case.settings), case.changes), asked.table),
-        rules_of(asked.project),
-    )
-    row = of_last(shell_tables.shells(plan, solution))
-    entry = solution.entry[: plan.grid.count]
+    rules = rules_of(asked.project)
+    case_project = varied(with_settings(asked.project, case.settings), case.changes)
+    shells = with_fine_shells(prepared(case_project, asked.table), rules)
+    plan, entry = shells.plan, shells.cells.factor
+    row = of_last(shells.table)
     kept = entry if asked.as_given is None else asked.as_given.entry
-    earned = of_last(shell_tables.shells(*as_pits(plan, kept)))
-    row |= {f"kept_{name}": np.nan if case.moves_walls else earned[name] for name in KEPT if name in earned}
-    skin = of_pit(plan, rules_of(asked.project).skin) if asked.as_given is None else asked.as_given.skin
+    earned = of_last(as_pits(plan, kept).table)
+    row |= {f"kept_{name}": np.nan if case.moves_slopes else earned[name] for name in KEPT if name in earned}
+    skin = of_pit(plan, rules.skin) if asked.as_given is None else asked.as_given.skin
     assert skin is not None
-    worth = shell_tables.cells_of(plan, solution).worth[skin.cells].sum()
-    row[SKIN_WORTH] = np.nan if case.moves_walls else worth
+    row[SKIN_WORTH] = np.nan if case.moves_slopes else shells.cells.worth[skin.cells].sum()
     return Found(
-        row, entry, [pattern.as_json() for pattern in plan.walls.patterns], skin if asked.as_given is None else None
+        row, entry, [pattern.as_json() for pattern in plan.domains.patterns], skin if asked.as_given is None else None
     )
 
 
-def with_fine_shells(plan: Plan, rules: SensitivityRules) -> tuple[Plan, Solution]:
-    """Returns the plan with revenue factors between its own, so that no shell adds more than the largest increment, and its shells."""
+def with_fine_shells(plan: Plan, rules: SensitivityRules) -> Shells:
+    """Returns the shells at a plan's revenue factors and at some between these, so that no shell adds more than the largest increment."""
     with problem.temporary(plan) as mine:
 
-        def solved(factors: tuple[float, ...]) -> tuple[Plan, Solution]:
-            part = replace(plan, project=with_factors(plan.project, factors))
-            return part, problem.solve(part, mine)
-
         def tonnes_at(factors: tuple[float, ...]) -> dict[float, float]:
-            part, solution = solved(factors)
-            entry = solution.entry[: plan.grid.count]
-            return dict(zip(factors, shell_tables.within(part, entry, plan.values.tonnes).tolist()))
+            return Shells.at_factors(plan, factors, mine).tonnes
 
-        return solved(refined(plan.project.shells.revenue_factors, float(rules.largest_increment), tonnes_at))
+        factors = refined(plan.project.shells.revenue_factors, float(rules.largest_increment), tonnes_at)
+        return Shells.at_factors(plan, factors, mine)
 
 
-def as_pits(plan: Plan, entry: np.ndarray) -> tuple[Plan, Solution]:
-    """Returns the plan with the revenue factors of given pits and the last one of the plan, and these pits as its shells, without values."""
+def as_pits(plan: Plan, entry: np.ndarray) -> Shells:
+    """Returns given pits as shells, without values, at their revenue factors and the last one of the plan."""
     factors = tuple(sorted({*np.unique(entry[entry > 0]).tolist(), plan.project.shells.revenue_factors[-1]}))
     nodes = np.concatenate([entry, np.zeros(len(plan.values.processed), dtype=entry.dtype)])
     worth, count = (pd.Series([nothing] * len(factors), index=factors) for nothing in (Decimal(0), 0))
-    return replace(plan, project=with_factors(plan.project, factors)), Solution(worth, count, nodes)
+    return Shells(replace(plan, project=with_factors(plan.project, factors)), Solution(worth, count, nodes))
 
 
 def of_last(table: pd.DataFrame) -> dict[str, Any]:
     """Returns the row of the largest revenue factor, with the NPV by which shells are compared."""
-    return dict(table.iloc[-1]) | {"npv": float(shell_tables.npv_of(table).iloc[-1])}
+    return dict(table.iloc[-1]) | {"npv": float(npv_of(table).iloc[-1])}
 
 
 def write(path: Path, found: Found) -> None:
     """Writes a result; its file is named by its key."""
     numbers = {name: float(amount) for name, amount in found.row.items() if name != "value_at_revenue_factor"}
-    texts = {"value_at_revenue_factor": f"{found.row['value_at_revenue_factor']:f}", "walls": json.dumps(found.walls)}
+    texts = {
+        "value_at_revenue_factor": f"{found.row['value_at_revenue_factor']:f}",
+        "slope_domains": json.dumps(found.domains),
+    }
     skin = {} if found.skin is None else {"skin": found.skin.cells, "skin_factor": found.skin.factor}
     with staged_file(path) as place:
         keyed_arrays.write(
@@ -543,7 +531,7 @@ def read(path: Path, cells: int) -> Found:
         return Found(
             row | {"value_at_revenue_factor": str(said["value_at_revenue_factor"])},
             said["entry"],
-            json.loads(str(said["walls"])),
+            json.loads(str(said["slope_domains"])),
             skin,
         )
     except (OSError, ValueError, KeyError, TypeError) as error:
@@ -653,7 +641,7 @@ def record(found: Sensitivity, project: str) -> dict[str, Any]:
 
 def recorded(found: Sensitivity, case: Case) -> dict[str, Any]:
     """Returns the record of a case."""
-    return {**case.as_json, "key": found.keys[case], "walls": found.answers[case].walls}
+    return {**case.as_json, "key": found.keys[case], "slope_domains": found.answers[case].domains}
 
 
 def skin_of(found: Sensitivity) -> dict[str, Any]:

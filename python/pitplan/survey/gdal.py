@@ -9,6 +9,7 @@ import numpy as np
 
 from pitplan.config.table import SurveyFile
 from pitplan.core.libraries import load
+from pitplan.core.tolerances import SUM_ERROR
 from pitplan.errors import PlanError
 
 from .layers import Layer
@@ -47,7 +48,7 @@ def demand_metres(system: Any, path: Path, places: np.ndarray) -> None:
         if len(places) and (np.abs(places) <= DEGREES).all():
             why = f"is in degrees ({system.GetName()}), and nothing is transformed: give it in the table's own coordinates"
             raise PlanError(f"{path}: {why}")
-    elif abs(system.GetLinearUnits() - 1) > 1e-9:
+    elif abs(system.GetLinearUnits() - 1) > SUM_ERROR:
         raise PlanError(
             f"{path}: is in {system.GetLinearUnitsName()} ({system.GetName()}), and lengths are in metres: convert it"
         )

@@ -75,7 +75,7 @@ def judged(editor: Editor, path: Path, name: str) -> Editor:
     except PlanError as error:
         # The command line names files from the folder in which it runs.
         why = str(error).replace(f"{path.parent}/", name[: name.rfind("/") + 1])
-        return replace(editor, wrong=why, line=getattr(error, "line", None))
+        return replace(editor, wrong=why, line=error.place.line)
     return editor
 
 

@@ -21,34 +21,34 @@ def verify(answer: Answer) -> Rule:
     """Verifies that every must-mine block is in every shell, and no excluded block in any."""
     rules, first = answer.project.constraints, answer.said["revenue_factor"].to_numpy()
     if rules is None:
-        return rule("fixed", "the project has no constraints", [])
+        return rule("constraints", "the project has no constraints", [])
     must, never = demanded(answer, rules)
     left = np.flatnonzero(must & (first != min(answer.factors)))
-    dug = np.flatnonzero(never & (first > 0))
+    mined = np.flatnonzero(never & (first > 0))
     differences = [
         f"{answer.called(row)} is must-mine, and is mined from revenue factor {factor_text(first[row])}"
         for row in left[:TOLD]
     ]
     differences += [
         f"{answer.called(row)} is excluded, and is mined from revenue factor {factor_text(first[row])}"
-        for row in dug[:TOLD]
+        for row in mined[:TOLD]
     ]
     ground = ", with the mined-out blocks," if rules["as_mined"] else ""
     holds = f"must-mine blocks{ground} are in every shell, and excluded blocks in none"
-    return rule("fixed", holds, differences, len(left) + len(dug))
+    return rule("constraints", holds, differences, len(left) + len(mined))
 
 
 def demanded(answer: Answer, rules: Section) -> tuple[np.ndarray, np.ndarray]:
     """Returns masks of must-mine and excluded blocks, shape (rows,)."""
-    if "fixed" not in answer.found:
+    if "constraints" not in answer.found:
         rock = answer.tonnes > 0
         must, never = marked(answer, rules["must_mine"]) & rock, marked(answer, rules["exclude"])
         if rules["as_mined"] is not None:
             must = must | depletion.surely_mined(answer, rules)
         for area in rules["areas"]:
             never = never | within(answer, survey.polygons(area["polygon"]), area["exclude"] == "inside")
-        answer.found["fixed"] = must, never & rock
-    return answer.found["fixed"]
+        answer.found["constraints"] = must, never & rock
+    return answer.found["constraints"]
 
 
 def marked(answer: Answer, column: str | None) -> np.ndarray:

@@ -18,7 +18,7 @@ def verify(answer: Answer) -> Rule:
     """Verifies that every missing block is filled as the project defines it, and otherwise that none is."""
     rock = answer.project.table["missing_blocks"]
     if not isinstance(rock, Mapping):
-        return rule("absent", "no missing block is filled", [])
+        return rule("missing blocks", "no missing block is filled", [])
     differences, count = unlike_cells(answer)
     for name, expected in words(answer, rock).items():
         added = answer.rows[name].iloc[answer.known :]
@@ -26,7 +26,7 @@ def verify(answer: Answer) -> Rule:
         differences += [f"{answer.called(answer.known + k)}: {name} {added.iloc[k]} for {expected}" for k in off[:TOLD]]
         count += len(off)
     holds = f"every missing block is filled with {rock['tonnes']:g} t"
-    return rule("absent", f"{holds} and codes of the project, and no other cell is", differences, count)
+    return rule("missing blocks", f"{holds} and codes of the project, and no other cell is", differences, count)
 
 
 def words(answer: Answer, rock: Section) -> dict[str, str | float]:

@@ -9,7 +9,7 @@ import pandas as pd
 
 from planaudit.ground import topography
 from planaudit.ground.slopes import Run, cone, runs
-from planaudit.inputs.answer import NOTHING, UNDUG, Answer
+from planaudit.inputs.answer import NOTHING, UNMINED, Answer
 from planaudit.inputs.rotated_grid import steps_of
 from planaudit.money.block_values import gains_by_floats
 from planaudit.revenue_factors import BASE_PRICE, factor_text
@@ -41,18 +41,18 @@ def verify(answer: Answer) -> Rule:
     fixed = answer.project.constraints
     if fixed is not None and fixed["must_mine"]:
         part = replace(answer, rows=rows)
-        forced = rock_of(
+        must_mine = rock_of(
             part, np.flatnonzero((rows[fixed["must_mine"]] > 0) & (rows[answer.project.table["tonnes"]] > 0))
         )
-        differences += [f"{part.called(row)} was removed, and is must-mine" for row in forced[:TOLD]]
-        count += len(forced)
+        differences += [f"{part.called(row)} was removed, and is must-mine" for row in must_mine[:TOLD]]
+        count += len(must_mine)
     reaching = leading_off(answer)
     differences += [
         f"{answer.called(row)}, mined at revenue factor {factor_text(answer.said['revenue_factor'].iloc[row])}, depends on ground that was removed"
         for row in reaching[:TOLD]
     ]
     holds = f"of {len(rows):,} removed blocks none pays for its processing or is must-mine, and no shell depends on removed ground"
-    return rule("reach", holds, differences, count + len(reaching))
+    return rule("crop", holds, differences, count + len(reaching))
 
 
 def rock_of(part: Answer, numbers: np.ndarray) -> np.ndarray:
@@ -74,13 +74,13 @@ def beyond_sides(answer: Answer) -> tuple[int, int, int, int]:
 def leading_off(answer: Answer) -> np.ndarray:
     """Returns the rows of mined blocks whose cone holds cells of the model outside the grid."""
     level, row, column = answer.cells
-    dug, entry = answer.dug[answer.cells], answer.entries[answer.cells]
+    first, entry = answer.first_factor[answer.cells], answer.entries[answer.cells]
     south, north, west, east = beyond_sides(answer)
     wrong = np.zeros(len(answer.rows), dtype=bool)
-    for number, wall in enumerate(answer.project.slopes["domains"]):
-        mine = (entry == number) & (dug != UNDUG) & (dug != NOTHING)
-        for up in range(1, answer.levels(wall) + 1):
-            for run in runs(cone(wall, answer.size, up, answer.azimuth)):
+    for number, domain in enumerate(answer.project.slopes["domains"]):
+        mine = (entry == number) & (first != UNMINED) & (first != NOTHING)
+        for up in range(1, answer.levels(domain) + 1):
+            for run in runs(cone(domain, answer.size, up, answer.azimuth)):
                 wrong |= (
                     mine & (level >= up) & leads_off(run, row, column, (answer.shape[1:], (south, north, west, east)))
                 )

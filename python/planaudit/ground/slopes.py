@@ -8,7 +8,7 @@ from dataclasses import dataclass
 import numpy as np
 import pandas as pd
 
-from planaudit.inputs.answer import NOTHING, UNDUG, Answer
+from planaudit.inputs.answer import NOTHING, UNMINED, Answer
 from planaudit.inputs.project import Section
 from planaudit.revenue_factors import factor_text
 from planaudit.rules import TOLD, Rule, rule
@@ -28,36 +28,36 @@ class Run:
     east: int
 
 
-def flatness(wall: Section, azimuth: np.ndarray) -> np.ndarray:
+def flatness(domain: Section, azimuth: np.ndarray) -> np.ndarray:
     """Returns the cotangent of the slope angle at azimuths in degrees: linear between those given, and around the circle."""
-    if wall["bench"]:
+    if domain["bench"]:
         return np.full(
             np.shape(azimuth),
-            1 / math.tan(math.radians(wall["bench"]["face_angle"]))
-            + wall["bench"]["berm_width"] / wall["bench"]["height"],
+            1 / math.tan(math.radians(domain["bench"]["face_angle"]))
+            + domain["bench"]["berm_width"] / domain["bench"]["height"],
         )
     # A face dips away from its wall.
-    turned = 180 if wall["azimuth_of"] == "dip" else 0
-    pairs = sorted(((azimuth + turned) % 360, angle) for azimuth, angle in wall["angles"])
+    turned = 180 if domain["azimuth_of"] == "dip" else 0
+    pairs = sorted(((azimuth + turned) % 360, angle) for azimuth, angle in domain["angles"])
     given = [azimuth for azimuth, _ in pairs]
     back = [math.cos(math.radians(angle)) / math.sin(math.radians(angle)) for _, angle in pairs]
     return np.interp(azimuth, [given[-1] - 360, *given, given[0] + 360], [back[-1], *back, back[0]])
 
 
-def cone(wall: Section, size: tuple[float, float, float], up: int, turn: float = 0.0) -> np.ndarray:
+def cone(domain: Section, size: tuple[float, float, float], up: int, turn: float = 0.0) -> np.ndarray:
     """Returns which cells lie in the cone a number of levels up: a boolean square, rows from the south, around the cell above. `turn` is the azimuth
     of the grid's north in degrees."""
-    if wall["pattern"]:
-        corner = NEIGHBOURS[wall["pattern"]]
+    if domain["pattern"]:
+        corner = NEIGHBOURS[domain["pattern"]]
         return np.array([[abs(north) + abs(east) <= corner for east in (-1, 0, 1)] for north in (-1, 0, 1)])
-    if wall["offsets"]:
-        steps = {(north, east) for east, north, above in wall["offsets"] if above == up}
+    if domain["offsets"]:
+        steps = {(north, east) for east, north, above in domain["offsets"] if above == up}
         far = max((max(abs(north), abs(east)) for north, east in steps), default=0)
         return np.array([[(north, east) in steps for east in range(-far, far + 1)] for north in range(-far, far + 1)])
-    back = up * size[2] * max(flatness(wall, np.arange(0.0, 360.0, 0.25)))
+    back = up * size[2] * max(flatness(domain, np.arange(0.0, 360.0, 0.25)))
     far = int(back / min(size[0], size[1])) + 1
     north, east = np.mgrid[-far : far + 1, -far : far + 1] * np.array([size[1], size[0]])[:, None, None]
-    allowed = up * size[2] * flatness(wall, (np.degrees(np.arctan2(east, north)) + turn) % 360)
+    allowed = up * size[2] * flatness(domain, (np.degrees(np.arctan2(east, north)) + turn) % 360)
     return np.hypot(north, east) <= allowed * (1 + HAIR) + HAIR
 
 
@@ -70,10 +70,10 @@ def runs(inside: np.ndarray) -> list[Run]:
     return found
 
 
-def ranks_of(dug: np.ndarray) -> np.ndarray:
+def ranks_of(mined: np.ndarray) -> np.ndarray:
     """Returns the rank of each value among all, from 0 for NOTHING, as the smallest type that holds it."""
-    values = np.sort(pd.unique(np.append(dug.ravel(), NOTHING)))
-    return np.searchsorted(values, dug).astype(np.min_scalar_type(len(values)))
+    values = np.sort(pd.unique(np.append(mined.ravel(), NOTHING)))
+    return np.searchsorted(values, mined).astype(np.min_scalar_type(len(values)))
 
 
 def greatest(above: np.ndarray, inside: list[Run]) -> np.ndarray:
@@ -98,17 +98,17 @@ def greatest(above: np.ndarray, inside: list[Run]) -> np.ndarray:
 
 def verify(answer: Answer) -> Rule:
     """Verifies that no shell leaves a block with tonnes, or unknown ground, in the whole cone of a block that it mines."""
-    dug, entry, ranks = answer.dug, answer.entries, ranks_of(answer.dug)
+    first, entry, ranks = answer.first_factor, answer.entries, ranks_of(answer.first_factor)
     wrong = np.zeros(answer.shape, dtype=bool)
-    for number, wall in enumerate(answer.project.slopes["domains"]):
-        mine = (entry == number) & (dug != UNDUG) & (dug != NOTHING)
+    for number, domain in enumerate(answer.project.slopes["domains"]):
+        mine = (entry == number) & (first != UNMINED) & (first != NOTHING)
         if not mine.any():
             continue
-        for up in range(1, min(answer.levels(wall), answer.shape[0] - 1) + 1):
+        for up in range(1, min(answer.levels(domain), answer.shape[0] - 1) + 1):
             below = box(mine[up:])
             if below is None:
                 continue
-            inside = runs(cone(wall, answer.size, up, answer.azimuth))
+            inside = runs(cone(domain, answer.size, up, answer.azimuth))
             if not inside:
                 continue
             reach = max(max(abs(run.north), abs(run.west), abs(run.east)) for run in inside)
@@ -118,7 +118,7 @@ def verify(answer: Answer) -> Rule:
             )
             standing = greatest(ranks[:-up][wide], inside) > ranks[up:][wide]
             wrong[up:][wide] |= standing & mine[up:][wide]
-    return rule("walls", holds(answer), *told(answer, wrong))
+    return rule("slopes", holds(answer), *told(answer, wrong))
 
 
 def verify_steepness(answer: Answer) -> Rule:
@@ -127,29 +127,31 @@ def verify_steepness(answer: Answer) -> Rule:
     slopes, differences = answer.project.slopes, []
     if slopes["precedence_benches"] is not None:
         return rule(
-            "levels", f"slope precedences reach over {slopes['precedence_benches']} benches, as in the project", []
+            "slope error", f"slope precedences reach over {slopes['precedence_benches']} benches, as in the project", []
         )
-    for number, wall in enumerate(slopes["domains"]):
-        levels = answer.levels(wall)
+    for number, domain in enumerate(slopes["domains"]):
+        levels = answer.levels(domain)
         steeper = 0.0
-        if not wall["pattern"] and not wall["offsets"]:
-            steeper = float((high_walls(wall, answer.size, levels, answer.azimuth) - asked(wall, answer.azimuth)).max())
+        if not domain["pattern"] and not domain["offsets"]:
+            steeper = float(
+                (high_walls(domain, answer.size, levels, answer.azimuth) - asked(domain, answer.azimuth)).max()
+            )
         is_steeper = steeper > STEEPER + 1e-6 and levels < MOST_LEVELS
-        if is_steeper and precedences(wall, answer.size, levels + 1, answer.azimuth) <= MOST_CHOSEN:
+        if is_steeper and precedences(domain, answer.size, levels + 1, answer.azimuth) <= MOST_CHOSEN:
             differences.append(
                 f"domain entry {number + 1}: over {levels} benches the slope is {steeper:.2f} degrees steeper than its angle"
             )
     return rule(
-        "levels",
+        "slope error",
         f"no slope is more than {STEEPER} degrees steeper than its angle, or precedences reach over {MOST_LEVELS} benches, or over one more a "
         f"block would have more than {MOST_CHOSEN}",
         differences,
     )
 
 
-def precedences(wall: Section, size: tuple[float, float, float], levels: int, turn: float) -> int:
+def precedences(domain: Section, size: tuple[float, float, float], levels: int, turn: float) -> int:
     """Returns how many precedences imply the whole cone: its cells between which and the block no lower cell lies that leads to them."""
-    cones = [cone(wall, size, up, turn) for up in range(1, levels + 1)]
+    cones = [cone(domain, size, up, turn) for up in range(1, levels + 1)]
     found: set[tuple[int, int, int]] = set()
     for south, west in ((1, 1), (1, -1), (-1, 1), (-1, -1)):
         kept: list[tuple[int, int, int]] = []
@@ -174,19 +176,19 @@ def leads(cones: list[np.ndarray], step: tuple[int, int, int], south: int, west:
     return north <= far and east <= far and bool(inside[far + north * south, far + east * west])
 
 
-def asked(wall: Section, turn: float) -> np.ndarray:
+def asked(domain: Section, turn: float) -> np.ndarray:
     """Returns the required angles in degrees, by whole azimuth from the grid's north, which has the azimuth `turn`."""
-    return np.degrees(np.arctan2(1.0, flatness(wall, (np.arange(360.0) + turn) % 360)))
+    return np.degrees(np.arctan2(1.0, flatness(domain, (np.arange(360.0) + turn) % 360)))
 
 
-def high_walls(wall: Section, size: tuple[float, float, float], levels: int, turn: float = 0.0) -> np.ndarray:
+def high_walls(domain: Section, size: tuple[float, float, float], levels: int, turn: float = 0.0) -> np.ndarray:
     """Returns the angles of high slopes, of cones upon cones, in the same way: those of the convex hull of the cone."""
     # Here, since it takes a tenth of a second, and not if the project sets the number of benches.
     from scipy.spatial import ConvexHull, QhullError
 
     points = []
     for up in range(1, levels + 1):
-        inside = cone(wall, size, up, turn)
+        inside = cone(domain, size, up, turn)
         north, east = (np.argwhere(inside) - len(inside) // 2).T
         points.append(np.stack([east * size[0], north * size[1]], axis=1) / (up * size[2]))
     try:
@@ -203,13 +205,15 @@ def needed_by(answer: Answer, blocks: np.ndarray) -> np.ndarray:
     """Returns the given blocks and all their predecessors, a boolean mask over cells."""
     found = blocks.copy()
     entries = answer.entries
-    walls, turn = answer.project.slopes["domains"], answer.azimuth
-    cones = [[runs(cone(wall, answer.size, up, turn)) for up in range(1, answer.levels(wall) + 1)] for wall in walls]
-    back = [[[Run(-it.north, -it.east, -it.west) for it in inside] for inside in of_wall] for of_wall in cones]
+    domains, turn = answer.project.slopes["domains"], answer.azimuth
+    cones = [
+        [runs(cone(domain, answer.size, up, turn)) for up in range(1, answer.levels(domain) + 1)] for domain in domains
+    ]
+    back = [[[Run(-it.north, -it.east, -it.west) for it in inside] for inside in of_domain] for of_domain in cones]
     for level in range(answer.shape[0] - 1, 0, -1):
-        for number, of_wall in enumerate(back):
+        for number, of_domain in enumerate(back):
             mine = found[level] & (entries[level] == number)
-            for up, inside in enumerate(of_wall[:level] if mine.any() else [], 1):
+            for up, inside in enumerate(of_domain[:level] if mine.any() else [], 1):
                 if inside:
                     found[level - up] |= greatest(mine[None].astype(np.uint8), inside)[0] > 0
     return found
@@ -236,5 +240,5 @@ def told(answer: Answer, wrong: np.ndarray) -> tuple[list[str], int]:
 
 
 def holds(answer: Answer) -> str:
-    most = max(answer.levels(wall) for wall in answer.project.slopes["domains"])
+    most = max(answer.levels(domain) for domain in answer.project.slopes["domains"])
     return f"no block of any shell lacks a block of its slope cone, up to {most} benches above it"

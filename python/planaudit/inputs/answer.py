@@ -89,7 +89,7 @@ def read_pits(
 
 
 # Instead of a revenue factor: a cell that is never mined, and one without material.
-UNDUG, NOTHING = np.inf, 0.0
+UNMINED, NOTHING = np.inf, 0.0
 
 
 @dataclass(frozen=True)
@@ -283,14 +283,14 @@ class Answer:
         return east, north, -up
 
     @cached_property
-    def dug(self) -> np.ndarray:
+    def first_factor(self) -> np.ndarray:
         """The least revenue factor at which each cell is mined, shape (levels, rows, columns). UNDUG if it never is, or the ground is unknown;
         NOTHING without material."""
-        cube = np.full(self.shape, UNDUG)
+        cube = np.full(self.shape, UNMINED)
         factor = self.said["revenue_factor"].to_numpy()
         known = np.zeros(self.shape, dtype=bool)
         known[self.cells] = True
-        cube[self.cells] = np.where(self.tonnes > 0, np.where(factor > 0, factor, UNDUG), NOTHING)
+        cube[self.cells] = np.where(self.tonnes > 0, np.where(factor > 0, factor, UNMINED), NOTHING)
         highest = np.where(known.any(axis=0), known.argmax(axis=0), 0)
         air = np.arange(self.shape[0])[:, None, None] < highest
         if self.project.table["missing_blocks"] == "air":
@@ -302,26 +302,28 @@ class Answer:
     def entries(self) -> np.ndarray:
         """The index of each cell's entry in `[[slopes.domains]]`, shape (levels, rows, columns). A cell without a row has the domain of the next
         block below it, otherwise above."""
-        column, walls = self.project.table["domain"], self.project.slopes["domains"]
-        others = next((k for k, wall in enumerate(walls) if wall["domain"] is None), 0)
-        by_region = {name: k for k, wall in enumerate(walls) for name in wall["domain"] or ()}
+        column, domains = self.project.table["domain"], self.project.slopes["domains"]
+        others = next((k for k, domain in enumerate(domains) if domain["domain"] is None), 0)
+        by_domain = {name: k for k, domain in enumerate(domains) for name in domain["domain"] or ()}
         place, names = self.codes[column] if column else (np.zeros(len(self.rows), dtype=np.int64), [""])
         cube = np.full(self.shape, -1, dtype=np.int16)
-        cube[self.cells] = np.array([by_region.get(name, others) for name in names], dtype=np.int16)[place]
+        cube[self.cells] = np.array([by_domain.get(name, others) for name in names], dtype=np.int16)[place]
         for level in range(len(cube) - 2, -1, -1):
             np.copyto(cube[level], cube[level + 1], where=cube[level] < 0)
         for level in range(1, len(cube)):
             np.copyto(cube[level], cube[level - 1], where=cube[level] < 0)
         return np.where(cube < 0, np.int16(others), cube)
 
-    def levels(self, wall: Section) -> int:
+    def levels(self, domain: Section) -> int:
         """Returns the precedence benches of an entry of `[[slopes.domains]]`."""
-        if wall["pattern"]:
+        if domain["pattern"]:
             return 1
-        if wall["offsets"]:
-            return max(up for _, _, up in wall["offsets"])
-        number = self.project.slopes["domains"].index(wall)
-        return int(self.record["walls"][number].get("levels", self.project.slopes["precedence_benches"]))
+        if domain["offsets"]:
+            return max(up for _, _, up in domain["offsets"])
+        number = self.project.slopes["domains"].index(domain)
+        return int(
+            self.record["slope_domains"][number].get("precedence_benches", self.project.slopes["precedence_benches"])
+        )
 
     def called(self, row: int) -> str:
         """Returns the name of a block: the planner's id, otherwise its centroid."""
@@ -355,9 +357,9 @@ def read(written: Path, folder: Optional[Path] = None, table: Optional[pd.DataFr
     try:
         record = read_plan(written)
         project = run.project(record)
-        found, expected = len(record.get("walls", project.slopes["domains"])), len(project.slopes["domains"])
+        found, expected = len(record.get("slope_domains", project.slopes["domains"])), len(project.slopes["domains"])
         if found < expected:
-            why = f"walls: found {found}, expected {expected} as in the project"
+            why = f"slope_domains: found {found}, expected {expected} as in the project"
             raise AuditError(f"{written / PLAN}: {why}: run pitplan shells again")
         own = [own_name(name) for name in (*project.columns, project.table["tonnes"])]
         results = (*said_of(project), *FREE, PUSHBACK, YEAR, BIN, MINED, *shares_of(project), *own)

@@ -167,14 +167,14 @@ def reblock(value: Any) -> dict[str, Any]:
     return section("reblock", sides)
 
 
-def wall_of(data: Section) -> dict[str, Any]:
+def domain_of(data: Section) -> dict[str, Any]:
     """Returns an entry of `[[slopes.domains]]`, with pairs of azimuth and angle in degrees as `angles`."""
     angles = data["azimuths"] if "azimuths" in data else [[0, data["angle"]]] if "angle" in data else []
     return section("slopes.domains", data) | {"angles": all_real(angles)}
 
 
-def walls(values: list[Section]) -> tuple[dict[str, Any], ...]:
-    return tuple(map(wall_of, values))
+def domains(values: list[Section]) -> tuple[dict[str, Any], ...]:
+    return tuple(map(domain_of, values))
 
 
 def accepts(data: Section) -> dict[str, Any]:
@@ -262,7 +262,7 @@ KEYS: dict[str, dict[Form, dict[str, Any]]] = {
     "accepts": {texts: keys("rock_type domain class", [])},
     "sides": {real: keys("min max")},
     "dumps": {as_given: keys("name", DUE), real: keys("cost", 0) | keys("capacity"), accepts: keys("accepts", {})},
-    "slopes": {as_given: keys("precedence_benches"), walls: keys("domains", DUE)},
+    "slopes": {as_given: keys("precedence_benches"), domains: keys("domains", DUE)},
     "slopes.domains": {
         texts: keys("domain"),
         as_given: {"azimuth_of": "wall"} | keys("pattern"),

@@ -48,7 +48,7 @@ def parts_of(record: dict[str, Any]) -> list[tuple[str, str, bool]]:
         return [("grid", "a table", isinstance(grid, dict)), ("shells", "a table", isinstance(shells, dict))]
     shape = grid.get("shape")
     factors = shells.get("revenue_factors") if "shells" in record else record.get("revenue_factors")
-    walls, project = record.get("walls", []), record.get("project", "")
+    domains, project = record.get("slope_domains", []), record.get("project", "")
     inputs = record.get("inputs", {})
     return [
         ("grid.shape", f"3 whole numbers above 0 of {MOST_CELLS:,} cells at most", is_shape(shape)),
@@ -56,7 +56,7 @@ def parts_of(record: dict[str, Any]) -> list[tuple[str, str, bool]]:
         ("grid.size", "3 lengths above 0", is_numbers(grid.get("size"), 3) and min(grid["size"]) > 0),
         ("grid.azimuth", "a number", is_numbers([grid.get("azimuth", 0)], 1)),
         ("revenue_factors", "a list of numbers", is_list(factors) and bool(factors) and is_numbers(factors)),
-        ("walls", "a list of tables", is_list(walls) and all(isinstance(it, dict) for it in walls)),
+        ("slope_domains", "a list of tables", is_list(domains) and all(isinstance(it, dict) for it in domains)),
         ("project", "the path of a file", isinstance(project, str) and "\0" not in project),
         ("inputs", "a table of hashes", isinstance(inputs, dict)),
     ]

@@ -90,7 +90,7 @@ def demand_numbers(frame: pd.DataFrame, source: str, texts: Iterable[str]) -> No
 
 
 def may_be(name: str, column: pd.Series) -> bool:
-    """Whether a column of numbers may have the empty fields that it has."""
+    """Whether the empty fields of this numeric column are allowed."""
     return name.startswith(MAY_LACK) or not np.isnan(column.to_numpy()).any()
 
 

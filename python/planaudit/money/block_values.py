@@ -147,7 +147,7 @@ class Costs:
     tails: tuple[Decimal, ...]
 
     @staticmethod
-    def of(project: Project, rock: str, region: str) -> Costs:
+    def of(project: Project, rock: str, domain_code: str) -> Costs:
         money, metals = project.economics, project.metals
         shares = [
             metal["recovery"].get(rock, Decimal(0)) if isinstance(metal["recovery"], dict) else metal["recovery"]
@@ -155,10 +155,10 @@ class Costs:
         ]
         tails = [of_code(metal["tail_grade"], rock, "") for metal in metals]
         return Costs(
-            of_code(money["mining_cost"], rock, region),
-            of_code(money["processing_cost"], rock, region),
-            of_code(money["mining_recovery"], rock, region),
-            of_code(money["dilution"], rock, region),
+            of_code(money["mining_cost"], rock, domain_code),
+            of_code(money["processing_cost"], rock, domain_code),
+            of_code(money["mining_recovery"], rock, domain_code),
+            of_code(money["dilution"], rock, domain_code),
             tuple(shares),
             tuple(tails),
         )

@@ -28,11 +28,11 @@ def by_code(value: Any, rows: pd.DataFrame, columns: Section, known: codes.Codes
     return codes.valued(of_rows, lambda code: float(amounts.get(code, 0)))
 
 
-def of_code(value: Any, rock: str, region: str) -> Decimal:
+def of_code(value: Any, rock: str, domain_code: str) -> Decimal:
     """Returns the number of a block of these codes; 0 if they have none."""
     if isinstance(value, Decimal):
         return value
-    amounts, code = (value["domain"], region) if is_by_domain(value) else (value, rock)
+    amounts, code = (value["domain"], domain_code) if is_by_domain(value) else (value, rock)
     return Decimal(amounts.get(code, 0))
 
 

@@ -83,7 +83,7 @@ def fixed_cost(project: Project, year: int) -> float:
 
 
 def mining_factor(project: Project, year: int) -> float:
-    """Returns by how much the mining cost of what is mined in a year, from 1, is multiplied."""
+    """Returns the mining cost factor of a year, counted from 1."""
     return factor_in(project, "mining_cost", year)
 
 

@@ -26,8 +26,8 @@ def processed(part: Answer) -> Answer:
 
 def valued(whole: Answer) -> Answer:
     """Returns the blocks that are mined at any revenue factor, with exact costs and revenue."""
-    dug = (whole.said["revenue_factor"] > 0).to_numpy()
-    part = replace(whole, rows=whole.rows[dug].reset_index(drop=True), said=whole.said[dug].reset_index(drop=True))
+    mined = (whole.said["revenue_factor"] > 0).to_numpy()
+    part = replace(whole, rows=whole.rows[mined].reset_index(drop=True), said=whole.said[mined].reset_index(drop=True))
     told: dict[str, Any] = {}
     for way, names in zip(part.project.by_process, part.amounts_of_ways):
         exactly = money.Exactly.of(replace(part, project=way))

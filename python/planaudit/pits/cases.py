@@ -151,17 +151,17 @@ class Pit:
 
 
 @dataclass(frozen=True)
-class Dug:
-    """What a shell digs in each year: shares of benches, shape (years, benches), and its life in periods."""
+class Mined:
+    """What a shell mines in each year: shares of benches, shape (years, benches), and its life in periods."""
 
     shares: np.ndarray
     life: float
 
 
-def dug_of(pieces: Pieces, wait: Wait) -> Dug:
-    """Returns what is dug when pieces are mined one after the other."""
+def mined_of(pieces: Pieces, wait: Wait) -> Mined:
+    """Returns what is mined when pieces are mined one after the other."""
     parts = parts_of(pieces.sums(wait.uses).tolist(), wait.shares.tolist())
-    return Dug(pieces.of_benches(shares_of(parts, pieces.count), len(wait.uses)), parts.life)
+    return Mined(pieces.of_benches(shares_of(parts, pieces.count), len(wait.uses)), parts.life)
 
 
 def pits_of(benches: Benches, case: str, factors: list[float]) -> list[Pit]:
@@ -172,8 +172,8 @@ def pits_of(benches: Benches, case: str, factors: list[float]) -> list[Pit]:
     found: list[list[Pit]] = [[] for _ in factors]
     some = [place for place, amount in enumerate(tonnes) if amount]
     for wait in benches.waits:
-        dug = [dug_of(pieces[place], wait) for place in some]
-        for place, it, years in zip(some, dug, earned(benches, dug)):
+        mined = [mined_of(pieces[place], wait) for place in some]
+        for place, it, years in zip(some, mined, earned(benches, mined)):
             found[place].append(Pit(years, it.life, slack[place]))
     return [shortest_best(pits) if pits else Pit({}, 0.0, off) for pits, off in zip(found, slack)]
 
@@ -183,20 +183,20 @@ def shortest_best(pits: list[Pit]) -> Pit:
     return min((pit for pit in pits if pit.npv >= most - EQUAL * abs(most) - TINY), key=lambda pit: pit.life)
 
 
-def earned(benches: Benches, dug: list[Dug]) -> list[Amounts]:
+def earned(benches: Benches, mined: list[Mined]) -> list[Amounts]:
     """Returns the amounts and the money of the years of each shell."""
     project = benches.answer.project
-    if benches.kinds is None or not dug:
-        return [money_of(as_mined(benches, it.shares), it.life, project) for it in dug]
-    shares = np.concatenate([it.shares for it in dug])
-    number = np.concatenate([np.arange(len(it.shares)) for it in dug])
-    part = np.concatenate([np.clip(it.life - np.arange(len(it.shares)), 0.0, 1.0) for it in dug])
+    if benches.kinds is None or not mined:
+        return [money_of(as_mined(benches, it.shares), it.life, project) for it in mined]
+    shares = np.concatenate([it.shares for it in mined])
+    number = np.concatenate([np.arange(len(it.shares)) for it in mined])
+    part = np.concatenate([np.clip(it.life - np.arange(len(it.shares)), 0.0, 1.0) for it in mined])
     amounts = processed(benches, benches.kinds.of(shares), shares, number + 1, part)
-    ends = np.cumsum([len(it.shares) for it in dug])[:-1]
+    ends = np.cumsum([len(it.shares) for it in mined])[:-1]
     split = {name: np.split(values, ends) for name, values in amounts.items()}
     return [
         money_of({name: values[place] for name, values in split.items()}, it.life, project)
-        for place, it in enumerate(dug)
+        for place, it in enumerate(mined)
     ]
 
 

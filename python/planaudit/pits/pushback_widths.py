@@ -7,8 +7,8 @@ import math
 import numpy as np
 import pandas as pd
 
-from planaudit.blocks import constraints as fixed
-from planaudit.ground import slopes as walls
+from planaudit.blocks import constraints
+from planaudit.ground import slopes
 from planaudit.inputs.answer import NOTHING, Answer
 from planaudit.rules import TOLD, Rule, rule
 
@@ -55,12 +55,12 @@ def cube_of(answer: Answer) -> np.ndarray:
 
 def room_of(answer: Answer) -> np.ndarray:
     """Returns whether each cell counts as room: air, or a must-mine block; shape (levels, rows, columns)."""
-    room = answer.dug == NOTHING
+    room = answer.first_factor == NOTHING
     rules = answer.project.constraints
     if rules is not None:
         must = np.zeros(answer.shape, dtype=bool)
-        must[answer.cells] = fixed.demanded(answer, rules)[0]
-        room = room | walls.needed_by(answer, must)
+        must[answer.cells] = constraints.demanded(answer, rules)[0]
+        room = room | slopes.needed_by(answer, must)
     return room
 
 
@@ -111,7 +111,7 @@ def sums_over(values: np.ndarray, shape: Rectangle) -> np.ndarray:
 
 def unlike_shape(answer: Answer, pushback: np.ndarray, room: np.ndarray, said: pd.Series) -> list[str]:
     """Returns differences of `pieces` and `min_width` of a pushback."""
-    rock = pushback & (answer.dug != NOTHING)
+    rock = pushback & (answer.first_factor != NOTHING)
     pieces, least, step = count_pieces(rock), float(said["min_width"]), min(answer.size[:2])
     found = [f"pieces {said['pieces']:g} for {pieces}"] if said["pieces"] != pieces else []
     asking = pushback & ~room

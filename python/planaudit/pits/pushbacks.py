@@ -4,8 +4,8 @@ from __future__ import annotations
 
 import numpy as np
 
-from planaudit.blocks import constraints as fixed
-from planaudit.ground import slopes as walls
+from planaudit.blocks import constraints
+from planaudit.ground import slopes
 from planaudit.inputs.answer import Answer
 from planaudit.pits import mineralised, pushback_widths, sums
 from planaudit.revenue_factors import BASE_PRICE, factor_text, factor_texts
@@ -19,8 +19,8 @@ def checks_of(answer: Answer) -> Checks:
     as_shells = by_pushback(answer)
     return {
         "pushback of blocks": lambda: [verify_places(answer)],
-        "pushback walls": lambda: [of_pushbacks(walls.verify(as_shells))],
-        "pushback fixed": lambda: [of_pushbacks(fixed.verify(as_shells))],
+        "pushback slopes": lambda: [of_pushbacks(slopes.verify(as_shells))],
+        "pushback constraints": lambda: [of_pushbacks(constraints.verify(as_shells))],
         "pushbacks": lambda: [verify_sums(answer)],
         "pushback widths": lambda: [pushback_widths.verify(answer)],
     }

@@ -11,8 +11,8 @@ from typing import Any
 import numpy as np
 import pandas as pd
 
-from planaudit.blocks import constraints as fixed
-from planaudit.ground import slopes as walls
+from planaudit.blocks import constraints
+from planaudit.ground import slopes
 from planaudit.inputs.answer import Answer
 from planaudit.inputs.tables import YEAR
 from planaudit.money import ore_costs
@@ -36,7 +36,7 @@ def checks_of(answer: Answer) -> Checks:
     return {
         "block order": lambda: [verify_order(answer, told)],
         "block limits": lambda: [verify_limits(answer, told, sums)],
-        "block fixed": lambda: verify_fixed(answer),
+        "block constraints": lambda: verify_fixed(answer),
         "block value": lambda: [verify_value(answer, told, sums)],
         "upper bound": lambda: [bounds.verify(answer, told)],
         **block_flow.checks_of(answer),
@@ -48,13 +48,13 @@ def verify_fixed(answer: Answer) -> list[Rule]:
     """Verifies that must-mine blocks are mined, and excluded blocks and those that depend on them are not, if the project has constraints."""
     if answer.project.constraints is None:
         return []
-    year, (must, never) = answer.said[YEAR].to_numpy(), fixed.demanded(answer, answer.project.constraints)
+    year, (must, never) = answer.said[YEAR].to_numpy(), constraints.demanded(answer, answer.project.constraints)
     # Of a block that is mined out already nothing is left to mine.
-    left, dug = np.flatnonzero(must & (answer.tonnes > 0) & (year == 0)), np.flatnonzero(never & (year > 0))
+    left, mined = np.flatnonzero(must & (answer.tonnes > 0) & (year == 0)), np.flatnonzero(never & (year > 0))
     differences = [f"{answer.called(row)} is must-mine, and is in no year" for row in left[:TOLD]]
-    differences += [f"{answer.called(row)} is excluded, and is in year {year[row]}" for row in dug[:TOLD]]
+    differences += [f"{answer.called(row)} is excluded, and is in year {year[row]}" for row in mined[:TOLD]]
     holds = "must-mine blocks are mined in some year, and excluded blocks in none"
-    return [rule("block fixed", holds, differences, len(left) + len(dug))]
+    return [rule("block constraints", holds, differences, len(left) + len(mined))]
 
 
 def flows_of(answer: Answer) -> pd.DataFrame:
@@ -85,7 +85,7 @@ def verify_order(answer: Answer, told: dict[str, Any]) -> Rule:
     """Verifies that no block is mined before its whole cone or after the last year, and that its shares sum to at most 1."""
     year = answer.said[YEAR].to_numpy()
     dated = replace(answer, said=answer.said.assign(revenue_factor=year))
-    found = walls.verify(dated)
+    found = slopes.verify(dated)
     differences = [
         difference.replace("mined at revenue factor", "mined in year", 1) for difference in found.differences
     ]
@@ -169,7 +169,7 @@ def verify_value(answer: Answer, told: dict[str, Any], sums: pd.DataFrame) -> Ru
     gap = (bound - told["npv"]) / abs(bound) if bound else 0.0
     if abs(told["gap"] - gap) > 1e-6:
         differences.append(f"gap {told['gap']:.9g} for {gap:.9g}")
-    dug = int(((answer.said[YEAR] > 0) & (answer.tonnes > 0)).sum())
-    differences += ways_table.differences(answer, {CASE: {"npv": told["npv"], "upper_bound": bound, "blocks": dug}})
+    mined = int(((answer.said[YEAR] > 0) & (answer.tonnes > 0)).sum())
+    differences += ways_table.differences(answer, {CASE: {"npv": told["npv"], "upper_bound": bound, "blocks": mined}})
     holds = "cash flows are discounted as in the project, years and NPV are sums over blocks, and the NPV is within its bound"
     return rule("block value", holds, differences)

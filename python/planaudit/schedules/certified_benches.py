@@ -110,17 +110,17 @@ class CertifiedBenches:
             last[place] = at
             if seen != counts[place]:
                 yield f"{self.names[place]}: {seen} blocks of ore in a chain for {counts[place]}"
-        for place, others in self.needs.items():
+        for place, others in self.precedences.items():
             due = {last[other] for other in others}
             if needed.get(place, set()) != due:
                 yield f"{self.names[place]}: {len(needed.get(place, set()))} predecessors for {len(due)}"
 
     @property
-    def needs(self) -> dict[int, set[int]]:
+    def precedences(self) -> dict[int, set[int]]:
         """The benches on which each bench depends directly, by their numbers among the blocks of the texts; implied ones are left out."""
         before: dict[int, set[int]] = {bench: set() for bench in range(len(self.bound.benches))}
         direct: dict[int, set[int]] = {bench: set() for bench in before}
-        for bench, other in self.bound.needs:
+        for bench, other in self.bound.precedences:
             direct[bench].add(other)
             before[bench] |= {other} | before[other]
         places = self.bench_places

@@ -189,8 +189,8 @@ class MaterialFlow:
         start = sum(opening_tonnes(it) for it in self.blocks.stockpiles if it["name"] == name)
         return start + (placed - out).cumsum(), pd.Series(slack, index=years)
 
-    def used(self, name: str, method: str, dug: pd.Series) -> tuple[pd.Series, pd.Series]:
-        """Returns a limited amount of a method by year, and its tolerance; `dug` are the shares of benches by year, pushback and level."""
+    def used(self, name: str, method: str, mined: pd.Series) -> tuple[pd.Series, pd.Series]:
+        """Returns a limited amount of a method by year, and its tolerance; `mined` are the shares of benches by year, pushback and level."""
         mine = (self.rows["method"] == method).to_numpy()
         of_lot = self.by_process(name)
         if name.startswith("recovered_"):
@@ -198,9 +198,9 @@ class MaterialFlow:
         fed, loose = of_lot * self.share, np.abs(of_lot) * AMOUNT / self.whole["total_tonnes"].to_numpy()
         year = self.rows["year"][mine]
         found, slack = (pd.Series(values[mine]).groupby(year.to_numpy()).sum() for values in (fed, loose))
-        mined = self.blocks.lots[name].groupby(level=["pushback", "level"]).sum()
-        whole = mined.reindex(dug.index.droplevel("year"), fill_value=0.0).to_numpy() * dug.to_numpy()
-        of_mining = pd.Series(whole, index=dug.index).groupby(level="year").sum()
+        lots = self.blocks.lots[name].groupby(level=["pushback", "level"]).sum()
+        whole = lots.reindex(mined.index.droplevel("year"), fill_value=0.0).to_numpy() * mined.to_numpy()
+        of_mining = pd.Series(whole, index=mined.index).groupby(level="year").sum()
         return (
             found.add(of_mining, fill_value=0.0),
             slack.reindex(of_mining.index, fill_value=0.0) + SLIGHT * of_mining.abs(),

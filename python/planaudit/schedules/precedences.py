@@ -77,9 +77,9 @@ def precedences_of(answer: Answer, wanted: np.ndarray, never: np.ndarray, most: 
 
     `wanted` and `never` are masks, shape (rows,).
     """
-    cube, barred = (np.zeros(answer.shape, dtype=bool) for _ in range(2))
+    cube, excluded = (np.zeros(answer.shape, dtype=bool) for _ in range(2))
     cube[tuple(axis[wanted] for axis in answer.cells)] = True
-    barred[tuple(axis[never] for axis in answer.cells)] = True
+    excluded[tuple(axis[never] for axis in answer.cells)] = True
     place = np.flatnonzero(needed_by(answer, cube))
     number = np.full(cube.size, -1)
     number[place] = np.arange(len(place))
@@ -93,17 +93,17 @@ def precedences_of(answer: Answer, wanted: np.ndarray, never: np.ndarray, most: 
     nodes, needed = np.concatenate(pairs, axis=1)
     levels = np.unravel_index(place, answer.shape)[0]
     found = Precedences(row_of[place], levels, nodes, needed)
-    return without(found, barred.ravel()[place]) if never.any() else found
+    return without(found, excluded.ravel()[place]) if never.any() else found
 
 
 def arcs_of(answer: Answer, place: np.ndarray) -> Iterator[np.ndarray]:
     """Yields arcs between cells, shape (2, arcs): from cells, by their numbers, to those in their cones."""
     level, row, column = np.unravel_index(place, answer.shape)
     entry = answer.entries.ravel()[place]
-    for number, wall in enumerate(answer.project.slopes["domains"]):
+    for number, domain in enumerate(answer.project.slopes["domains"]):
         mine = np.flatnonzero(entry == number)
-        for up in range(1, answer.levels(wall) + 1 if len(mine) else 1):
-            inside = cone(wall, answer.size, up, answer.azimuth)
+        for up in range(1, answer.levels(domain) + 1 if len(mine) else 1):
+            inside = cone(domain, answer.size, up, answer.azimuth)
             for north, east in np.argwhere(inside) - len(inside) // 2:
                 to = level[mine] - up, row[mine] + north, column[mine] + east
                 is_in = (
@@ -113,9 +113,9 @@ def arcs_of(answer: Answer, place: np.ndarray) -> Iterator[np.ndarray]:
                 yield np.stack([place[mine[is_in]], above])
 
 
-def without(found: Precedences, barred: np.ndarray) -> Precedences:
-    """Returns the nodes that need none of the barred ones."""
-    lost = barred.copy()
+def without(found: Precedences, excluded: np.ndarray) -> Precedences:
+    """Returns the nodes that need none of the excluded ones."""
+    lost = excluded.copy()
     while True:
         more = lost.copy()
         more[found.nodes[lost[found.needed]]] = True

@@ -243,7 +243,7 @@ class Bound:
         return found
 
     @cached_property
-    def needs(self) -> list[tuple[int, int]]:
+    def precedences(self) -> list[tuple[int, int]]:
         """Pairs of a bench and one that must be mined before it starts: the one above it in its pushback, and in each earlier pushback the lowest
         down to the lag below it."""
         rules = self.answer.project.schedule
@@ -261,7 +261,7 @@ class Bound:
     def most(self) -> np.ndarray:
         """The greatest share of each bench that the limits of mining let be mined by the end of each year, shape (benches, years)."""
         before = np.zeros((len(self.benches), len(self.benches)), dtype=bool)
-        for bench, other in self.needs:
+        for bench, other in self.precedences:
             before[bench] |= before[other]
             before[bench, other] = True
         found = np.ones((len(self.benches), self.years))
@@ -335,8 +335,8 @@ class Bound:
 
         count, years = len(self.benches), self.years
         at = np.arange(count * years).reshape(count, years)
-        less = [at[:, :-1].ravel(), *(at[bench] for bench, _ in self.needs)]
-        more = [at[:, 1:].ravel(), *(at[other] for _, other in self.needs)]
+        less = [at[:, :-1].ravel(), *(at[bench] for bench, _ in self.precedences)]
+        more = [at[:, 1:].ravel(), *(at[other] for _, other in self.precedences)]
         for bench, year, other, earlier in self.pace:
             less.append(at[bench, year : year + 1])
             more.append(at[other, earlier : earlier + 1])

@@ -75,10 +75,10 @@ class Way:
     def done(self) -> np.ndarray:
         """The share of each bench that is mined by the end of each year, shape (pushbacks from 0, levels, years from 0)."""
         pushbacks, levels = int(self.answer.said["pushback"].max()), self.answer.shape[0]
-        dug = np.zeros((pushbacks + 1, levels, self.last + 1))
+        mined = np.zeros((pushbacks + 1, levels, self.last + 1))
         place = tuple(self.rows[name].to_numpy() for name in ("pushback", "level", "year"))
-        np.add.at(dug, place, self.rows["share"].to_numpy())
-        return dug.cumsum(axis=2)
+        np.add.at(mined, place, self.rows["share"].to_numpy())
+        return mined.cumsum(axis=2)
 
 
 def checks_of(answer: Answer) -> Checks:

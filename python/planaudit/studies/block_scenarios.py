@@ -16,9 +16,9 @@ from typing import Any, Optional
 import numpy as np
 import pandas as pd
 
-from planaudit.blocks import constraints as fixed
+from planaudit.blocks import constraints
 from planaudit.errors import AuditError
-from planaudit.ground import slopes as walls
+from planaudit.ground import slopes
 from planaudit.inputs.answer import Answer
 from planaudit.inputs.kept_arrays import read_arrays
 from planaudit.inputs.tables import TABLES
@@ -114,12 +114,12 @@ class Schedules:
         answer = self.ground.of_same_blocks(self.ground.said.assign(revenue_factor=kept.year))
         found = [
             difference.replace("mined at revenue factor", "mined in year", 1)
-            for difference in walls.verify(answer).differences
+            for difference in slopes.verify(answer).differences
         ]
         wrong = (kept.year < 0) | (kept.year > self.whole.folder.record["years"])
         wrong |= (kept.share < -SLIGHT) | (kept.share > (kept.year > 0) + SLIGHT)
         if answer.project.constraints is not None:
-            must, never = fixed.demanded(answer, answer.project.constraints)
+            must, never = constraints.demanded(answer, answer.project.constraints)
             wrong |= (must & (kept.year == 0)) | (never & (kept.year > 0))
         rows = np.flatnonzero(wrong)[:TOLD]
         return found + [
@@ -128,7 +128,7 @@ class Schedules:
 
     def values(self) -> list[Rule]:
         """Verifies amounts and NPV of every schedule, by its scenario, and the tables with them."""
-        folder, dug = self.whole.folder, []
+        folder, mined = self.whole.folder, []
         own, total, rows = list[str](), pd.DataFrame(), dict[int, Row]()
         for scenario in folder.scenarios:
             kept = Kept.of(scenario.file) if scenario.file.is_file() else None
@@ -137,11 +137,11 @@ class Schedules:
             if kept is not None:
                 rows[scenario.number] = kept.row
                 own += self.differences(scenario.label, held, kept)
-            dug.append(self.dug(held))
-        mean = total / len(dug)
+            mined.append(self.mined(held))
+        mean = total / len(mined)
         own += self.differences("the common schedule, as planned", mean, self.one)
         planned = np.bincount(self.one.year, mean[ORE] * self.one.share, minlength=1)[1:]
-        tables = Tables(self, dug, planned, rows)
+        tables = Tables(self, mined, planned, rows)
         words = f"{len(folder.answered):,} schedules and the common one, at mean block values, keep limits, "
         of_one = "in each scenario its years process the best feed, and its NPV is within the upper bound"
         return [
@@ -150,18 +150,18 @@ class Schedules:
             rule("tables", "every row follows from the schedules", tables.of_all()),
         ]
 
-    def held(self, scenario: Scenario, is_dug: np.ndarray) -> pd.DataFrame:
+    def held(self, scenario: Scenario, is_mined: np.ndarray) -> pd.DataFrame:
         """Returns the amounts of each block in a scenario: total_tonnes, feed_tonnes and metals if it pays, mining cost, and gain by processing."""
         whole = self.whole.in_scenario(scenario)
         part = replace(
-            whole, rows=whole.rows[is_dug].reset_index(drop=True), said=whole.said[is_dug].reset_index(drop=True)
+            whole, rows=whole.rows[is_mined].reset_index(drop=True), said=whole.said[is_mined].reset_index(drop=True)
         )
         found = at_price(part)
         columns = {ROCK: part.tonnes, ORE: found.ore, **{f"recovered_{name}": it for name, it in found.metals.items()}}
         whole_columns = {}
         for name, amounts in (columns | {"mining": found.mining, "gain": found.gain}).items():
-            whole_columns[name] = np.zeros(len(is_dug))
-            whole_columns[name][is_dug] = amounts
+            whole_columns[name] = np.zeros(len(is_mined))
+            whole_columns[name][is_mined] = amounts
         return pd.DataFrame(whole_columns)
 
     def differences(self, label: str, held: pd.DataFrame, kept: Kept) -> Iterator[str]:
@@ -175,10 +175,10 @@ class Schedules:
             float(sum(amount * discount(self.ground, int(year)) for year, amount in cash.items())),
             kept.row["upper_bound"],
         )
-        is_dug = kept.year > 0
-        expected = {"npv": value, "years": int(kept.year.max()), "blocks": int((is_dug & (held[ROCK] > 0)).sum())}
+        is_mined = kept.year > 0
+        expected = {"npv": value, "years": int(kept.year.max()), "blocks": int((is_mined & (held[ROCK] > 0)).sum())}
         expected |= {
-            "tonnes": held[ROCK][is_dug].sum(),
+            "tonnes": held[ROCK][is_mined].sum(),
             "optimality_gap": (bound - value) / abs(bound) if bound else 0.0,
         }
         expected |= {name: sums[name].sum() for name in sums if name == ORE or name.startswith("recovered_")}
@@ -197,7 +197,7 @@ class Schedules:
             if amount > allowed * (1 + 1e-8) + CENT:
                 yield f"year {year}: {name} {amount:.10g} above {allowed:.10g}"
 
-    def dug(self, held: pd.DataFrame) -> pd.DataFrame:
+    def mined(self, held: pd.DataFrame) -> pd.DataFrame:
         """Returns one row per year of the common schedule in a scenario; mill feed is nan if several limits select it."""
         rows, columns = [], {name: held[name].to_numpy() for name in held}
         of_mill = [(name, ramps, most) for name, ramps, most in self.limits if name != ROCK]
@@ -229,13 +229,13 @@ class Schedules:
 class Tables:
     """The tables of schedules, with the expected values.
 
-    dug      one row per year of the common schedule, for each scenario
+    mined      one row per year of the common schedule, for each scenario
     planned  mill feed of each year of the common schedule at the mean block values, in tonnes
     kept     the amounts of each schedule as written, by the number of its scenario
     """
 
     schedules: Schedules
-    dug: list[pd.DataFrame]
+    mined: list[pd.DataFrame]
     planned: np.ndarray
     kept: dict[int, Row]
 
@@ -263,14 +263,14 @@ class Tables:
     def of_one(self) -> list[str]:
         """Returns differences of the years of the common schedule in a scenario, and an NPV above the scenario's bound."""
         found: list[str] = []
-        for scenario, dug in zip(self.scenarios, self.dug):
+        for scenario, mined in zip(self.scenarios, self.mined):
             said = self.years_of(scenario)
-            if said["year"].tolist() != dug.index.tolist():
-                found.append(f"{scenario.label}: years {said['year'].tolist()} for 1 to {len(dug)}")
+            if said["year"].tolist() != mined.index.tolist():
+                found.append(f"{scenario.label}: years {said['year'].tolist()} for 1 to {len(mined)}")
                 continue
-            found += [f"{scenario.label}, {difference}" for difference in self.unlike_years(said, dug)]
+            found += [f"{scenario.label}, {difference}" for difference in self.unlike_years(said, mined)]
             bound = self.kept[scenario.number]["upper_bound"] if scenario.number in self.kept else math.inf
-            value = dug["discounted_cash_flow"].sum()
+            value = mined["discounted_cash_flow"].sum()
             if value > bound + CENT + 1e-7 * abs(bound):
                 found.append(
                     f"{scenario.label}: the common schedule has an NPV of {value:.12g}, above the bound {bound:.12g}"
@@ -282,9 +282,9 @@ class Tables:
         rows = np.flatnonzero(self.years["scenario"].to_numpy() == scenario.number)
         return {str(name): amounts.to_numpy()[rows] for name, amounts in self.years.items()}
 
-    def unlike_years(self, said: dict[str, np.ndarray], dug: pd.DataFrame) -> Iterator[str]:
-        expected = {str(name): amounts.to_numpy(dtype=float) for name, amounts in dug.items()}
-        expected[PLANNED] = self.planned[: len(dug)]
+    def unlike_years(self, said: dict[str, np.ndarray], mined: pd.DataFrame) -> Iterator[str]:
+        expected = {str(name): amounts.to_numpy(dtype=float) for name, amounts in mined.items()}
+        expected[PLANNED] = self.planned[: len(mined)]
         # With several limits any selection with equal gain may be milled.
         for name in (ORE, LEFT):
             expected[name] = np.where(np.isnan(expected[name]), said[name].astype(float), expected[name])

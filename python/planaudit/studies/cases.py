@@ -25,9 +25,9 @@ def verify(whole: Answer, pits: Answer) -> dict[str, Rule]:
         By the name of what is verified; NPVs if the rows have them.
     """
     found = {
-        "walls": slopes.verify(whole),
+        "slopes": slopes.verify(whole),
         "steepness": slopes.verify_steepness(whole),
-        "fixed": constraints.verify(whole),
+        "constraints": constraints.verify(whole),
         "shells": sums.verify(pits),
         "values": rule("values", "", sums.unlike_worth(pits)),
     }

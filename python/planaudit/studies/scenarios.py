@@ -15,9 +15,9 @@ from typing import Any, Iterator, Optional
 import numpy as np
 import pandas as pd
 
-from planaudit.blocks import constraints as fixed, missing_blocks as absent, reblocked
+from planaudit.blocks import constraints, missing_blocks, reblocked
 from planaudit.errors import AuditError
-from planaudit.ground import depletion, slopes as walls
+from planaudit.ground import depletion, slopes
 from planaudit.inputs.answer import Answer
 from planaudit.inputs.matching import own_columns
 from planaudit.inputs.project import Project
@@ -34,8 +34,8 @@ from planaudit.studies.spreads import spread
 SAMPLE = 10
 # The rules that are verified in each scenario of the sample.
 OF_EACH = {
-    "walls": "no block of any shell lacks a block of its slope cone",
-    "fixed": "must-mine blocks are in every shell, and excluded blocks in none",
+    "slopes": "no block of any shell lacks a block of its slope cone",
+    "constraints": "must-mine blocks are in every shell, and excluded blocks in none",
     "shells": "tonnes, grades, metal and cash flow of each shell are the sums over its blocks",
     "values": "the solver's value of each shell equals the sum over its blocks, at the grades and prices of the scenario",
 }
@@ -83,7 +83,9 @@ class Verification:
 
     def of_ground(self) -> list[Rule]:
         """Verifies the common input: blocks, missing blocks, slopes, reblocking, and cuts by a surface."""
-        found = [check(self.ground) for check in (fixed.verify_places, absent.verify, walls.verify_steepness)]
+        found = [
+            check(self.ground) for check in (constraints.verify_places, missing_blocks.verify, slopes.verify_steepness)
+        ]
         if self.ground.parts is not None:
             found.append(self.reblocked())
         return [*found, *depletion.verify_cuts(self.ground)]

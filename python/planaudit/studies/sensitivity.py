@@ -14,9 +14,9 @@ from typing import Any, Optional
 import numpy as np
 import pandas as pd
 
-from planaudit.blocks import constraints as fixed, missing_blocks as absent
+from planaudit.blocks import constraints, missing_blocks
 from planaudit.errors import AuditError
-from planaudit.ground import depletion, slopes as walls
+from planaudit.ground import depletion, slopes
 from planaudit.inputs.answer import Answer
 from planaudit.inputs.kept_arrays import read_arrays
 from planaudit.inputs.matching import beside, own_columns, read_blocks, rows_of, said_of
@@ -41,9 +41,9 @@ CHARGES = ("treatment_charge", "refining_charge", "freight")
 CASE, KEPT_PIT, SKIN = "case", "kept", "skin"
 KEPT = ("undiscounted_cash_flow", "npv_best", "npv_worst", "npv_specified", "years")
 OF_EACH = {
-    "walls": "no block of any pit lacks a block of its slope cone, at the slope angles of the case",
+    "slopes": "no block of any pit lacks a block of its slope cone, at the slope angles of the case",
     "steepness": "unless the project sets precedence_benches, no slope of a case is more than half a degree steeper than its angle",
-    "fixed": "must-mine blocks are in every pit, and excluded blocks in none",
+    "constraints": "must-mine blocks are in every pit, and excluded blocks in none",
     "shells": "tonnes, grades, metal and cash flow of each pit are the sums over its blocks at the parameters of the case",
     "values": "the solver's value of each pit equals the sum over its blocks",
     "years": "NPVs follow from the benches at the capacities of the case",
@@ -60,7 +60,7 @@ class Case:
 
     changes: tuple[tuple[str, Decimal], ...]
     entry: np.ndarray
-    walls: list[Data]
+    domains: list[Data]
     skin: Optional[np.ndarray] = None
     settings: tuple[tuple[str, Decimal], ...] = ()
 
@@ -126,7 +126,7 @@ class Told:
         factor = float(record["revenue_factor"])
         factors = tuple(it for it in project.shells["revenue_factors"] if it <= factor)
         said = blocks[[name for name in said_of(project) if name in blocks]].iloc[order].reset_index(drop=True)
-        record |= {"walls": record["cases"][0]["walls"]}
+        record |= {"slope_domains": record["cases"][0]["slope_domains"]}
         found = {"parts": parts, "beyond": beyond, "own": own_columns(blocks, known, order)}
         told = Answer(folder, project, known, count, said, pd.DataFrame(), None, record, factors, **found)
         ground = replace(told, said=said[["id"]].assign(revenue_factor=0))
@@ -145,8 +145,8 @@ class Told:
                         replace(it, differences=tuple(f"{case.label}: {said}" for said in it.differences))
                     )
         of_ground = [
-            fixed.verify_places(self.ground),
-            absent.verify(self.ground),
+            constraints.verify_places(self.ground),
+            missing_blocks.verify(self.ground),
             self.as_given(),
             listed,
             self.outside_skin(),
@@ -208,10 +208,10 @@ class Told:
         """Verifies that the base case's pit without its skin is a shell with all must-mine blocks and at most the other share of the tonnes."""
         given, record, tonnes = self.cases[0], self.ground.record["skin"], self.ground.tonnes
         assert given.skin is not None
-        shell = self.dug(np.where(given.skin, 0, given.entry), self.ground.project, given.walls)
+        shell = self.mined(np.where(given.skin, 0, given.entry), self.ground.project, given.domains)
         differences = [
-            *walls.verify(shell).differences,
-            *(fixed.verify(shell).differences if record["revenue_factor"] else ()),
+            *slopes.verify(shell).differences,
+            *(constraints.verify(shell).differences if record["revenue_factor"] else ()),
         ]
         ids = self.ground.said["id"].to_numpy()
         if (given.skin & (given.entry == 0)).any():
@@ -239,7 +239,7 @@ class Told:
     def of_case(self, case: Case, row: pd.DataFrame) -> dict[str, Rule]:
         """Verifies a row of a case."""
         project, row = changed(self.text, case.changes, case.settings), row.set_index("revenue_factor")
-        whole, pits = self.dug(case.entry, project, case.walls), self.priced(case, project)
+        whole, pits = self.mined(case.entry, project, case.domains), self.priced(case, project)
         found = cases.verify(whole, replace(pits[CASE], shells=row))
         expected = row["npv_specified"] if "npv_specified" in row else (row["npv_best"] + row["npv_worst"]) / 2
         if not np.allclose(expected, row["npv"], rtol=0, atol=2e-3):
@@ -256,7 +256,7 @@ class Told:
         entries = {CASE: case.entry}
         if not any(name == "slopes" or name.startswith("slopes.") for name, _ in (*case.changes, *case.settings)):
             entries |= {KEPT_PIT: base.entry, SKIN: np.where(base.skin, self.factor, 0)}
-        every = valued(self.dug(np.maximum.reduce([*entries.values()]), project, case.walls))
+        every = valued(self.mined(np.maximum.reduce([*entries.values()]), project, case.domains))
         return {name: within(every, entry) for name, entry in entries.items()}
 
     def kept(self, pit: Optional[Answer], row: pd.DataFrame) -> Rule:
@@ -282,10 +282,10 @@ class Told:
         if not abs(said - worth) <= 6e-4 + 1e-12 * float(np.abs(pit.worths).sum()):
             yield f"{before}{name} {said:.12g} for {worth:.12g}"
 
-    def dug(self, entry: np.ndarray, project: Project, patterns: list[Data]) -> Answer:
+    def mined(self, entry: np.ndarray, project: Project, patterns: list[Data]) -> Answer:
         """Returns the blocks with pits, at the parameters of a case."""
         said = self.ground.said.assign(revenue_factor=entry[self.ground.said["id"].to_numpy()])
-        record = {**self.ground.record, "walls": patterns}
+        record = {**self.ground.record, "slope_domains": patterns}
         # A case has shells between those of the project.
         factors = tuple(sorted({*self.ground.factors, *np.unique(entry[entry > 0]).tolist()}))
         return self.ground.of_same_blocks(said, project=project, record=record, factors=factors, found={})
@@ -312,7 +312,7 @@ def cases_in(folder: Path, entries: list[Data]) -> Iterator[Case]:
             case = Case(
                 tuple((name, Decimal(share)) for name, share in entry["changes"]),
                 said["entry"],
-                entry["walls"],
+                entry["slope_domains"],
                 said.get("skin"),
                 tuple((name, Decimal(value)) for name, value in entry.get("settings", [])),
             )
@@ -349,7 +349,7 @@ def is_given(text: Text, name: str) -> bool:
         return any(metal.get(name, 0) != 0 or charges_in(metal) for metal in data["metals"])
     if name == "haulage":
         return "haulage" in data
-    return name != "slopes" or any({"angle", "azimuths", "bench"} & {*wall} for wall in data["slopes"]["domains"])
+    return name != "slopes" or any({"angle", "azimuths", "bench"} & {*domain} for domain in data["slopes"]["domains"])
 
 
 def changed(
@@ -454,13 +454,13 @@ def in_recoveries(data: Data, by: Decimal, metal: str) -> None:
         }
 
 
-def in_walls(data: Data, by: Decimal, metal: str) -> None:
-    for wall in data["slopes"]["domains"]:
-        if "bench" in wall:
-            bench = wall.pop("bench")
+def in_domains(data: Data, by: Decimal, metal: str) -> None:
+    for domain in data["slopes"]["domains"]:
+        if "bench" in domain:
+            bench = domain.pop("bench")
             back = 1 / math.tan(math.radians(float(bench["face_angle"]))) + float(bench["berm_width"] / bench["height"])
-            wall["angle"] = Decimal(repr(math.degrees(math.atan2(1.0, back))))
-        wall |= {key: times(wall[key], by) for key in ("angle", "azimuths") if key in wall}
+            domain["angle"] = Decimal(repr(math.degrees(math.atan2(1.0, back))))
+        domain |= {key: times(domain[key], by) for key in ("angle", "azimuths") if key in domain}
 
 
 NUMBERS: dict[str, Any] = {
@@ -469,7 +469,7 @@ NUMBERS: dict[str, Any] = {
     "processing_cost": in_section("economics", "processing_cost", of_process="cost"),
     "selling_cost": in_charges,
     "recovery": in_recoveries,
-    "slopes": in_walls,
+    "slopes": in_domains,
     "capacity": in_periods(
         in_section("shells", "processing_capacity", "mining_capacity", of_process="capacity"),
         "mining_capacity",

@@ -36,7 +36,7 @@ def optimum_of(problem, years):
 def made_of(problem, years):
     """The shares of benches by year of the schedule that is made of the optimum."""
     model = without_flows(problem, years)
-    return scheduler.from_optimum(model, FlowProgramme(model).solved()).dug
+    return scheduler.from_optimum(model, FlowProgramme(model).solved()).mined
 
 
 def benches_of(*benches, lag=0):
@@ -58,7 +58,7 @@ def random_benches(pit, lag):
     return benches_of(*rows, lag=lag)
 
 
-def demand_diggable(benches, limits, shares):
+def demand_minable(benches, limits, shares):
     """Each bench once, within the limits to the tolerance of the solver, and begun in no year by whose end what it waits for is not
     through."""
     done = shares.cumsum(axis=1)

@@ -7,7 +7,7 @@ import pytest
 from scipy.optimize import Bounds, LinearConstraint, linprog, milp
 
 from pitplan.config.schedule import Effort
-from pitplan.scheduling.blocks.problem import BlockProblem, Limit, Needs, nodes_of
+from pitplan.scheduling.blocks.problem import BlockPrecedences, BlockProblem, Limit, nodes_of
 
 EXACT = Effort(1e-9)
 
@@ -25,17 +25,17 @@ def problem_of(values, pairs, *limits):
                 f"limit {number}", np.broadcast_to(amounts, (blocks, destinations)).copy(), np.array(most, dtype=float)
             )
         )
-    return BlockProblem(values, needs_of(blocks, pairs), tuple(found))
+    return BlockProblem(values, precedences_of(blocks, pairs), tuple(found))
 
 
-def needs_of(blocks, pairs):
+def precedences_of(blocks, pairs):
     pairs = sorted(pairs)
     starts = np.searchsorted([user for user, _ in pairs], np.arange(blocks + 1))
-    return Needs(starts.astype(np.uint32), np.array([needed for _, needed in pairs], dtype=np.uint32))
+    return BlockPrecedences(starts.astype(np.uint32), np.array([needed for _, needed in pairs], dtype=np.uint32))
 
 
 def pairs_of(problem):
-    return list(zip(problem.needs.users.tolist(), problem.needs.needed.tolist()))
+    return list(zip(problem.precedences.users.tolist(), problem.precedences.needed.tolist()))
 
 
 def random_problem(seed, most=60, years=4, destinations=3):

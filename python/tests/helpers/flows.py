@@ -173,7 +173,7 @@ class Statement:
     def size(self) -> int:
         return int(self.starts[-1])
 
-    def dug(self, bench: int, year: int) -> int:
+    def mined(self, bench: int, year: int) -> int:
         return bench * self.model.years + year
 
     def fed(self, process: int, unit: int, year: int) -> int:
@@ -225,7 +225,7 @@ class Statement:
         ramp = [limits.ramp_up[min(year, len(limits.ramp_up) - 1)] for year in years]
         for year in years:
             for name, most in limits.most.items():
-                terms = {self.dug(b, year): model.dug(name)[b] for b in range(len(benches))}
+                terms = {self.mined(b, year): model.mined(name)[b] for b in range(len(benches))}
                 for process in range(ore.processes):
                     for unit in range(len(ore)):
                         amount = ore.of(name)[process, unit]
@@ -248,11 +248,11 @@ class Statement:
             if np.isfinite(limits.vertical_advance_rate):
                 for pushback in set(benches.pushback.tolist()):
                     some = np.flatnonzero(benches.pushback == pushback)
-                    self.add(limits.vertical_advance_rate, {self.dug(b, year): 1.0 for b in some})
+                    self.add(limits.vertical_advance_rate, {self.mined(b, year): 1.0 for b in some})
             for unit, bench in enumerate(ore.bench.tolist()):
                 sent = {self.fed(process, unit, year): 1.0 for process in range(ore.processes)}
                 sent |= {self.stocked(pile, unit, year): 1.0 for pile in range(len(model.stockpiles))}
-                self.add(0.0, sent | {self.dug(bench, year): -1.0})
+                self.add(0.0, sent | {self.mined(bench, year): -1.0})
             for pile in range(len(model.stockpiles)):
                 self.state_stockpile(pile, year)
         self.state_order()
@@ -288,10 +288,10 @@ class Statement:
         self.state_pace() if self.paced else None
         for bench, others in enumerate(self.before()):
             for year in range(model.years):
-                done = {self.dug(bench, t): 1.0 for t in range(year + 1)}
+                done = {self.mined(bench, t): 1.0 for t in range(year + 1)}
                 self.add(1.0, done)
                 for other in others:
-                    self.add(0.0, done | {self.dug(other, t): -1.0 for t in range(year + 1)})
+                    self.add(0.0, done | {self.mined(other, t): -1.0 for t in range(year + 1)})
                 # By the end of the year all before it is mined, and of it what the limits of mining leave.
                 own, above = benches.of("total_tonnes"), [
                     o for o in others if benches.pushback[o] == benches.pushback[bench]
@@ -315,9 +315,9 @@ class Statement:
                 from_top, from_floor = takes[high:low].sum(), takes[high + 1 : low + 1].sum()
                 for span in (it for it in (1, 2, 3) if min(from_top, from_floor) >= it * rate - 1e-9):
                     for year in range(span, self.model.years):
-                        terms = {self.dug(low, t): 1.0 for t in range(year + 1)}
+                        terms = {self.mined(low, t): 1.0 for t in range(year + 1)}
                         for t in range(year - span + 1):
-                            terms[self.dug(high, t)] = -1.0
+                            terms[self.mined(high, t)] = -1.0
                         self.add(0.0, terms)
 
     @property
@@ -328,7 +328,7 @@ class Statement:
             present = 1.1 ** -(year + 1)
             processing, selling = (it[min(year, len(it) - 1)] - 1 for it in self.ore_costs)
             for bench, cash in enumerate(model.benches.of("cash_flow")):
-                found[self.dug(bench, year)] = cash * self.factors[min(year, len(self.factors) - 1)] * present
+                found[self.mined(bench, year)] = cash * self.factors[min(year, len(self.factors) - 1)] * present
             for unit in range(len(ore)):
                 for process in range(ore.processes):
                     more = ore.feed[unit] * (processing * PROCESSING + selling * SELLING * COPPER)
@@ -389,9 +389,9 @@ def complete_optimum(model: FlowModel, factors: Sequence[float] = (1.0,), ore_co
     for bench, others in enumerate(stated.before()):
         for year in range(years):
             start = size + bench * years + year
-            add(0.0, {stated.dug(bench, year): 1.0, start: -1.0})
+            add(0.0, {stated.mined(bench, year): 1.0, start: -1.0})
             for other in others:
-                add(1e-9, {start: 1.0} | {stated.dug(other, t): -1.0 for t in range(year + 1)})
+                add(1e-9, {start: 1.0} | {stated.mined(other, t): -1.0 for t in range(year + 1)})
     table = np.vstack([np.pad(np.array(stated.rows), ((0, 0), (0, count * years))), np.array(rows)])
     found = milp(
         np.concatenate([-stated.gain, np.zeros(count * years)]),

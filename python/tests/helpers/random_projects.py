@@ -79,7 +79,7 @@ def project_of(rng):
         + pick(rng, "", "prices = [8000, 9100, 7300]\n")
     )
     gold = GOLD + ("" if several else f"recovery = {recovery(rng)}\n")
-    wall = pick(
+    domain = pick(
         rng,
         'pattern = "1:9"',
         "angle = 47",
@@ -95,7 +95,7 @@ def project_of(rng):
     changes += [
         ("price = 8000\nrecovery = 0.5\n", metal),
         ("[slopes]\n", f"{gold}{several}[slopes]\n"),
-        ('pattern = "1:5"', wall),
+        ('pattern = "1:5"', domain),
     ]
     changes += [
         (

@@ -34,16 +34,16 @@ def project_of(tmp_path, metal_price=8000, factors=(0.3, 0.7, 1.0, 1.6), cutoff=
 def closed_sets(columns, rows_, levels):
     """Every set of blocks of a box that keeps the slopes 1:5, as truths by id."""
     count = columns * rows_ * levels
-    needs = []
+    precedences = []
     for block in range(count):
         level, rest = divmod(block, columns * rows_)
         row, column = divmod(rest, columns)
         places = [(level - up, row + north, column + east) for east, north, up in FIVE]
-        needs.append(
+        precedences.append(
             [(z * rows_ + y) * columns + x for z, y, x in places if z >= 0 and 0 <= y < rows_ and 0 <= x < columns]
         )
     for chosen in product((False, True), repeat=count):
-        if all(chosen[p] for block in range(count) if chosen[block] for p in needs[block]):
+        if all(chosen[p] for block in range(count) if chosen[block] for p in precedences[block]):
             yield chosen
 
 

@@ -6,9 +6,8 @@ import os
 from conftest import PROJECT, rows
 
 from pitplan import Writing, verify, write_schedule
-from pitplan.commands.answers import Answered, write_tables
+from pitplan.commands.answers import write_tables
 from pitplan.core.layout import FOLDERS, SOLVER
-from pitplan.pits import shell_tables
 from pitplan.solver import mine_files
 from planaudit.folders import checks_of
 from planaudit.inputs import answer as answers
@@ -61,9 +60,9 @@ def looked_at(plan):
     for name in FOLDERS:
         (folder / name).mkdir(parents=True, exist_ok=True)
     record = plan.record(mine_files.write(plan, folder / SOLVER))
-    shells = write_tables(Answered(plan, plan.shells().solution), folder).shells
-    selected = shell_tables.selected_factor(shells, plan.project.shells)
-    record["shells"] = {"revenue_factors": list(plan.project.shells.revenue_factors), "selected": selected}
+    shells = plan.shells()
+    write_tables(shells.tables(), shells.solution, plan.project, folder)
+    record |= shells.summary()
     record["project"] = os.path.relpath(plan.project.path, folder)
     (folder / "plan.json").write_text(json.dumps(record))
     return verify(folder)

@@ -1,7 +1,7 @@
 """Schedules block by block, with a bound that no schedule exceeds.
 
     scheduled = block_schedule.solve(problem)
-    scheduled.schedule.year      of each block the year in which it is dug, from 0
+    scheduled.schedule.year      of each block the year in which it is mined, from 0
     scheduled.value              what that earns, discounted
     scheduled.bound              what no schedule exceeds
 
@@ -12,7 +12,7 @@ in the order in which the relaxation mines (`toposort`, `greedy`), improved by m
 `destinations`, `blending`), and by integer programmes (`window_milp`).
 """
 
-from .problem import BlockProblem, BlockSchedule, Limit, Needs
+from .problem import Assignment, BlockPrecedences, BlockProblem, Limit
 from .scheduler import Scheduled, solve
 
-__all__ = ["BlockProblem", "BlockSchedule", "Limit", "Needs", "Scheduled", "solve"]
+__all__ = ["BlockProblem", "Assignment", "Limit", "BlockPrecedences", "Scheduled", "solve"]

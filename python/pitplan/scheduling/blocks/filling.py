@@ -16,7 +16,7 @@ from scipy.sparse import csr_matrix, eye, kron
 import pitshell
 from pitplan.core.tolerances import SOLVER_SUM, SUM_ERROR
 
-from .problem import BlockProblem, BlockSchedule, Limit, Needs, nothing, upward
+from .problem import Assignment, BlockPrecedences, BlockProblem, Limit, nothing, upward
 
 # The bits of a word, and the number of blocks handled at once when the cones that hold them are marked.
 BITS, AT_ONCE = 64, 4096
@@ -40,13 +40,15 @@ class Ranks:
             yield self.order[first:last]
 
 
-def ranks_of(needs: Needs) -> Ranks:
+def ranks_of(precedences: BlockPrecedences) -> Ranks:
     """The ranks of all blocks, whose needs lead in no circle: else ValueError."""
-    blocks = len(needs.starts) - 1
-    ones = np.ones(len(needs.needed), dtype=np.int8)
-    rows = csr_matrix((ones, needs.needed.astype(np.int64), needs.starts.astype(np.int64)), shape=(blocks, blocks))
+    blocks = len(precedences.starts) - 1
+    ones = np.ones(len(precedences.needed), dtype=np.int8)
+    rows = csr_matrix(
+        (ones, precedences.needed.astype(np.int64), precedences.starts.astype(np.int64)), shape=(blocks, blocks)
+    )
     users = rows.tocsc()
-    waiting = np.diff(needs.starts.astype(np.int64))
+    waiting = np.diff(precedences.starts.astype(np.int64))
     ready, found = np.flatnonzero(waiting == 0), []
     while len(ready):
         found.append(ready)
@@ -76,28 +78,30 @@ def rows_of(starts: NDArray[np.integer], entries: NDArray[np.integer], rows: NDA
     return entries[places_of(starts, rows)]
 
 
-def greatest_needed(needs: Needs, ranks: Ranks, keys: NDArray[np.float64]) -> NDArray[np.float64]:
+def greatest_of_predecessors(
+    precedences: BlockPrecedences, ranks: Ranks, keys: NDArray[np.float64]
+) -> NDArray[np.float64]:
     """For each block the greatest key of itself and of all that it needs, directly or through others."""
     found = keys.copy()
     for rank in list(ranks)[1:]:
-        above = found[rows_of(needs.starts, needs.needed, rank)]
-        found[rank] = np.maximum(found[rank], np.maximum.reduceat(above, row_starts(needs, rank)))
+        above = found[rows_of(precedences.starts, precedences.needed, rank)]
+        found[rank] = np.maximum(found[rank], np.maximum.reduceat(above, row_starts(precedences, rank)))
     return found
 
 
-def row_starts(needs: Needs, rows: NDArray[np.int64]) -> NDArray[np.int64]:
+def row_starts(precedences: BlockPrecedences, rows: NDArray[np.int64]) -> NDArray[np.int64]:
     """Where each of the given rows, all with entries, begins in `rows_of` them."""
-    counts = needs.starts[rows + 1].astype(np.int64) - needs.starts[rows]
+    counts = precedences.starts[rows + 1].astype(np.int64) - precedences.starts[rows]
     return np.cumsum(counts) - counts
 
 
-def cone_sums(needs: Needs, ranks: Ranks, amounts: NDArray[np.float64]) -> NDArray[np.float64]:
+def cone_sums(precedences: BlockPrecedences, ranks: Ranks, amounts: NDArray[np.float64]) -> NDArray[np.float64]:
     """What the cone of each block, itself and all that it needs directly or through others, adds up to of amounts of shape (blocks,
     kinds)."""
     sums = np.zeros_like(amounts)
     for first in range(0, len(amounts), AT_ONCE):
         marked = ranks.order[first : first + AT_ONCE]
-        sums += summed(cones_with(needs, ranks, marked), amounts[marked])
+        sums += summed(cones_with(precedences, ranks, marked), amounts[marked])
     return sums
 
 
@@ -112,14 +116,14 @@ def summed(cones: NDArray[np.uint64], amounts: NDArray[np.float64]) -> NDArray[n
     return np.concatenate(parts)
 
 
-def cones_with(needs: Needs, ranks: Ranks, marked: NDArray[np.int64]) -> NDArray[np.uint64]:
+def cones_with(precedences: BlockPrecedences, ranks: Ranks, marked: NDArray[np.int64]) -> NDArray[np.uint64]:
     """For each block which of the marked ones are in its cone: a bit for each, from the lowest of the first word of a row on."""
-    held = np.zeros((len(needs.starts) - 1, -(-len(marked) // BITS)), dtype=np.uint64)
+    held = np.zeros((len(precedences.starts) - 1, -(-len(marked) // BITS)), dtype=np.uint64)
     number = np.arange(len(marked))
     held[marked, number // BITS] = np.left_shift(np.uint64(1), (number % BITS).astype(np.uint64))
     for rank in list(ranks)[1:]:
-        above = held[rows_of(needs.starts, needs.needed, rank)]
-        held[rank] |= np.bitwise_or.reduceat(above, row_starts(needs, rank), axis=0)
+        above = held[rows_of(precedences.starts, precedences.needed, rank)]
+        held[rank] |= np.bitwise_or.reduceat(above, row_starts(precedences, rank), axis=0)
     return held
 
 
@@ -181,16 +185,16 @@ class Filling:
     @cached_property
     def needed(self) -> list[list[int]]:
         """What each block needs."""
-        needs = self.problem.needs
-        bounds, needed = needs.starts.tolist(), needs.needed.tolist()
+        precedences = self.problem.precedences
+        bounds, needed = precedences.starts.tolist(), precedences.needed.tolist()
         return [needed[first:last] for first, last in zip(bounds, bounds[1:])]
 
     @cached_property
     def preferred(self) -> list[list[list[int]]]:
         return self.preference.tolist()
 
-    def fill(self, sequence: Sequence) -> BlockSchedule:
-        """Each block of the order in the first year with room from the one on in which all that it needs is dug, if there is one."""
+    def fill(self, sequence: Sequence) -> Assignment:
+        """Each block of the order in the first year with room from the one on in which all that it needs is mined, if there is one."""
         problem, room = self.problem, Room(self.problem)
         year, destination = [problem.years] * problem.blocks, [0] * problem.blocks
         for block, first in zip(sequence.order.tolist(), sequence.earliest[sequence.order].tolist()):
@@ -211,7 +215,7 @@ class Filling:
                 return year, destination
         return None
 
-    def without_loss(self, sequence: Sequence) -> BlockSchedule:
+    def without_loss(self, sequence: Sequence) -> Assignment:
         """The filled years without what does not pay at its time, filled again without it as long as that gains."""
         best = nothing(self.problem)
         schedule = self.fill(sequence)
@@ -225,13 +229,13 @@ class Filling:
             schedule = self.fill(Sequence(order, sequence.earliest))
 
 
-def schedule_of(problem: BlockProblem, year: NDArray[np.int64], destination: NDArray[np.int64]) -> BlockSchedule:
+def schedule_of(problem: BlockProblem, year: NDArray[np.int64], destination: NDArray[np.int64]) -> Assignment:
     """The schedule that sends each block to one destination whole."""
     share = (np.arange(problem.destinations) == destination[:, None]) & (year < problem.years)[:, None]
-    return BlockSchedule(year, share.astype(float))
+    return Assignment(year, share.astype(float))
 
 
-def paying(problem: BlockProblem, schedule: BlockSchedule) -> BlockSchedule:
+def paying(problem: BlockProblem, schedule: Assignment) -> Assignment:
     """The schedule without what earns less, at its time, than it costs: the best of its parts that hold with each block all that it
     needs. Blocks that take from signed limits stay in the years that do not keep these without them."""
     stays = np.zeros(problem.blocks, dtype=bool)
@@ -247,13 +251,15 @@ def paying(problem: BlockProblem, schedule: BlockSchedule) -> BlockSchedule:
         stays |= more
 
 
-def without_losses(problem: BlockProblem, schedule: BlockSchedule, stays: NDArray[np.bool_]) -> BlockSchedule:
+def without_losses(problem: BlockProblem, schedule: Assignment, stays: NDArray[np.bool_]) -> Assignment:
     """The best of the parts of a schedule that hold with each block all that it needs, and the blocks that stay."""
-    is_dug = schedule.year < problem.years
-    fixed = np.where(stays, pitshell.FORCED, np.where(is_dug, pitshell.FREE, pitshell.BARRED)).astype(np.uint8)
+    is_mined = schedule.year < problem.years
+    fixed = np.where(stays, pitshell.FORCED, np.where(is_mined, pitshell.FREE, pitshell.BARRED)).astype(np.uint8)
     whole = upward(schedule.worths(problem)).amounts
-    kept = pitshell.solve(whole, (problem.needs.starts, problem.needs.needed), fixed, millionths=True).in_pit
-    return BlockSchedule(np.where(kept, schedule.year, problem.years), np.where(kept[:, None], schedule.share, 0.0))
+    kept = pitshell.solve(
+        whole, (problem.precedences.starts, problem.precedences.needed), fixed, millionths=True
+    ).in_pit
+    return Assignment(np.where(kept, schedule.year, problem.years), np.where(kept[:, None], schedule.share, 0.0))
 
 
 def preferences(problem: BlockProblem, prices: NDArray[np.float64]) -> NDArray[np.int64]:
@@ -267,13 +273,13 @@ def preferences(problem: BlockProblem, prices: NDArray[np.float64]) -> NDArray[n
     return np.argsort(-worth, axis=1, kind="stable").transpose(0, 2, 1)
 
 
-# Orders of blocks made of the relaxation: by the years in which it is expected to dig them (Chicoisne, Espinoza,
+# Orders of blocks made of the relaxation: by the years in which it is expected to mine them (Chicoisne, Espinoza,
 # Goycoolea, Moreno and Rubio, A new algorithm for the open-pit mine production scheduling problem, Operations
 # Research 60(3), 2012).
 
-# By these shares of a block the year in which it is dug is guessed, besides the expected year.
+# By these shares of a block the year in which it is mined is guessed, besides the expected year.
 PARTS = (0.1, 0.5, 0.9)
-# Years before that in which the relaxation begins a block from which on it may be dug; None: any.
+# Years before that in which the relaxation begins a block from which on it may be mined; None: any.
 EARLIER = (0, 1, None)
 # The relaxation leaves a block if it mines less than this share.
 LEFT = 0.5
@@ -285,8 +291,8 @@ LEAST, ALL = (LEFT, SOLVER_SUM), 0.0
 class Sequence:
     """How years are filled.
 
-    order     the blocks that are dug, each behind all that it needs
-    earliest  of each block of the problem the first year in which it may be dug, from 0: shape (blocks,)
+    order     the blocks that are mined, each behind all that it needs
+    earliest  of each block of the problem the first year in which it may be mined, from 0: shape (blocks,)
     """
 
     order: NDArray[np.int64]
@@ -296,10 +302,10 @@ class Sequence:
 def sequences(
     problem: BlockProblem, ranks: Ranks, cumulative: NDArray[np.float64], shares: tuple[float, ...] = LEAST
 ) -> Iterator[Sequence]:
-    """Orders by the expected year, and by that in which a part of a block is dug, with years from which on blocks may be dug.
+    """Orders by the expected year, and by that in which a part of a block is mined, with years from which on blocks may be mined.
 
-    cumulative  the share of each block that the relaxation has dug by the end of each year: shape (blocks, years)
-    shares      the least share that the relaxation digs of the blocks of an order
+    cumulative  the share of each block that the relaxation has mined by the end of each year: shape (blocks, years)
+    shares      the least share that the relaxation mines of the blocks of an order
     """
     years = problem.years
     begun = np.where(cumulative[:, -1] > SOLVER_SUM, (cumulative > SOLVER_SUM).argmax(axis=1), years)
@@ -315,7 +321,9 @@ def in_order(problem: BlockProblem, ranks: Ranks, key: NDArray, second: NDArray)
     """The blocks by rising keys, each behind those that it needs, whose keys may be greater by what the solver leaves open."""
     rank = np.empty(problem.blocks, dtype=np.int64)
     rank[ranks.order] = np.repeat(np.arange(len(ranks.bounds) - 1), np.diff(ranks.bounds))
-    first, then = (greatest_needed(problem.needs, ranks, np.round(keys.astype(float), 9)) for keys in (key, second))
+    first, then = (
+        greatest_of_predecessors(problem.precedences, ranks, np.round(keys.astype(float), 9)) for keys in (key, second)
+    )
     return np.lexsort((rank, then, first))
 
 
@@ -336,7 +344,7 @@ class Moving:
     worth: list[list[list[float]]] = field(repr=False)
 
     @staticmethod
-    def of(filling: Filling, schedule: BlockSchedule) -> Moving:
+    def of(filling: Filling, schedule: Assignment) -> Moving:
         problem = filling.problem
         users: list[list[int]] = [[] for _ in range(problem.blocks)]
         destination = schedule.share.argmax(axis=1).tolist()
@@ -367,26 +375,27 @@ class Moving:
         return best != now
 
 
-def moved(filling: Filling, ranks: Ranks, schedule: BlockSchedule) -> BlockSchedule:
+def moved(filling: Filling, ranks: Ranks, schedule: Assignment) -> Assignment:
     """The schedule, whose blocks go to one destination each, with blocks moved as long as that earns more: by turns from those that nothing
-    needs on, for what costs to be dug later, and from those on that need nothing, for what earns to be dug sooner."""
+    needs on, for what costs to be mined later, and from those on that need nothing, for what earns to be mined sooner.
+    """
     moving = Moving.of(filling, schedule)
-    dug = [block for block in ranks.order.tolist() if moving.year[block] < filling.problem.years]
-    for order in (dug[::-1], dug) * (MOST_PASSES // 2):
+    mined = [block for block in ranks.order.tolist() if moving.year[block] < filling.problem.years]
+    for order in (mined[::-1], mined) * (MOST_PASSES // 2):
         if not sum(moving.move(block) for block in order):
             break
     return schedule_of(filling.problem, np.array(moving.year), np.array(moving.destination))
 
 
-def with_best_shares(problem: BlockProblem, schedule: BlockSchedule) -> BlockSchedule:
-    """The schedule that digs the same blocks in the same years and earns most by where they go; the same schedule if none is found that is
+def with_best_shares(problem: BlockProblem, schedule: Assignment) -> Assignment:
+    """The schedule that mines the same blocks in the same years and earns most by where they go; the same schedule if none is found that is
     better, or keeps signed limits that it misses."""
     share = schedule.share.copy()
     for year in range(problem.years if problem.destinations > 1 else 0):
         blocks = np.flatnonzero(schedule.year == year)
         if len(blocks):
             share[blocks] = best_shares(problem, blocks, year, share[blocks])
-    best = BlockSchedule(schedule.year, share)
+    best = Assignment(schedule.year, share)
     if not best.is_allowed(problem):
         return schedule
     return best if best.is_better(schedule, problem) or not schedule.is_allowed(problem) else schedule
@@ -435,7 +444,7 @@ MOST_BLENDED = 6
 
 def blended(
     problem: BlockProblem, ranks: Ranks, sequences: Iterable[Sequence], prices: NDArray[np.float64]
-) -> Iterator[BlockSchedule]:
+) -> Iterator[Assignment]:
     """Yields schedules that keep all limits.
 
     sequences  the orders in which years are filled; a block waits for a year in which its best destination has room
@@ -494,11 +503,11 @@ class Divided:
         unfit = np.take_along_axis(self.unfit[:, None, :], found, axis=2)
         return np.take_along_axis(found, np.argsort(unfit, axis=2, kind="stable"), axis=2)
 
-    def merged(self, schedule: BlockSchedule) -> BlockSchedule:
+    def merged(self, schedule: Assignment) -> Assignment:
         """Returns a schedule of `problem` by the given destinations."""
         if self.shares is None:
             return schedule
-        return BlockSchedule(schedule.year, np.einsum("bk,bkd->bd", schedule.share, self.shares))
+        return Assignment(schedule.year, np.einsum("bk,bkd->bd", schedule.share, self.shares))
 
 
 def divided(problem: BlockProblem) -> Divided:

@@ -10,7 +10,7 @@ import numpy as np
 from minelib import precedence, schedule_models
 from minelib.schedule_models import ScheduleModel
 
-from .problem import MOST_NODES, BlockProblem, Limit, Needs
+from .problem import MOST_NODES, BlockPrecedences, BlockProblem, Limit
 
 
 def of_minelib(model: Path, prec: Path, second: Optional[str] = None) -> BlockProblem:
@@ -22,13 +22,13 @@ def of_minelib(model: Path, prec: Path, second: Optional[str] = None) -> BlockPr
     read = schedule_models.read(model, second)
     blocks = len(read.values)
     values = np.array([[float(value) for value in of_block] for of_block in read.values]).reshape(blocks, -1)
-    needs = precedence.read(prec, blocks, MOST_NODES).needs
-    counts = np.array([len(needs.get(block, ())) for block in range(blocks)], dtype=np.int64)
-    needed = np.array([other for block in sorted(needs) for other in needs[block]], dtype=np.uint32)
+    precedences = precedence.read(prec, blocks, MOST_NODES).needs
+    counts = np.array([len(precedences.get(block, ())) for block in range(blocks)], dtype=np.int64)
+    needed = np.array([other for block in sorted(precedences) for other in precedences[block]], dtype=np.uint32)
     starts = np.concatenate([[0], np.cumsum(counts)]).astype(np.uint32)
     discounts = (1 + float(read.rate)) ** -np.arange(float(read.periods))
     limits = tuple(limit_of(read, resource) for resource in range(len(read.taken)))
-    return BlockProblem(values[:, :, None] * discounts, Needs(starts, needed), limits)
+    return BlockProblem(values[:, :, None] * discounts, BlockPrecedences(starts, needed), limits)
 
 
 def limit_of(model: ScheduleModel, resource: int) -> Limit:

@@ -23,8 +23,8 @@ from pitplan.scheduling.limits import GRADE, SUM, GradeLimit, all_limits_of, gra
 from pitplan.slopes import closure
 from pitplan.slopes.domains import ABSENT, slices
 
-from .filling import greatest_needed, ranks_of
-from .problem import BlockProblem, BlockSchedule, Due, Limit, Needs, demand_room, upward
+from .filling import greatest_of_predecessors, ranks_of
+from .problem import Assignment, BlockPrecedences, BlockProblem, Due, Limit, demand_room, upward
 
 ADDED_COST = "[pushbacks] mining_cost_added"
 
@@ -110,7 +110,7 @@ class HeadGrade:
             found.append(Limit(name, amounts, most, signed=True))
         return found
 
-    def of_years(self, cells: NDArray[np.int64], schedule: BlockSchedule, years: int) -> NDArray[np.float64]:
+    def of_years(self, cells: NDArray[np.int64], schedule: Assignment, years: int) -> NDArray[np.float64]:
         """Returns the head grade of each year; nan without feed."""
         share = schedule.share[:, self.destination]
         content, feed = (
@@ -144,7 +144,7 @@ Flows = dict[str, NDArray[np.float64]]
 
 @dataclass(frozen=True)
 class PlannedBlocks:
-    """A plan's blocks that may be dug, as a problem.
+    """A plan's blocks that may be mined, as a problem.
 
     cells         the grid's number of each block of the problem, rising
     destinations  where a block may go: waste, and each process by its name
@@ -163,11 +163,11 @@ class PlannedBlocks:
     pays: NDArray[np.bool_]
     grades: tuple[HeadGrade, ...] = ()
 
-    def with_barren_waste(self, schedule: BlockSchedule) -> BlockSchedule:
+    def with_barren_waste(self, schedule: Assignment) -> Assignment:
         """The schedule with blocks as waste that would go to a process where they yield nothing. They cost as much there, and add to no minimum."""
         share = np.where(self.pays, schedule.share, 0.0)
         share[:, 0] = schedule.share.sum(axis=1) - share[:, 1:].sum(axis=1)
-        return BlockSchedule(schedule.year, share)
+        return Assignment(schedule.year, share)
 
 
 def of_plan(plan: Plan) -> PlannedBlocks:
@@ -176,11 +176,11 @@ def of_plan(plan: Plan) -> PlannedBlocks:
     demand_of_blocks(project)
     flows, limits, money, grades = flows_of(plan), all_limits_of(project, rules), of_project(project), head_grades(plan)
     best = cash_of(flows, money, 1 + max((len(more) for more in money.premiums.values()), default=0)).max(axis=(1, 2))
-    cells, needs = diggable(plan, (best > 0) | owing(plan, flows, limits, grades))
-    demand_room(len(cells), len(needs.needed), f"{project.path}: ")
-    pays, forced = pays_of(plan)[cells], np.isin(cells, plan.fixed.forced)
+    cells, precedences = minable(plan, (best > 0) | owing(plan, flows, limits, grades))
+    demand_room(len(cells), len(precedences.needed), f"{project.path}: ")
+    pays, must_mine = pays_of(plan)[cells], np.isin(cells, plan.fixed.must_mine)
     flows = {name: amounts[cells] for name, amounts in flows.items()}
-    pit = pit_of(best[cells], needs, forced)
+    pit = pit_of(best[cells], precedences, must_mine)
     held = {name: amounts[pit, flows[CASH][pit].argmax(axis=1)] for name, amounts in flows.items()}
     demand_small(plan, cells[pit], held, limits)
     years = periods_of(project, rules) or years_of(
@@ -194,27 +194,29 @@ def of_plan(plan: Plan) -> PlannedBlocks:
     ]
     problem = BlockProblem(
         values=cash_of(flows, money, years) * year_discounts(project.shells, years),
-        needs=needs,
+        precedences=precedences,
         limits=(*above, *below, *(it for grade in grades for it in grade.limits_of(cells, pays.shape[1], years))),
-        dues=dues_of(forced, pays.shape[1]),
+        dues=dues_of(must_mine, pays.shape[1]),
         costs=costs_of_years(money, project.shells, years) if money.columns else None,
         word=project.shells.calendar.word,
     )
     return PlannedBlocks(plan, cells, destinations_of(project), limits, flows, problem, pays, tuple(grades))
 
 
-def diggable(plan: Plan, wanted: NDArray[np.bool_]) -> tuple[NDArray[np.int64], Needs]:
-    """The cells that are wanted, or must be dug, with all that they need except for air that no rock lies over; and their needs."""
+def minable(plan: Plan, wanted: NDArray[np.bool_]) -> tuple[NDArray[np.int64], BlockPrecedences]:
+    """The cells that are wanted, or must be mined, with all that they need except for air that no rock lies over; and their needs."""
     cells = cells_of(plan, wanted)
-    needs = needs_of(plan, cells)
-    is_under_rock = greatest_needed(needs, ranks_of(needs), (plan.values.tonnes[cells] > 0).astype(float)) > 0
-    return cells[is_under_rock], needs.within(is_under_rock)
+    precedences = precedences_of(plan, cells)
+    is_under_rock = (
+        greatest_of_predecessors(precedences, ranks_of(precedences), (plan.values.tonnes[cells] > 0).astype(float)) > 0
+    )
+    return cells[is_under_rock], precedences.within(is_under_rock)
 
 
-def pit_of(cash: NDArray[np.float64], needs: Needs, forced: NDArray[np.bool_]) -> NDArray[np.bool_]:
-    """The blocks of the pit of greatest worth that holds what is forced."""
-    fixed = np.where(forced, pitshell.FORCED, pitshell.FREE).astype(np.uint8)
-    return pitshell.solve(upward(cash).amounts, (needs.starts, needs.needed), fixed, millionths=True).in_pit
+def pit_of(cash: NDArray[np.float64], precedences: BlockPrecedences, must_mine: NDArray[np.bool_]) -> NDArray[np.bool_]:
+    """The blocks of the pit of greatest worth that holds what is must-mine."""
+    fixed = np.where(must_mine, pitshell.FORCED, pitshell.FREE).astype(np.uint8)
+    return pitshell.solve(upward(cash).amounts, (precedences.starts, precedences.needed), fixed, millionths=True).in_pit
 
 
 def demand_small(plan: Plan, cells: NDArray[np.int64], held: dict[str, NDArray[np.float64]], limits: Limits) -> None:
@@ -227,18 +229,18 @@ def demand_small(plan: Plan, cells: NDArray[np.int64], held: dict[str, NDArray[n
             raise PlanError(f"{plan.project.path}: {why}; {block}")
 
 
-def dues_of(forced: NDArray[np.bool_], destinations: int) -> tuple[Due, ...]:
-    """That the forced blocks are dug in some year; nothing where none exist."""
-    of_each = np.repeat(forced[:, None], destinations, axis=1).astype(float)
-    return (Due(f"{forced.sum():,} must-mine blocks", of_each, float(forced.sum())),) if forced.any() else ()
+def dues_of(must_mine: NDArray[np.bool_], destinations: int) -> tuple[Due, ...]:
+    """That the must-mine blocks are mined in some year; nothing where none exist."""
+    of_each = np.repeat(must_mine[:, None], destinations, axis=1).astype(float)
+    return (Due(f"{must_mine.sum():,} must-mine blocks", of_each, float(must_mine.sum())),) if must_mine.any() else ()
 
 
 def cells_of(plan: Plan, wanted: NDArray[np.bool_]) -> NDArray[np.int64]:
-    """The cells that are wanted, or must be dug, with all that they need; none that may not be dug, and none that needs one such."""
+    """The cells that are wanted, or must be mined, with all that they need; none that may not be mined, and none that needs one such."""
     left = np.zeros(plan.grid.count, dtype=bool) if plan.settled is None else plan.settled.left
     wanted = wanted & ~left
-    wanted[plan.fixed.forced] = True
-    return np.flatnonzero(closure.used_blocks(plan.grid, plan.walls, wanted))
+    wanted[plan.fixed.must_mine] = True
+    return np.flatnonzero(closure.used_blocks(plan.grid, plan.domains, wanted))
 
 
 def owing(plan: Plan, flows: Flows, limits: Limits, grades: list[HeadGrade]) -> NDArray[np.bool_]:
@@ -319,23 +321,23 @@ def cash_of(flows: Flows, money: YearlyMoney, years: int) -> NDArray[np.float64]
     return np.broadcast_to(flows[CASH][:, :, None], (*flows[CASH].shape, years)) + more
 
 
-def needs_of(plan: Plan, cells: NDArray[np.int64]) -> Needs:
+def precedences_of(plan: Plan, cells: NDArray[np.int64]) -> BlockPrecedences:
     """The needs among cells, which rise, and with which stand all that they need."""
     number = np.full(plan.grid.count, -1)
     number[cells] = np.arange(len(cells))
     counts, needed = [np.zeros(0, dtype=np.int64)], [np.zeros(0, dtype=np.int64)]
-    for part in slices(plan.grid, plan.walls, cells) if len(cells) else ():
-        is_need = part.needs != ABSENT
+    for part in slices(plan.grid, plan.domains, cells) if len(cells) else ():
+        is_need = part.precedences != ABSENT
         counts.append(is_need.sum(axis=1))
-        needed.append(number[part.needs[is_need]])
+        needed.append(number[part.precedences[is_need]])
     starts = np.concatenate([[0], np.cumsum(np.concatenate(counts))])
-    return Needs(starts.astype(np.uint32), np.concatenate(needed).astype(np.uint32))
+    return BlockPrecedences(starts.astype(np.uint32), np.concatenate(needed).astype(np.uint32))
 
 
 def years_of(sums: dict[str, float], limits: Limits, project: Project) -> int:
-    """The years in which the limits let so much be dug, and a fifth more. Raises PlanError where they are too many."""
+    """The years in which the limits let so much be mined, and a fifth more. Raises PlanError where they are too many."""
     most = limits.of_years(MOST_YEARS).cumsum(axis=0)
-    taken = max(1 + int(np.searchsorted(done, sums[name] * (1 - 1e-9))) for name, done in zip(limits.most, most.T))
+    taken = max(1 + int(np.searchsorted(done, sums[name] * (1 - SUM_ERROR))) for name, done in zip(limits.most, most.T))
     years = -int(-taken * (1 + MORE_YEARS) // 1)
     if years > MOST_YEARS:
         why = f"the pit would take more than {MOST_YEARS} years: check that the limits are in tonnes per year, or set [schedule] years"

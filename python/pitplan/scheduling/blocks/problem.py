@@ -103,7 +103,7 @@ class Due:
 
 
 @dataclass(frozen=True)
-class Needs:
+class BlockPrecedences:
     """Which blocks each block needs: block u needs `needed[starts[u]:starts[u + 1]]`; both uint32, as the library of pits takes them."""
 
     starts: NDArray[np.uint32]
@@ -114,16 +114,16 @@ class Needs:
         """For each pair the block that needs the other: shape (pairs,)."""
         return np.repeat(np.arange(len(self.starts) - 1), np.diff(self.starts.astype(np.int64)))
 
-    def within(self, kept: NDArray[np.bool_]) -> Needs:
+    def within(self, kept: NDArray[np.bool_]) -> BlockPrecedences:
         """The pairs whose two blocks are kept, by the numbers that these have among themselves."""
         number = np.cumsum(kept, dtype=np.int64) - 1
         users = self.users
         both = kept[users] & kept[self.needed]
         starts = np.zeros(int(kept.sum()) + 1, dtype=np.uint32)
         np.cumsum(np.bincount(number[users[both]], minlength=len(starts) - 1), out=starts[1:], dtype=np.uint32)
-        return Needs(starts, number[self.needed[both]].astype(np.uint32))
+        return BlockPrecedences(starts, number[self.needed[both]].astype(np.uint32))
 
-    def in_order(self, order: NDArray[np.int64]) -> Needs:
+    def in_order(self, order: NDArray[np.int64]) -> BlockPrecedences:
         """The same needs with the blocks in an order."""
         number = np.empty(len(order), dtype=np.uint32)
         number[order] = np.arange(len(order))
@@ -131,16 +131,16 @@ class Needs:
         counts = self.starts[order + 1] - first
         starts = np.concatenate([[0], np.cumsum(counts)])
         place = np.arange(starts[-1]) + np.repeat(first - starts[:-1], counts)
-        return Needs(starts.astype(np.uint32), number[self.needed[place]])
+        return BlockPrecedences(starts.astype(np.uint32), number[self.needed[place]])
 
 
 @dataclass(frozen=True)
 class BlockProblem:
     """What is scheduled.
 
-    values  what a block earns where it is dug in a year and sent to a destination, discounted, in money: shape (blocks, destinations,
+    values  what a block earns where it is mined in a year and sent to a destination, discounted, in money: shape (blocks, destinations,
             years)
-    needs   what must be dug in the same year or before
+    precedences what must be mined in the same year or before
     limits  what a year may hold
     dues    what all years must hold together
     costs   what each year up to the last in which a block is mined costs, discounted, in money, 0 or more: shape (years,); None: nothing
@@ -148,7 +148,7 @@ class BlockProblem:
     """
 
     values: NDArray[np.float64]
-    needs: Needs
+    precedences: BlockPrecedences
     limits: tuple[Limit, ...]
     dues: tuple[Due, ...] = ()
     costs: Optional[NDArray[np.float64]] = None
@@ -204,13 +204,13 @@ class BlockProblem:
         """The same problem with its blocks in an order."""
         limits = tuple(replace(it, amounts=it.amounts[order]) for it in self.limits)
         dues = tuple(replace(it, amounts=it.amounts[order]) for it in self.dues)
-        return BlockProblem(self.values[order], self.needs.in_order(order), limits, dues, self.costs, self.word)
+        return BlockProblem(self.values[order], self.precedences.in_order(order), limits, dues, self.costs, self.word)
 
     def of_blocks(self, kept: NDArray[np.bool_]) -> BlockProblem:
         """The problem of these blocks alone, which need none of the others."""
         limits = tuple(replace(it, amounts=it.amounts[kept]) for it in self.limits)
         dues = tuple(replace(it, amounts=it.amounts[kept]) for it in self.dues)
-        return BlockProblem(self.values[kept], self.needs.within(kept), limits, dues, self.costs, self.word)
+        return BlockProblem(self.values[kept], self.precedences.within(kept), limits, dues, self.costs, self.word)
 
 
 def demand_sound(problem: BlockProblem) -> None:
@@ -325,15 +325,15 @@ class Nodes:
             before = by_then
         return np.concatenate(parts)
 
-    def of_year(self, year: int) -> Needs:
+    def of_year(self, year: int) -> BlockPrecedences:
         """Returns what the blocks that can be mined by a year need of each other."""
-        needs = self.problem.needs
-        starts = needs.starts[: self.counts[year] + 1]
-        return Needs(starts, needs.needed[: starts[-1]])
+        precedences = self.problem.precedences
+        starts = precedences.starts[: self.counts[year] + 1]
+        return BlockPrecedences(starts, precedences.needed[: starts[-1]])
 
     def size_of(self, first: int, last: int) -> tuple[int, int]:
         """Returns the number of blocks by year, and of precedences, of the closure of the years from `first` up to `last`, without that."""
-        counts, starts = self.counts[first:last], self.problem.needs.starts
+        counts, starts = self.counts[first:last], self.problem.precedences.starts
         return sum(counts), int(sum(int(starts[count]) for count in counts)) + sum(counts[:-1])
 
     def fits(self, first: int, last: int) -> bool:
@@ -341,7 +341,7 @@ class Nodes:
         nodes, pairs = self.size_of(first, last)
         return nodes <= MOST_NODES and pairs <= MOST_PAIRS
 
-    def of_years(self, first: int, last: int) -> Needs:
+    def of_years(self, first: int, last: int) -> BlockPrecedences:
         """Returns the precedences of blocks by year, of the years from `first` up to `last`, without that: mined by the end of a year a block
         is mined by the end of the next one too."""
         if last - first == 1:
@@ -358,7 +358,7 @@ class Nodes:
             needed[place] = part.needed + np.uint32(offset)
             if following is not None:
                 needed[starts[offset + np.arange(count) + 1] - 1] = following + np.arange(count)
-        return Needs(starts.astype(np.uint32), needed)
+        return BlockPrecedences(starts.astype(np.uint32), needed)
 
 
 def demand_room(blocks: int, pairs: int, source: str = "") -> None:
@@ -373,16 +373,16 @@ def demand_room(blocks: int, pairs: int, source: str = "") -> None:
 def nodes_of(problem: BlockProblem, first: NDArray[np.int64]) -> Nodes:
     """Returns the nodes of a problem whose blocks stand by rising first years. Raises PlanError if those of a year are more than the library
     takes."""
-    demand_room(problem.blocks, len(problem.needs.needed))
+    demand_room(problem.blocks, len(problem.precedences.needed))
     return Nodes(problem, first)
 
 
 @dataclass(frozen=True)
-class BlockSchedule:
-    """When blocks are dug, and where they go.
+class Assignment:
+    """When blocks are mined, and where they go.
 
-    year   of each block, from 0; as many as there are years where it is not dug: shape (blocks,)
-    share  of each block that goes to each destination; of one that is not dug nothing: shape (blocks, destinations)
+    year   of each block, from 0; as many as there are years where it is not mined: shape (blocks,)
+    share  of each block that goes to each destination; of one that is not mined nothing: shape (blocks, destinations)
     """
 
     year: NDArray[np.int64]
@@ -396,7 +396,7 @@ class BlockSchedule:
         """The number of years up to the last in which a block is mined."""
         return int(self.year[self.year < problem.years].max(initial=-1)) + 1
 
-    def shortened(self, problem: BlockProblem) -> BlockSchedule:
+    def shortened(self, problem: BlockProblem) -> Assignment:
         """The schedule without the blocks of its last years if it earns more without these years: it ends with the best year, or mines nothing.
         With a minimum it stays as it is."""
         if problem.costs is None or problem.owes:
@@ -404,12 +404,12 @@ class BlockSchedule:
         earned = np.bincount(self.year, self.worths(problem), minlength=problem.years + 1)[: problem.years]
         by_end = np.concatenate([[0.0], np.cumsum(earned - problem.running_costs)])[: self.life(problem) + 1]
         stays = self.year < int(by_end.argmax())
-        return BlockSchedule(np.where(stays, self.year, problem.years), np.where(stays[:, None], self.share, 0.0))
+        return Assignment(np.where(stays, self.year, problem.years), np.where(stays[:, None], self.share, 0.0))
 
     def worths(self, problem: BlockProblem) -> NDArray[np.float64]:
-        """What each block earns, discounted, in money; one that is not dug nothing."""
-        dug = np.minimum(self.year, problem.years - 1)
-        return (problem.values[np.arange(problem.blocks), :, dug] * self.share).sum(axis=1)
+        """What each block earns, discounted, in money; one that is not mined nothing."""
+        mined = np.minimum(self.year, problem.years - 1)
+        return (problem.values[np.arange(problem.blocks), :, mined] * self.share).sum(axis=1)
 
     def sums(self, problem: BlockProblem) -> NDArray[np.float64]:
         """What each limit's amounts add up to in each year: shape (limits, years)."""
@@ -444,7 +444,7 @@ class BlockSchedule:
         shares = np.concatenate([part.ravel() for part in short])
         return float(shares[shares > SUM_ERROR].sum())
 
-    def is_better(self, other: BlockSchedule, problem: BlockProblem) -> bool:
+    def is_better(self, other: Assignment, problem: BlockProblem) -> bool:
         """Whether less lacks than of another, or no more and it earns more."""
         mine, its = self.lacking(problem), other.lacking(problem)
         return mine < its - SUM_ERROR or (mine <= its + SUM_ERROR and self.value(problem) > other.value(problem))
@@ -454,14 +454,14 @@ class BlockSchedule:
         return self.is_allowed(problem) and not self.lacking(problem)
 
     def is_allowed(self, problem: BlockProblem) -> bool:
-        """Whether no block is dug before one that it needs, each goes whole to destinations, and no year is above a limit except for a
+        """Whether no block is mined before one that it needs, each goes whole to destinations, and no year is above a limit except for a
         hair."""
-        is_dug = self.year < problem.years
-        whole = np.abs(self.share.sum(axis=1) - is_dug) <= SUM_ERROR
-        ordered = self.year[problem.needs.users] >= self.year[problem.needs.needed]
+        is_mined = self.year < problem.years
+        whole = np.abs(self.share.sum(axis=1) - is_mined) <= SUM_ERROR
+        ordered = self.year[problem.precedences.users] >= self.year[problem.precedences.needed]
         return bool(whole.all() and (self.share >= 0).all() and ordered.all() and not self.exceeded(problem).any())
 
 
-def nothing(problem: BlockProblem) -> BlockSchedule:
-    """The schedule that digs nothing."""
-    return BlockSchedule(np.full(problem.blocks, problem.years), np.zeros((problem.blocks, problem.destinations)))
+def nothing(problem: BlockProblem) -> Assignment:
+    """The schedule that mines nothing."""
+    return Assignment(np.full(problem.blocks, problem.years), np.zeros((problem.blocks, problem.destinations)))

@@ -22,7 +22,7 @@ from pitplan.core.progress import Progress
 from pitplan.core.tolerances import SOLVER_SHARE, SUM_ERROR, ZERO_PRICE
 from pitplan.errors import PlanError
 
-from .filling import Ranks, cone_sums, greatest_needed, ranks_of
+from .filling import Ranks, cone_sums, greatest_of_predecessors, ranks_of
 from .problem import ROUNDING, BlockProblem, Nodes, Whole, by_end, least_float, nodes_of, upward, worth_of
 
 # Groups merge when ROUNDS_KEPT rounds give them equal shares, rounded to SHARES decimals.
@@ -148,9 +148,9 @@ def priced(nodes: Nodes, prices: NDArray[np.float64]) -> Priced:
 
 def solved(nodes: Nodes, gain: NDArray[np.int64], first: int, last: int) -> Part:
     """Solves the closure of some years; `gain` is by block and year."""
-    needs, counts = nodes.of_years(first, last), nodes.counts[first:last]
+    precedences, counts = nodes.of_years(first, last), nodes.counts[first:last]
     values = np.concatenate([gain[:count, year] for year, count in enumerate(counts, first)])
-    pit = pitshell.solve(values, (needs.starts, needs.needed), millionths=True)
+    pit = pitshell.solve(values, (precedences.starts, precedences.needed), millionths=True)
     return Part(first, last, np.split(pit.in_pit, np.cumsum(counts)[:-1]), worth_of(pit))
 
 
@@ -210,7 +210,7 @@ def sold(nodes: Nodes, prices: NDArray[np.float64]) -> Fraction:
     return sum(of_minimums, Fraction(0)) + max(accumulate(running)) + sum(of_dues, Fraction(0))
 
 
-# The linear relaxation where all nodes of a group are dug to one share: a small linear programme, whose prices of the
+# The linear relaxation where all nodes of a group are mined to one share: a small linear programme, whose prices of the
 # limits ask for the next closure (Bienstock and Zuckerberg, IPCO 2010; Munoz, Espinoza, Goycoolea, Moreno, Queyranne
 # and Rivera Letelier, A study of the Bienstock-Zuckerberg algorithm, Computational Optimization and Applications 69,
 # 2018).
@@ -221,7 +221,7 @@ MOST_MARKS = 2**28
 
 @dataclass(frozen=True)
 class Restricted:
-    """The optimum where all nodes of a group are dug to one share.
+    """The optimum where all nodes of a group are mined to one share.
 
     share   of each group: shape (groups,)
     value   discounted, in money; where it is sought what is due the shares that lack of it together, below 0
@@ -313,7 +313,7 @@ class Master:
     def solve(self, groups: Groups, seeks_dues: bool = False) -> Restricted:
         """The optimum of these groups; or the least that lacks of what is due, at any earnings. Raises PlanError where HiGHS finds
         none."""
-        # What leads in a circle is dug to one share.
+        # What leads in a circle is mined to one share.
         pairs = pairs_of(groups, self.nodes)
         count, component = connected_components(pairs, connection="strong")
         joined = groups.of_groups(component)
@@ -384,7 +384,7 @@ class Master:
         found = np.zeros((self.nodes.problem.years, groups.count))
         for year, label in enumerate(self.nodes.by_year(groups.label)):
             found[year] += np.bincount(label.ravel(), amounts[: len(label)].ravel(), minlength=groups.count)
-            # What is dug by then is not sent to the next destination, nor dug in the next year.
+            # What is mined by then is not sent to the next destination, nor mined in the next year.
             found[year] -= np.bincount(label[:, :-1].ravel(), amounts[: len(label), 1:].ravel(), minlength=groups.count)
             if year + 1 < len(found):
                 found[year + 1] -= np.bincount(label[:, -1], amounts[: len(label), 0], minlength=groups.count)
@@ -431,9 +431,9 @@ def pairs_by_year(groups: Groups, nodes: Nodes) -> Iterator[tuple[NDArray, NDArr
     """The groups of the two nodes of each pair: of destinations of a block, of blocks in a year, and of a year and the next."""
     labels = list(nodes.by_year(groups.label))
     for year, label in enumerate(labels):
-        needs, last = nodes.of_year(year), np.ascontiguousarray(label[:, -1])
+        precedences, last = nodes.of_year(year), np.ascontiguousarray(label[:, -1])
         yield label[:, :-1].ravel(), label[:, 1:].ravel()
-        yield np.repeat(last, np.diff(needs.starts.astype(np.int64))), last[needs.needed]
+        yield np.repeat(last, np.diff(precedences.starts.astype(np.int64))), last[precedences.needed]
         if year + 1 < len(labels):
             yield last, labels[year + 1][: len(label), 0]
 
@@ -489,7 +489,7 @@ class Relaxation:
     """The relaxation as far as it is solved.
 
     bound        in money: no schedule earns more
-    cumulative   the share of each block that is dug by the end of each year: shape (blocks, years)
+    cumulative   the share of each block that is mined by the end of each year: shape (blocks, years)
     prices       of a unit of each limit in each year, in money, and of each due, in the last round: shape (limits and dues, years)
     multipliers  those at which the closure gave the bound
     rounds       what each round found
@@ -621,33 +621,33 @@ def first_groups(nodes: Nodes) -> Groups:
     problem = nodes.problem
     values = upward(problem.values[:, :, 0].max(axis=1)).amounts
     factors = range(1000 // FIRST_PITS, 1001, 1000 // FIRST_PITS)
-    needs = (problem.needs.starts, problem.needs.needed)
-    nested = pitshell.shells(np.maximum(values, 0), np.maximum(-values, 0), needs, factors, millionths=True)
+    precedences = (problem.precedences.starts, problem.precedences.needed)
+    nested = pitshell.shells(np.maximum(values, 0), np.maximum(-values, 0), precedences, factors, millionths=True)
     steps = problem.destinations * problem.years
     label = nested.first[:, None, None] * steps + np.arange(steps).reshape(problem.destinations, problem.years)
     return renumbered(nodes.spread(label.astype(np.int64)), (len(factors) + 1) * steps)
 
 
-def worth_digging(problem: BlockProblem, required: Optional[NDArray[np.bool_]] = None) -> NDArray[np.bool_]:
-    """The blocks that a schedule of greatest worth needs to dig: a truth for each, shape (blocks,). Those that are `required` are among them, by
+def worth_mining(problem: BlockProblem, required: Optional[NDArray[np.bool_]] = None) -> NDArray[np.bool_]:
+    """The blocks that a schedule of greatest worth needs to mine: a truth for each, shape (blocks,). Those that are `required` are among them, by
     default all that take from a signed limit.
 
     They are a closed set U such that in no year a closed set gains by what it has besides U, where a block gains what it earns in the year
     less what it earns in the next one. What adds to a sum that has a least, or is required, is in U, with all that it needs. So a schedule
     without its blocks outside U still keeps every limit: from above since they take from no sum, if all that do are required, and from below
     since they add nothing. And it
-    earns no less: what these earn is the sum over years of what they gain with all of them that are dug by then. Where a block earns one
+    earns no less: what these earn is the sum over years of what they gain with all of them that are mined by then. Where a block earns one
     value times a discount that falls with the years, and nothing is due, U is the ultimate pit.
 
     Raises pitshell.Refusal where the needs are invalid.
     """
     gains = by_end(upward(problem.values.max(axis=1)).amounts)
-    needs = problem.needs.starts, problem.needs.needed
+    precedences = problem.precedences.starts, problem.precedences.needed
     kept = problem.owing | (problem.easing if required is None else required)
     years_without = 0
     for year in cycle(range(problem.years)):
         gain = np.ascontiguousarray(gains[:, year])
-        pit = pitshell.solve(gain, needs, kept.astype(np.uint8), millionths=True).in_pit
+        pit = pitshell.solve(gain, precedences, kept.astype(np.uint8), millionths=True).in_pit
         years_without = 1 if (pit & ~kept).any() else years_without + 1
         kept = pit
         if years_without == problem.years:
@@ -656,12 +656,12 @@ def worth_digging(problem: BlockProblem, required: Optional[NDArray[np.bool_]] =
 
 
 def earliest_years(problem: BlockProblem, ranks: Ranks) -> NDArray[np.int64]:
-    """The first year, from 0, by whose end a block can be dug with all that it needs, as the limits up to then allow; as many as there are
+    """The first year, from 0, by whose end a block can be mined with all that it needs, as the limits up to then allow; as many as there are
     years where none exists. Shape (blocks,). Signed limits show no such year, since other blocks may make room."""
     first, limits = np.zeros(problem.blocks, dtype=np.int64), [limit for limit in problem.limits if not limit.signed]
     if not limits:
         return first
-    sums = cone_sums(problem.needs, ranks, np.stack([limit.amounts.min(axis=1) for limit in limits], axis=1))
+    sums = cone_sums(problem.precedences, ranks, np.stack([limit.amounts.min(axis=1) for limit in limits], axis=1))
     for limit, sum_of in zip(limits, sums.T):
         most = np.cumsum(limit.most) * (1 + SUM_ERROR)
         first = np.maximum(first, np.searchsorted(most, sum_of, side="left"))
@@ -678,7 +678,7 @@ def earliest_years(problem: BlockProblem, ranks: Ranks) -> NDArray[np.int64]:
 
 @dataclass(frozen=True)
 class Reduced:
-    """A problem without blocks that no schedule of greatest worth needs, or that no schedule can dig in time.
+    """A problem without blocks that no schedule of greatest worth needs, or that no schedule can mine in time.
 
     kept   the numbers in the whole problem of the blocks that are left
     nodes  of these
@@ -698,18 +698,18 @@ def reduced(problem: BlockProblem, required: Optional[NDArray[np.bool_]] = None)
     """Leaves out what no schedule needs but blocks that are required, by default all that take from a signed limit. The library takes the
     problem."""
     required = problem.easing if required is None else required
-    kept = worth_digging(problem, required)
+    kept = worth_mining(problem, required)
     while True:
         part = problem.of_blocks(kept)
-        ranks = ranks_of(part.needs)
+        ranks = ranks_of(part.precedences)
         first = earliest_years(part, ranks)
         if (first < part.years).all():
             order = np.argsort(first, kind="stable")
             part = part.in_order(order)
-            return Reduced(np.flatnonzero(kept)[order], nodes_of(part, first[order]), ranks_of(part.needs))
+            return Reduced(np.flatnonzero(kept)[order], nodes_of(part, first[order]), ranks_of(part.precedences))
         kept[kept] = first < part.years
-        # What was worth digging for the others alone is so no more.
-        kept[kept] = worth_digging(problem.of_blocks(kept), required[kept])
+        # What was worth mining for the others alone is so no more.
+        kept[kept] = worth_mining(problem.of_blocks(kept), required[kept])
 
 
 def first_required(problem: BlockProblem) -> NDArray[np.bool_]:
@@ -737,7 +737,7 @@ class Growing:
         problem, first = self.problem, np.zeros(self.problem.blocks)
         first[part.kept] = part.nodes.first
         first[self.lost] = problem.years
-        first = greatest_needed(problem.needs, ranks_of(problem.needs), first)
+        first = greatest_of_predecessors(problem.precedences, ranks_of(problem.precedences), first)
         order = np.argsort(first, kind="stable")
         nodes = nodes_of(problem.in_order(order), first[order].astype(np.int64))
         in_closure = nodes.gathered(priced(nodes, multipliers).in_closure)[:, -1, -1]

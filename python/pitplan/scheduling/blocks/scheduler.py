@@ -17,7 +17,7 @@ from pitplan.core.tolerances import SUM_ERROR
 from pitplan.errors import PlanError
 
 from .filling import ALL, LEAST, Divided, Filling, Sequence, blended, divided, moved, sequences, with_best_shares
-from .problem import BlockProblem, BlockSchedule, demand_room, demand_sound, nothing
+from .problem import Assignment, BlockProblem, demand_room, demand_sound, nothing
 from .relaxation import Reduced, Relaxation, Round, first_required, reduced, relaxed_as_required
 from .window_milp import Window, sizes_of, window_of
 
@@ -38,14 +38,14 @@ class Scheduled:
     schedule     the best that was found
     value        what it earns, discounted, in money
     bound        no schedule earns more
-    blocks       that some schedule of greatest worth may dig
-    nodes        of the relaxation: such a block by a year in which it can be dug
+    blocks       that some schedule of greatest worth may mine
+    nodes        of the relaxation: such a block by a year in which it can be mined
     rounds       of the relaxation
     interrupted  whether the run was ended before it was through
     multipliers  prices of a unit of each limit and due by year, in money, from which the bound follows: shape (limits and dues, years)
     """
 
-    schedule: BlockSchedule
+    schedule: Assignment
     value: float
     bound: float
     blocks: int
@@ -64,13 +64,13 @@ def solve(problem: BlockProblem, effort: Optional[Effort] = None, progress: Prog
     """The bound of all schedules and the best schedule that was found.
 
     With an effort integer programmes make the schedule better until it is within the effort's gap, a share of the bound, or its seconds are
-    over, those of the bound among them. An interruption (Ctrl-C) ends what is at work, once there is a bound, with the best so far.
+    over, those of the bound among them. Once there is a bound, Ctrl-C stops the search and keeps the best schedule.
 
     Raises PlanError where the problem has a fault or is too large, no schedule keeps what must be held at least, or none was found that
     does, and KeyboardInterrupt where it is interrupted before there is a bound.
     """
     demand_sound(problem)
-    demand_room(problem.blocks, len(problem.needs.needed))
+    demand_room(problem.blocks, len(problem.precedences.needed))
     began = time.monotonic()
     with progress.step(f"removing blocks that no schedule needs, of {problem.blocks:,} blocks"):
         part = reduced(problem, first_required(problem))
@@ -110,8 +110,8 @@ class Search:
     part: Reduced
     relaxation: Relaxation
     progress: Progress
-    best: BlockSchedule = field(init=False)
-    filled: list[BlockSchedule] = field(default_factory=list)
+    best: Assignment = field(init=False)
+    filled: list[Assignment] = field(default_factory=list)
     tried: set[tuple[tuple[int, int], bytes, bytes]] = field(default_factory=set)
 
     def __post_init__(self) -> None:
@@ -144,7 +144,7 @@ class Search:
             found += [replace(it, preference=self.divided.preferences(np.zeros_like(prices))) for it in found]
         return found
 
-    def offer(self, schedule: BlockSchedule) -> None:
+    def offer(self, schedule: Assignment) -> None:
         """Takes a schedule that is better, without last years that cost more than they earn."""
         shorter = schedule.shortened(self.problem)
         if shorter.is_better(self.best, self.problem):
@@ -169,7 +169,7 @@ class Search:
         for schedule in blended(self.divided.problem, ranks, self.sequences, prices):
             self.offer(self.divided.merged(schedule))
 
-    def offer_filled(self, number: int, schedule: BlockSchedule) -> None:
+    def offer_filled(self, number: int, schedule: Assignment) -> None:
         """Takes a schedule of parts that is better, also than those that were filled in the same way."""
         if schedule.is_better(self.filled[number], self.divided.problem):
             self.filled[number] = schedule
@@ -228,7 +228,7 @@ class Search:
             self.offer(self.solved(window, Effort(effort.gap, min(left, WINDOW_SECONDS)), min(PATIENCE, left + LATE)))
         return self.best.is_better(before, self.problem)
 
-    def solved(self, window: Window, effort: Effort, patience: float) -> BlockSchedule:
+    def solved(self, window: Window, effort: Effort, patience: float) -> Assignment:
         """The schedule with a window solved again, unless that was done of the same blocks in the same years."""
         tried = (window.first, window.last), window.blocks.tobytes(), self.best.year[window.blocks].tobytes()
         if not len(window.blocks) or tried in self.tried:
@@ -245,7 +245,7 @@ class Search:
         """The best so far, as a schedule of the whole problem."""
         year, share = np.full(problem.blocks, problem.years), np.zeros((problem.blocks, problem.destinations))
         year[self.part.kept], share[self.part.kept] = self.best.year, self.best.share
-        schedule, size = BlockSchedule(year, share), (self.problem.blocks, len(self.part.nodes))
+        schedule, size = Assignment(year, share), (self.problem.blocks, len(self.part.nodes))
         found, value = self.relaxation, schedule.value(problem)
         return Scheduled(schedule, value, found.bound, *size, found.rounds, interrupted, found.multipliers)
 

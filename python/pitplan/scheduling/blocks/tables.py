@@ -4,7 +4,8 @@ from __future__ import annotations
 
 from dataclasses import dataclass, replace
 from functools import cached_property
-from typing import Any, Optional
+from pathlib import Path
+from typing import TYPE_CHECKING, Any, Optional, Union
 
 import numpy as np
 import pandas as pd
@@ -16,34 +17,42 @@ from pitplan.config.material import PIT, WASTE
 from pitplan.config.schedule import ScheduleRules
 from pitplan.core.progress import Progress, silent
 from pitplan.core.revenue_factors import BASE_PRICE
-from pitplan.core.tolerances import SUM_ERROR
+from pitplan.core.tolerances import BLOCK_MONEY, SUM_ERROR
 from pitplan.economics.period_costs import is_shown, of_project
 from pitplan.errors import WARNING, PlanError
 from pitplan.pits import grade_tonnage
 from pitplan.pits.best_worst_case import year_discounts
+from pitplan.pits.shells import Shells
 from pitplan.plan import Plan, shown_name
 from pitplan.pushbacks.bench_table import CASH, ORE, ROCK
 from pitplan.scheduling import inventory
+from pitplan.scheduling.cash_flow.lines import Operation
+from pitplan.scheduling.cash_flow.tables import BlockOperation, Finance, block_finances
 from pitplan.scheduling.certificate import (
     UNIT,
     WHOLE,
     Certificate,
-    Certified,
     LimitOfYears,
     Predecessors,
     Shares,
     StatedLimit,
     Term,
+    checked,
     millionths,
     money_unit,
     rows_of,
+    write,
 )
 from pitplan.scheduling.flow.material import column_of
 from pitplan.scheduling.methods import BLOCK, notes_of_gap
+from pitplan.scheduling.schedule import Schedule
 
 from .from_plan import PlannedBlocks, cash_of, of_plan, unapplied
-from .problem import BlockProblem, BlockSchedule, Limit
+from .problem import Assignment, BlockProblem, Limit
 from .scheduler import Scheduled, gap_of, solve
+
+if TYPE_CHECKING:
+    from pitplan.commands.writing import Writing
 
 # How the names of blocks.csv's columns of shares begin.
 SHARE = "share_"
@@ -51,24 +60,106 @@ SHARE = "share_"
 MUST_MINE = "must_mine"
 
 
-@dataclass(frozen=True)
-class ScheduledBlocks:
-    """The blocks of a plan with their schedule and its bound."""
+@dataclass(frozen=True, eq=False, repr=False)
+class BlockSchedule(Schedule):
+    """A yearly schedule of single blocks.
+
+    Attributes
+    ----------
+    planned : PlannedBlocks
+        The blocks of the plan that can be mined.
+    shells : Shells
+        The shells of the plan.
+    found : Scheduled
+        The year of each block, and the upper bound.
+    """
 
     planned: PlannedBlocks
+    shells: Shells
     found: Scheduled
-    certified: Optional[Certified] = None
+
+    def __repr__(self) -> str:
+        """NPV and upper bound."""
+        row = self.table.iloc[0]
+        return f"Schedule of {row['blocks']:,} blocks; NPV {row['npv']:,.0f}, upper bound {row['upper_bound']:,.0f}"
+
+    @property
+    def plan(self) -> Plan:
+        """The plan, with the rules of `[schedule]`."""
+        return self.planned.plan
+
+    @property
+    def shown(self) -> str:
+        """The only method."""
+        return BLOCK
+
+    @property
+    def blocks(self) -> pd.DataFrame:
+        """One row per block, with the `year` in which it is mined (0: never) and the share that goes to each process."""
+        return self.beside(self.shells.blocks)
+
+    @cached_property
+    def finances(self) -> list[Finance]:
+        """The cash flow of the schedule."""
+        return block_finances(self)
+
+    @property
+    def operation(self) -> Operation:
+        """What the schedule mines and feeds."""
+        return BlockOperation(self)
+
+    @property
+    def material_tables(self) -> dict[str, pd.DataFrame]:
+        """The inventory."""
+        return {"inventory": inventory_table(self)}
+
+    @property
+    def grade_tonnage(self) -> pd.DataFrame:
+        """Grade-tonnage curves of the model, and of the blocks that are mined as the pit."""
+        mined = np.zeros(self.plan.grid.count, dtype=bool)
+        mined[self.planned.cells[self.found.schedule.year < self.planned.problem.years]] = True
+        return grade_tonnage.of_pit(self.plan, mined)
+
+    def tables(self) -> dict[str, pd.DataFrame]:
+        """The tables by name: those of the shells, and of the schedule."""
+        found = {"blocks": self.blocks, "shells": self.shells.table, "grade_tonnage": self.grade_tonnage}
+        found["years"] = pd.concat([self.shells.years, self.years], ignore_index=True)
+        return found | {"methods": self.methods, "bound": self.multipliers} | self.money_tables | self.material_tables
+
+    def summary(self) -> dict[str, Any]:
+        """The part of the record plan.json."""
+        return self.shells.summary() | {"by_block": True}
+
+    @property
+    def as_shells(self) -> Shells:
+        """The shells of the plan."""
+        return self.shells
+
+    def write(self, folder: Union[str, Path, None] = None, writing: Optional[Writing] = None) -> Path:
+        """Writes what `pitplan schedule --by block` writes, by default into block_schedule in the project's output folder; see
+        `Shells.write`."""
+        from pitplan.commands.answers import write
+
+        return write(self, folder or self.plan.asked.folder / "block_schedule", writing)
+
+    def proved(self, stage: Path, program: Optional[Path]) -> BlockSchedule:
+        """Writes the texts of the schedule into a folder, and returns it with what the program proves."""
+        certificate, problem = self.certificate, self.planned.problem
+        write(certificate, self.planned.cells.tolist(), stage)
+        proved = checked(stage, program, certificate.unit)
+        destinations = tuple(("", "" if it == WASTE else it, 0) for it in self.planned.destinations)
+        return replace(self, certified=replace(proved, destinations=destinations, limits=sides_of(problem)))
 
     @property
     def certificate(self) -> Certificate:
         """What a proved program checks of the schedule. Raises PlanError if it cannot state the problem."""
         problem = self.planned.problem
-        discounts = year_discounts(self.planned.plan.project.shells, problem.years)
+        discounts = year_discounts(self.plan.project.shells, problem.years)
         return of_schedule(problem, self.found.schedule, self.found.multipliers, discounts)
 
     @property
     def count(self) -> int:
-        """The last year in which anything is dug, from 1; 0 where nothing is."""
+        """The last year in which anything is mined, from 1; 0 where nothing is."""
         year = self.found.schedule.year
         return int(year[year < self.planned.problem.years].max(initial=-1)) + 1
 
@@ -82,7 +173,7 @@ class ScheduledBlocks:
         for number, name in enumerate(self.planned.destinations):
             if number:
                 columns[SHARE + name] = schedule.share[:, number]
-        grid, ids = self.planned.plan.grid, blocks["id"].to_numpy()
+        grid, ids = self.plan.grid, blocks["id"].to_numpy()
         found = {}
         for name, values in columns.items():
             spread = np.zeros(grid.count, dtype=values.dtype)
@@ -92,15 +183,15 @@ class ScheduledBlocks:
 
     def time(self, count: int) -> float:
         """The years that `count` periods last."""
-        return self.planned.plan.project.shells.calendar.span(count)
+        return self.plan.project.shells.calendar.span(count)
 
     @cached_property
     def years(self) -> pd.DataFrame:
-        """A row a year up to the last in which anything is dug, as `shell_tables.years` has of cases."""
-        problem, schedule, project = self.planned.problem, self.found.schedule, self.planned.plan.project
+        """A row a year up to the last in which anything is mined, as `Shells.years` has of cases."""
+        problem, schedule, project = self.planned.problem, self.found.schedule, self.plan.project
         cash = cash_of(self.planned.flows, of_project(project), problem.years)
-        dug = np.arange(problem.blocks), slice(None), np.minimum(schedule.year, problem.years - 1)
-        flows, count = self.planned.flows | {CASH: cash[dug]}, self.count
+        mined = np.arange(problem.blocks), slice(None), np.minimum(schedule.year, problem.years - 1)
+        flows, count = self.planned.flows | {CASH: cash[mined]}, self.count
         table = pd.DataFrame({"case": BLOCK, "revenue_factor": BASE_PRICE, "year": np.arange(1, count + 1)})
         for name, amounts in [(name, amounts) for name, amounts in flows.items() if is_shown(name)]:
             of_blocks = (amounts * schedule.share).sum(axis=1)
@@ -116,14 +207,14 @@ class ScheduledBlocks:
     @property
     def table(self) -> pd.DataFrame:
         """One row: value, discounted, and bound, in money; optimality_gap, by which share of the bound the value is less; years; blocks of
-        rock that are dug; tonnes of rock, and feed_tonnes; recovered_NAME recovered."""
-        dug = (self.found.schedule.year < self.planned.problem.years) & (self.planned.flows[ROCK][:, 0] > 0)
+        rock that are mined; tonnes of rock, and feed_tonnes; recovered_NAME recovered."""
+        mined = (self.found.schedule.year < self.planned.problem.years) & (self.planned.flows[ROCK][:, 0] > 0)
         row = {
             "npv": self.found.value,
             "upper_bound": self.found.bound,
             "optimality_gap": self.found.gap,
             "years": self.time(self.count),
-            "blocks": int(dug.sum()),
+            "blocks": int(mined.sum()),
             "tonnes": self.years[ROCK].sum(),
             "feed_tonnes": self.years[ORE].sum(),
             **self.years.filter(like="recovered_").sum(),
@@ -191,7 +282,7 @@ class ScheduledBlocks:
             f"upper bound on the NPV of any schedule by block of up to {years} years within these limits: {found.bound:,.0f}; "
             f"this schedule has an NPV of {found.value:,.0f}, an optimality gap of {100 * found.gap:.2f} %"
         ]
-        project = self.planned.plan.project
+        project = self.plan.project
         if not self.count and found.bound <= 0:
             said.append("nothing is mined: at these prices and costs no block pays for itself and its predecessors")
         elif not self.count:
@@ -205,7 +296,7 @@ class ScheduledBlocks:
             said.append(
                 f"{WARNING}the run was interrupted; this is the best schedule so far, and the upper bound holds"
             )
-        return said
+        return [*said, *self.uncertified]
 
 
 def collected(plan: Plan, progress: Progress = silent) -> PlannedBlocks:
@@ -217,29 +308,24 @@ def collected(plan: Plan, progress: Progress = silent) -> PlannedBlocks:
         return of_plan(plan)
 
 
-def scheduled(planned: PlannedBlocks, progress: Progress = silent) -> ScheduledBlocks:
-    """The schedule of these blocks. `[schedule] milp` says how far integer programmes make it better.
+def scheduled(planned: PlannedBlocks, shells: Shells, progress: Progress = silent) -> BlockSchedule:
+    """The schedule of these blocks, beside the shells of their plan. `[schedule] milp` says how far integer programmes make it better.
 
     Raises PlanError if no schedule meets the minimums, and KeyboardInterrupt if it is interrupted before there is a bound.
     """
     rules = planned.plan.project.schedule or ScheduleRules()
     found = solve(planned.problem, rules.milp, progress)
-    return ScheduledBlocks(planned, replace(found, schedule=planned.with_barren_waste(found.schedule)))
+    return BlockSchedule(planned, shells, replace(found, schedule=planned.with_barren_waste(found.schedule)))
 
 
-def make(plan: Plan, progress: Progress = silent) -> ScheduledBlocks:
-    """The schedule of a plan's blocks; raises what `collected` and `scheduled` raise."""
-    return scheduled(collected(plan, progress), progress)
-
-
-def inventory_table(blocks: ScheduledBlocks) -> pd.DataFrame:
+def inventory_table(blocks: BlockSchedule) -> pd.DataFrame:
     """Returns the inventory of a schedule by block: that of `scheduling.inventory.summed`, without pushbacks."""
     plan = blocks.planned.plan
     parts = [inventory_rows(blocks, number) for number in range(len(blocks.planned.destinations))]
     return inventory.summed(pd.concat(parts, ignore_index=True), plan.project, [BLOCK])
 
 
-def inventory_rows(blocks: ScheduledBlocks, number: int) -> pd.DataFrame:
+def inventory_rows(blocks: BlockSchedule, number: int) -> pd.DataFrame:
     """Returns a row per block with tonnes whose share goes to a destination, by its number."""
     planned, schedule = blocks.planned, blocks.found.schedule
     plan, destination = planned.plan, planned.destinations[number]
@@ -274,17 +360,9 @@ def codes_of(plan: Plan, cells: NDArray[np.int64]) -> dict[str, NDArray[np.objec
     return {shown_name(name): plan.table[name].astype(str).to_numpy()[row[cells]] for name in codes}
 
 
-def grade_tonnage_table(blocks: ScheduledBlocks) -> pd.DataFrame:
-    """Returns grade-tonnage curves of the model, and of the blocks that are mined as the pit."""
-    planned, year = blocks.planned, blocks.found.schedule.year
-    mined = np.zeros(planned.plan.grid.count, dtype=bool)
-    mined[planned.cells[year < planned.problem.years]] = True
-    return grade_tonnage.of_pit(planned.plan, mined)
-
-
 def of_schedule(
     problem: BlockProblem,
-    schedule: BlockSchedule,
+    schedule: Assignment,
     multipliers: NDArray[np.float64],
     discounts: NDArray[np.float64],
 ) -> Certificate:
@@ -293,7 +371,7 @@ def of_schedule(
     Parameters
     ----------
     problem : BlockProblem
-    schedule : BlockSchedule
+    schedule : Assignment
     multipliers : ndarray
         The price of each limit in each year, below 0 for minimums: shape (limits, years).
     discounts : ndarray
@@ -308,13 +386,13 @@ def of_schedule(
     if problem.running_costs.any():
         raise PlanError(f"{WHOLE}: it cannot state costs of years")
     values = problem.values[:, :, 0] / discounts[0]
-    if not np.allclose(values[:, :, None] * discounts, problem.values, rtol=1e-9, atol=1e-6):
+    if not np.allclose(values[:, :, None] * discounts, problem.values, rtol=SUM_ERROR, atol=BLOCK_MONEY):
         raise PlanError(f"{WHOLE}: it cannot state prices or costs that differ by year")
     prices = multipliers if multipliers.size else np.zeros((len(problem.limits), problem.years))
     unit = money_unit([values], [np.abs(prices)])
     limits = [it for limit, paid in zip(problem.limits, prices / unit) for it in stated(limit, paid)]
     rows, shares = rows_of(limits, shares_of(schedule, problem.years))
-    predecessors = Predecessors(problem.needs.starts, problem.needs.needed)
+    predecessors = Predecessors(problem.precedences.starts, problem.precedences.needed)
     worth = millionths(values / unit)
     return Certificate(worth.shape[1], terms_of(worth), millionths(discounts), rows, predecessors, shares, unit)
 
@@ -341,7 +419,7 @@ def terms_of(amounts: NDArray[np.int64]) -> tuple[Term, ...]:
     return tuple(Term(number, column) for number, column in enumerate(amounts.T))
 
 
-def shares_of(schedule: BlockSchedule, years: int) -> Shares:
+def shares_of(schedule: Assignment, years: int) -> Shares:
     """Returns the shares in millionths, which add up to the whole of each block that is mined. The greatest share takes what rounding leaves."""
     shares = np.floor(schedule.share * UNIT + 0.5).astype(np.int64)
     mined = np.flatnonzero(schedule.year < years)

@@ -1,7 +1,7 @@
 """A schedule made better by integer programmes: some years at a time, and of their blocks those that the relaxation decides least.
 
-The unknowns of a window are, for each of its free blocks and each of its years, whether the block is dug by the year's end, and in which
-shares it goes to destinations in that year. All other blocks stay as they are: a free block is dug no sooner than what it needs of them and
+The unknowns of a window are, for each of its free blocks and each of its years, whether the block is mined by the year's end, and in which
+shares it goes to destinations in that year. All other blocks stay as they are: a free block is mined no sooner than what it needs of them and
 no later than what needs it, and what they take of the limits is taken off.
 """
 
@@ -21,7 +21,7 @@ from pitplan.scheduling.highs import Programme
 from pitplan.scheduling.highs_process import solve
 
 from .filling import ranks_of
-from .problem import BlockProblem, BlockSchedule, Due, Limit
+from .problem import Assignment, BlockProblem, Due, Limit
 from .relaxation import earliest_years
 
 # A window has about MOST_UNKNOWNS integer unknowns at most, at first FEWER, and at most MOST_YEARS years unless all blocks fit.
@@ -35,7 +35,7 @@ class Window:
     """Years of a schedule from `first` up to `last`, without that, and the blocks that are free in them."""
 
     problem: BlockProblem
-    schedule: BlockSchedule
+    schedule: Assignment
     first: int
     last: int
     blocks: NDArray[np.int64]
@@ -88,31 +88,31 @@ class Window:
         return vstack(rows, format="csr")
 
     def bounds(self) -> tuple[NDArray[np.int64], NDArray[np.int64]]:
-        """For each free block the first year in which all that it needs of the others is dug, and what it needs of the free ones fits into
-        what the others leave; and the last year by whose end what needs it of the others asks for it, as many as there are years in all
-        where nothing does."""
+        """For each free block the first year in which its fixed predecessors are mined and its free ones fit into the capacity that is left.
+        Also the last year in which it may be mined, since a fixed block depends on it; the number of years if none does.
+        """
         problem, year, number = self.problem, self.schedule.year, self.number
-        users, needed = problem.needs.users, problem.needs.needed.astype(np.int64)
+        users, needed = problem.precedences.users, problem.precedences.needed.astype(np.int64)
         soonest, latest = np.full(len(self.blocks), self.first), np.full(len(self.blocks), problem.years)
         some = (number[users] >= 0) & (number[needed] < 0)
         np.maximum.at(soonest, number[users[some]], year[needed[some]])
-        soonest = np.maximum(soonest, self.first + earliest_years(self.part, ranks_of(self.part.needs)))
+        soonest = np.maximum(soonest, self.first + earliest_years(self.part, ranks_of(self.part.precedences)))
         some = (number[users] < 0) & (number[needed] >= 0)
         np.minimum.at(latest, number[needed[some]], year[users[some]])
         return soonest, latest
 
     def shares(self) -> Iterator[tuple[csr_matrix, NDArray[np.float64]]]:
-        """The shares of a block and year add up to 1 where it is dug in the year, else to 0."""
+        """The shares of a block and year add up to 1 where it is mined in the year, else to 0."""
         before = eye(self.years, k=-1)
-        dug = kron(eye(len(self.blocks)), eye(self.years) - before)
+        mined = kron(eye(len(self.blocks)), eye(self.years) - before)
         sums = kron(eye(self.place.size), np.ones((1, self.problem.destinations)))
-        row = hstack([dug, -sums], format="csr")
+        row = hstack([mined, -sums], format="csr")
         yield row, np.zeros(row.shape[0])
         yield -row, np.zeros(row.shape[0])
 
     def order(self) -> tuple[csr_matrix, NDArray[np.float64]]:
-        """No free block is dug before another that it needs."""
-        less, more = self.place[self.part.needs.users].ravel(), self.place[self.part.needs.needed].ravel()
+        """No free block is mined before another that it needs."""
+        less, more = self.place[self.part.precedences.users].ravel(), self.place[self.part.precedences.needed].ravel()
         row = np.tile(np.arange(len(less)), 2)
         signs = np.repeat([1.0, -1.0], len(less))
         matrix = coo_matrix((signs, (row, np.concatenate([less, more]))), shape=(len(less), self.width))
@@ -128,7 +128,7 @@ class Window:
         """The free blocks and the window's years alone, with what the others leave as limits."""
         others = self.schedule.share.copy()
         others[self.blocks] = 0.0
-        taken, years = BlockSchedule(self.schedule.year, others).sums(self.problem)[:, self.first : self.last], slice(
+        taken, years = Assignment(self.schedule.year, others).sums(self.problem)[:, self.first : self.last], slice(
             self.first, self.last
         )
         limits = [
@@ -139,8 +139,8 @@ class Window:
         dues = tuple(
             Due(due.name, due.amounts[self.blocks], least) for due, least in owed if least > SUM_ERROR * due.least
         )
-        needs = self.problem.needs.within(self.number >= 0)
-        return BlockProblem(self.problem.values[self.blocks, :, years], needs, tuple(limits), dues)
+        precedences = self.problem.precedences.within(self.number >= 0)
+        return BlockProblem(self.problem.values[self.blocks, :, years], precedences, tuple(limits), dues)
 
     def left(self, limit: Limit, most: NDArray[np.float64], least: NDArray[np.float64]) -> Limit:
         """A limit of the free blocks, with what the others leave of its most and its least. Of a signed one these may be below 0."""
@@ -161,13 +161,13 @@ class Window:
         return vstack(rows, format="csr"), np.concatenate(left)
 
     def due(self, latest: NDArray[np.int64]) -> tuple[csr_matrix, NDArray[np.float64]]:
-        """What others need is dug by then."""
+        """What others need is mined by then."""
         some = np.flatnonzero(latest < self.problem.years)
         at = self.place[some, np.minimum(latest[some], self.last - 1) - self.first]
         matrix = csr_matrix((-np.ones(len(some)), (np.arange(len(some)), at)), shape=(len(some), self.width))
         return matrix, -np.ones(len(some))
 
-    def solved(self, effort: Effort, patience: float = np.inf) -> BlockSchedule:
+    def solved(self, effort: Effort, patience: float = np.inf) -> Assignment:
         """The schedule with the best that was found in the window, or unchanged where that is no better, or is not found in this many
         seconds of patience.
 
@@ -177,14 +177,14 @@ class Window:
         if found.unknowns is None:
             return self.schedule
         problem, truths = self.problem, self.place.size
-        is_dug = found.unknowns[:truths].reshape(self.place.shape) > 0.5
+        is_mined = found.unknowns[:truths].reshape(self.place.shape) > 0.5
         shares = found.unknowns[truths : self.width].reshape(*self.place.shape, problem.destinations)
         parts = np.clip(shares, 0.0, 1.0).sum(axis=1)
         year, share = self.schedule.year.copy(), self.schedule.share.copy()
-        year[self.blocks] = np.where(is_dug.any(axis=1), self.first + is_dug.argmax(axis=1), problem.years)
+        year[self.blocks] = np.where(is_mined.any(axis=1), self.first + is_mined.argmax(axis=1), problem.years)
         whole = parts.sum(axis=1, keepdims=True)
-        share[self.blocks] = np.where(is_dug.any(axis=1)[:, None], parts / np.where(whole > 0, whole, 1.0), 0.0)
-        better = BlockSchedule(year, share)
+        share[self.blocks] = np.where(is_mined.any(axis=1)[:, None], parts / np.where(whole > 0, whole, 1.0), 0.0)
+        better = Assignment(year, share)
         return better if better.is_better(self.schedule, problem) and better.is_allowed(problem) else self.schedule
 
 
@@ -199,15 +199,15 @@ def sizes_of(problem: BlockProblem) -> list[tuple[int, int]]:
 
 def window_of(
     problem: BlockProblem,
-    schedule: BlockSchedule,
+    schedule: Assignment,
     cumulative: NDArray[np.float64],
     years: tuple[int, int],
     most: int = MOST_UNKNOWNS,
 ) -> Window:
-    """The window of years, with the blocks dug in them and those not dug that the relaxation begins by their end; where they make more than
+    """The window of years, with the blocks mined in them and those not mined that the relaxation begins by their end; where they make more than
     this many unknowns those whose expected year is nearest to the middle.
 
-    cumulative  the share of each block that the relaxation has dug by the end of each year: shape (blocks, years)
+    cumulative  the share of each block that the relaxation has mined by the end of each year: shape (blocks, years)
     """
     first, last = years
     is_here = (schedule.year >= first) & (schedule.year < last)

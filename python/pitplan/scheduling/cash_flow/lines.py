@@ -20,7 +20,7 @@ from pitplan.economics import period_costs, smelter_terms
 from pitplan.economics.cost_lines import PROCESSING, ROYALTY, CostLines, cost_lines
 from pitplan.economics.period_costs import MINING_COST, PROCESSING_COST, SELLING_COST, yearly_prices
 from pitplan.economics.weighing import DEPTH, HAULAGE, MILLIONTHS, MINING
-from pitplan.pits import shell_tables
+from pitplan.pits.shells import ratio
 from pitplan.plan import Plan
 from pitplan.scheduling.flow.material import column_of, names_of
 from pitplan.scheduling.flow.opening import Lots, contained
@@ -294,12 +294,12 @@ def physicals(operation: Operation, sales: dict[str, Sale]) -> Lines:
     values, project = operation.plan.values, operation.plan.project
     total, ore = operation.mined(values.tonnes), operation.ore(values.tonnes)
     waste, feed = np.maximum(total - ore, 0.0), operation.fed_anywhere(operation.amounts.feed)
-    found = {"total_tonnes": total, "waste_tonnes": waste, "strip_ratio": shell_tables.ratio(waste, ore)}
+    found = {"total_tonnes": total, "waste_tonnes": waste, "strip_ratio": ratio(waste, ore)}
     found["feed_tonnes"] = feed
     contained = {name: operation.fed_anywhere(metal) for name, metal in operation.amounts.contained.items()}
     for metal in project.metals:
         content = contained[metal.name] / float(GRADE_UNITS[metal.unit])
-        found[f"head_grade_{metal.name}"] = shell_tables.ratio(content, feed)
+        found[f"head_grade_{metal.name}"] = ratio(content, feed)
     found |= {f"contained_{name}": amounts for name, amounts in contained.items()}
     found |= {f"recovered_{name}": sale.recovered.sum(axis=0) for name, sale in sales.items()}
     for metal in [metal for metal in project.metals if metal.smelter]:

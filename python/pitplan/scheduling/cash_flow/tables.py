@@ -13,20 +13,20 @@ from scipy.optimize import brentq
 
 from pitplan.config.economics import CashFlowRules
 from pitplan.config.project import Project
+from pitplan.core.tolerances import ROOT_ERROR
 from pitplan.economics import period_costs
-from pitplan.pits import shell_tables
 from pitplan.pits.best_worst_case import Rate, year_discounts
+from pitplan.pits.shells import ratio
 from pitplan.plan import Plan
 from pitplan.pushbacks.bench_table import benches_of_cells
-from pitplan.scheduling import pushback_schedule
 from pitplan.scheduling.flow.flows import Flows
 from pitplan.scheduling.methods import BLOCK
-from pitplan.scheduling.pushback_schedule import YearlySchedule
 
 from .lines import Amounts, CellAmounts, Lines, Operation, Statement, is_rounded, statement, units_of_price
 
 if TYPE_CHECKING:
-    from pitplan.scheduling.blocks.tables import ScheduledBlocks
+    from pitplan.scheduling.blocks.tables import BlockSchedule
+    from pitplan.scheduling.pushback_schedule import PushbackSchedule
 
 
 # The rates at which an internal rate of return is searched, up to 1,000 %.
@@ -115,7 +115,7 @@ class Finance:
         if not at_high <= 0 < at_low:
             # At one of the two rates the NPV is 0 within rounding.
             return float(low if abs(at_low) < abs(at_high) else high)
-        return float(brentq(lambda rate: self.npv(cash, rate), low, high, xtol=1e-12))
+        return float(brentq(lambda rate: self.npv(cash, rate), low, high, xtol=ROOT_ERROR))
 
     def payback(self, cash: Amounts) -> float:
         """Returns the years until the cumulative undiscounted cash flow is first 0 again after it was negative; 0 if it never is, nan if it
@@ -158,10 +158,10 @@ class BlockOperation(Operation):
 
     Attributes
     ----------
-    blocks : ScheduledBlocks
+    blocks : BlockSchedule
     """
 
-    blocks: ScheduledBlocks
+    blocks: BlockSchedule
 
     @cached_property
     def amounts(self) -> CellAmounts:
@@ -195,7 +195,7 @@ class BlockOperation(Operation):
         return np.stack([self.fed(way.metal[metal], process) for process, way in ways])
 
 
-def block_finances(blocks: ScheduledBlocks) -> list[Finance]:
+def block_finances(blocks: BlockSchedule) -> list[Finance]:
     """Returns the free cash flow of the schedule."""
     years = blocks.years
     return [Finance(blocks.planned.plan.project, statement(BlockOperation(blocks), BLOCK, years))]
@@ -207,10 +207,10 @@ class Material:
 
     Attributes
     ----------
-    schedule : YearlySchedule
+    schedule : PushbackSchedule
     """
 
-    schedule: YearlySchedule
+    schedule: PushbackSchedule
 
     @property
     def plan(self) -> Plan:
@@ -265,7 +265,7 @@ class PushbackOperation(Operation):
         return self.flows.years
 
     def mined(self, values: NDArray[np.float64]) -> Amounts:
-        return np.asarray(self.material.of_benches(values) @ self.flows.dug)
+        return np.asarray(self.material.of_benches(values) @ self.flows.mined)
 
     def ore(self, values: NDArray[np.float64]) -> Amounts:
         sent = self.flows.direct.sum(axis=0) + self.flows.stocked.sum(axis=0)
@@ -309,15 +309,15 @@ class PushbackOperation(Operation):
         return np.asarray(a_tonne @ feed + lay @ self.flows.opened.sum(axis=0))
 
 
-def operations(schedule: YearlySchedule) -> dict[str, PushbackOperation]:
+def operations(schedule: PushbackSchedule) -> dict[str, PushbackOperation]:
     """Returns what each method mines and feeds."""
     material = Material(schedule)
     return {method: PushbackOperation(material, flows) for method, flows in schedule.flows.items()}
 
 
-def pushback_finances(schedule: YearlySchedule) -> list[Finance]:
+def pushback_finances(schedule: PushbackSchedule) -> list[Finance]:
     """Returns the free cash flow of each method."""
-    years = pushback_schedule.years(schedule)
+    years = schedule.years
     return [
         Finance(it.plan.project, statement(it, method, years[years["case"] == method]))
         for method, it in operations(schedule).items()
@@ -372,9 +372,9 @@ def unit_costs(it: Statement, project: Project) -> Lines:
     sold = "recovered" if first.smelter is None else "payable"
     units = it.physicals[f"{sold}_{first.name}"] * units_of_price(first)
     return {
-        "cost_per_tonne_mined": shell_tables.ratio(mining, it.physicals["total_tonnes"]),
-        "cost_per_tonne_fed": shell_tables.ratio(site, it.physicals["feed_tonnes"]),
-        "c1_cost": shell_tables.ratio(site + selling - credit, units),
+        "cost_per_tonne_mined": ratio(mining, it.physicals["total_tonnes"]),
+        "cost_per_tonne_fed": ratio(site, it.physicals["feed_tonnes"]),
+        "c1_cost": ratio(site + selling - credit, units),
     }
 
 

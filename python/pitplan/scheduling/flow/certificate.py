@@ -16,7 +16,7 @@ from typing import Optional
 import numpy as np
 from numpy.typing import NDArray
 
-from pitplan.core.tolerances import SOLVER_SHARE
+from pitplan.core.tolerances import MILLIONTHS_ERROR, SOLVER_SHARE
 from pitplan.scheduling.certificate import (
     UNIT,
     Certificate,
@@ -120,7 +120,7 @@ class CertifiedShares:
     def mined(self) -> NDArray[np.int64]:
         """The share of each bench that is mined in each year, in millionths, shape (benches, years). By no year's end more of a bench is mined than of
         one before it, and no year exceeds a limit of mining by what was rounded."""
-        by_end = np.floor(np.clip(self.flows.dug.cumsum(axis=1), 0.0, 1.0) * UNIT + 0.5).astype(np.int64)
+        by_end = np.floor(np.clip(self.flows.mined.cumsum(axis=1), 0.0, 1.0) * UNIT + 0.5).astype(np.int64)
         for bench, others in enumerate(self.flows.model.benches.waits):
             for other in others:
                 by_end[bench] = np.minimum(by_end[bench], by_end[other])
@@ -152,7 +152,7 @@ class CertifiedShares:
         """What each whole bench uses of each limit of mining, and the limit by year, both in millionths."""
         model, years = self.flows.model, self.flows.years
         benches, limits = model.benches, model.of_mining
-        found = [(model.dug(name), of_years) for name, of_years in zip(limits.most, limits.of_years(years).T)]
+        found = [(model.mined(name), of_years) for name, of_years in zip(limits.most, limits.of_years(years).T)]
         if np.isfinite(limits.vertical_advance_rate):
             sunk = [(benches.pushback == number).astype(float) for number in np.unique(benches.pushback)]
             found += [(it, limits.sinking(years)) for it in sunk]
@@ -208,9 +208,9 @@ class CertifiedShares:
         key, total = parcel * years + year, share.cumsum()
         is_first = np.append(True, key[1:] != key[:-1])[: len(key)]
         start = (total - share)[is_first][is_first.cumsum() - 1]
-        mined, dug = self.mined[bench[parcel], year], self.flows.dug[bench[parcel], year]
-        scale = np.divide(mined, dug, out=np.zeros(len(key)), where=dug > 0)
-        until = np.minimum(np.floor((total - start) * scale + 1e-6).astype(np.int64), mined)
+        whole, mined = self.mined[bench[parcel], year], self.flows.mined[bench[parcel], year]
+        scale = np.divide(whole, mined, out=np.zeros(len(key)), where=mined > 0)
+        until = np.minimum(np.floor((total - start) * scale + MILLIONTHS_ERROR).astype(np.int64), whole)
         before = np.where(is_first, 0, np.append(0, until[:-1])[: len(key)])
         return Shares(parcel, year, to, until - before)
 
@@ -242,7 +242,7 @@ class CertifiedShares:
         direct = np.array(
             [self.places[Destination(number)] for number in range(len(self.flows.opened))], dtype=np.int64
         )
-        opened = np.floor(self.flows.opened[process, lot, later] * UNIT + 1e-6).astype(np.int64)
+        opened = np.floor(self.flows.opened[process, lot, later] * UNIT + MILLIONTHS_ERROR).astype(np.int64)
         some = opened > 0
         parts = (
             Shares(bench, year, np.zeros(len(bench), dtype=np.int64), self.mined[bench, year]),
@@ -412,9 +412,9 @@ class FlowCertificate:
             amounts = to.amounts(model, name)
             if to.lag == 0:
                 lot = 0.0 if to.process is None else lots[to.process]
-                yield number, self.column(model.dug(name), amounts, lot), 0
+                yield number, self.column(model.mined(name), amounts, lot), 0
             else:
-                yield number, self.column(model.dug(name)), 0
+                yield number, self.column(model.mined(name)), 0
                 yield number, self.column(0.0, amounts), to.lag
 
     def lying(self, stockpile: int) -> Iterator[tuple[int, NDArray[np.float64], int]]:

@@ -226,7 +226,7 @@ class Conflict:
         for bench, year in np.argwhere(held):
             before = [*np.flatnonzero(benches.before[bench]), bench]
             for name, until in zip(limits.most, limits.of_years(flow.years).cumsum(axis=0).T):
-                if flow.model.dug(name)[before].sum() > until[year]:
+                if flow.model.mined(name)[before].sum() > until[year]:
                     found.setdefault((name, MAX), np.zeros(flow.years, dtype=bool))[: year + 1] = True
             above = [other for other in before if benches.pushback[other] == benches.pushback[bench]]
             if len(above) > limits.sinking(flow.years).cumsum()[year]:
@@ -271,15 +271,15 @@ class Conflict:
             for limit, by in missed
             for year in np.flatnonzero(by)
         ]
-        return f"infeasible: no schedule of these pushbacks keeps all limits; at least it misses {'; '.join(parts)}; {self.conflict()}"
+        return f"infeasible: the limits cannot all be met. Smallest shortfall: {'; '.join(parts)}. {self.conflict()}"
 
     def conflict(self) -> str:
         """Names the limits of the smallest conflict that is found, with their years and amounts."""
         last, found = self.smallest
         years = last.years_of(found)
         named = ", ".join(self.named(name, side, years[name, side]) for name, side in sorted(years))
-        sure = "and without any one of them the others do not" if found.is_irreducible else "perhaps not all of them"
-        return f"these limits conflict, {sure}: {named}"
+        advice = "relax one" if found.is_irreducible else "perhaps with more limits than it takes"
+        return f"Conflict, {advice}: {named}"
 
     def years_of(self, conflict: ConflictSet) -> dict[tuple[str, str], NDArray[np.bool_]]:
         """Returns the years of the limits of a conflict, by name and side; where one holds in all years, those that have dual values."""

@@ -16,7 +16,7 @@ from pitplan.scheduling.limits import Prices
 from .model import FlowModel
 from .programme import FlowProgramme
 
-PARTS = ("dug", "direct", "stocked", "reclaimed", "opened", "dumped")
+PARTS = ("mined", "direct", "stocked", "reclaimed", "opened", "dumped")
 
 
 @dataclass(frozen=True)
@@ -26,7 +26,7 @@ class Flows:
     Attributes
     ----------
     model : FlowModel
-    dug : array, shape (benches, years)
+    mined : array, shape (benches, years)
         Shares of benches.
     direct : array, shape (processes, parcels, years)
         Shares of parcels that processes take in the year in which they are mined.
@@ -41,7 +41,7 @@ class Flows:
     """
 
     model: FlowModel
-    dug: NDArray[np.float64]
+    mined: NDArray[np.float64]
     direct: NDArray[np.float64]
     stocked: NDArray[np.float64]
     reclaimed: NDArray[np.float64]
@@ -56,7 +56,7 @@ class Flows:
     @property
     def waste(self) -> NDArray[np.float64]:
         """Shares of parcels that go to waste, shape (parcels, years)."""
-        return np.maximum(self.dug[self.model.ore.bench] - self.sent, 0.0)
+        return np.maximum(self.mined[self.model.ore.bench] - self.sent, 0.0)
 
     @property
     def sent(self) -> NDArray[np.float64]:
@@ -66,7 +66,7 @@ class Flows:
     @cached_property
     def wasted(self) -> NDArray[np.float64]:
         """Tonnes of waste by bench, set of dumps and year."""
-        return self.model.waste.by_bench(self.dug, self.sent)
+        return self.model.waste.by_bench(self.mined, self.sent)
 
     @cached_property
     def placed(self) -> NDArray[np.float64]:
@@ -83,7 +83,7 @@ class Flows:
         """What flows of each bench as it is mined, shape (benches, years, names): rock, ore that is processed at once, and the costs of stacking
         and dumps."""
         model, ore = self.model, self.model.ore
-        flows = model.problem.priced(self.dug[:, :, None] * model.benches.amounts[:, None, :])
+        flows = model.problem.priced(self.mined[:, :, None] * model.benches.amounts[:, None, :])
         for number, name in enumerate(model.benches.names):
             if name in ore.amounts:
                 np.add.at(flows[:, :, number], ore.bench, np.einsum("kp,kpt->pt", ore.of(name), self.direct))
@@ -134,12 +134,12 @@ class Flows:
 
     @property
     def years(self) -> int:
-        return self.dug.shape[1]
+        return self.mined.shape[1]
 
     def used(self, name: str) -> NDArray[np.float64]:
         """Returns what flows of a limited amount in each year, shape (years,)."""
         fed = self.processed(name).sum(axis=(0, 1)) + self.from_opening(name).sum(axis=(0, 1))
-        return np.asarray(self.model.dug(name) @ self.dug + fed)
+        return np.asarray(self.model.mined(name) @ self.mined + fed)
 
     def used_in(self, name: str, process: int) -> NDArray[np.float64]:
         """Returns what a process takes of an amount in each year, shape (years,)."""
@@ -160,7 +160,7 @@ class Flows:
     def moved(self) -> NDArray[np.float64]:
         """What is mined and fed by year, in rows: shape (rows, years)."""
         fed = [it.reshape(np.prod(it.shape[:2], dtype=int), self.years) for it in (self.fed, self.opened)]
-        return np.concatenate([self.dug, *fed])
+        return np.concatenate([self.mined, *fed])
 
     def until(self, year: int) -> Flows:
         """Returns the flows up to a year; nothing moves in later years."""
@@ -180,15 +180,17 @@ class Flows:
         return int(np.flatnonzero(moved)[-1]) + 1 if moved.any() else 0
 
 
-def none_of(model: FlowModel, dug: NDArray[np.float64]) -> Flows:
+def none_of(model: FlowModel, mined: NDArray[np.float64]) -> Flows:
     """Returns flows in which all that is mined is waste, with dumps on the cheapest ones."""
     shape, count = (model.ore.processes, len(model.ore), model.years), len(model.stockpiles)
     opened = np.zeros((model.ore.processes, len(model.opening.ore), model.years))
     dumped = model.waste.shares(np.zeros((model.waste.sets, len(model.dumps), model.years)))
-    return Flows(model, dug, np.zeros(shape), np.zeros((count, *shape[1:])), np.zeros((count, *shape)), opened, dumped)
+    return Flows(
+        model, mined, np.zeros(shape), np.zeros((count, *shape[1:])), np.zeros((count, *shape)), opened, dumped
+    )
 
 
-def best(model: FlowModel, dug: NDArray[np.float64]) -> Flows:
+def best(model: FlowModel, mined: NDArray[np.float64]) -> Flows:
     """Returns the best flows of what is mined in all years.
 
     Raises
@@ -198,11 +200,11 @@ def best(model: FlowModel, dug: NDArray[np.float64]) -> Flows:
     KeyboardInterrupt
         If the run is interrupted.
     """
-    programme = FlowProgramme(model, dug)
+    programme = FlowProgramme(model, mined)
     if not len(programme.gain):
-        return none_of(model, dug)
+        return none_of(model, mined)
     found = programme.solved()
-    empty = none_of(model, dug)
+    empty = none_of(model, mined)
     empty.direct[model.direct.index] = found.direct
     empty.reclaimed[model.reclaimed.index] = found.reclaimed
     empty.stocked[model.stocked.index] = found.stocked
@@ -214,14 +216,14 @@ def best(model: FlowModel, dug: NDArray[np.float64]) -> Flows:
 
 def within(flows: Flows) -> Flows:
     """Returns the flows without the solver's tolerance: within what is mined, what is stocked, and the maxima of each year."""
-    dug = flows.dug[flows.model.ore.bench]
+    mined = flows.mined[flows.model.ore.bench]
     direct, stocked, reclaimed, opened = (
         np.where(part > SOLVER_SHARE, part, 0.0)
         for part in (flows.direct, flows.stocked, flows.reclaimed, flows.opened)
     )
     opened *= share_of(np.ones(opened.shape[1]), opened.sum(axis=(0, 2)))[:, None]
-    direct *= share_of(dug, direct.sum(axis=0))
-    stocked *= share_of(np.maximum(dug - direct.sum(axis=0), 0.0), stocked.sum(axis=0))
+    direct *= share_of(mined, direct.sum(axis=0))
+    stocked *= share_of(np.maximum(mined - direct.sum(axis=0), 0.0), stocked.sum(axis=0))
     stock = np.zeros(stocked.shape[:2])
     found = replace(flows, direct=direct, stocked=stocked, reclaimed=reclaimed, opened=opened)
     for year in range(flows.years):
@@ -247,7 +249,7 @@ def keep_maxima(flows: Flows, year: int) -> None:
         again = model.reclaimed_of(name) * flows.reclaimed[..., year]
         lay = model.opening.ore.of(name) * flows.opened[..., year]
         fed = (amounts * flows.direct[:, :, year]).sum() + again.sum() + lay.sum()
-        free = max(float(most - model.dug(name) @ flows.dug[:, year]), 0.0)
+        free = max(float(most - model.mined(name) @ flows.mined[:, year]), 0.0)
         if fed > free:
             takes = (amounts > 0).any(axis=1) | (model.opening.ore.of(name) > 0).any(axis=1)
             flows.direct[takes, :, year] *= free / fed
@@ -255,25 +257,25 @@ def keep_maxima(flows: Flows, year: int) -> None:
             flows.opened[takes, :, year] *= free / fed
 
 
-def richest_first(model: FlowModel, dug: NDArray[np.float64], prices: Optional[Prices] = None) -> Flows:
+def richest_first(model: FlowModel, mined: NDArray[np.float64], prices: Optional[Prices] = None) -> Flows:
     """Returns flows in which each year's ore goes where it gains most per tonne of feed, the richest first, as far as the maxima allow.
 
     Nothing is stockpiled, and waste goes to the cheapest dump. With prices the gain is less those of the maxima, as the linear programme weighs it.
     """
-    flows, feed = none_of(model, dug), model.ore.feed
+    flows, feed = none_of(model, mined), model.ore.feed
     process, parcel = model.direct.index
     names = [name for name in model.problem.limits.most if model.ore.of(name).any()]
     takes = np.array([model.direct.of(model.ore.of(name)) for name in names]).reshape(len(names), len(process))
     of_years = dict(zip(model.problem.limits.most, model.problem.limits.of_years(model.years).T))
-    free = np.array([of_years[name] - model.dug(name) @ dug for name in names]).reshape(len(names), model.years)
+    free = np.array([of_years[name] - model.mined(name) @ mined for name in names]).reshape(len(names), model.years)
     saved = model.waste.ore.T @ model.waste.at_prices(prices or {})
-    for year in np.flatnonzero(dug.any(axis=0)):
+    for year in np.flatnonzero(mined.any(axis=0)):
         gain = model.gains[process, parcel, year] * model.discounts[year] + saved[parcel, year]
         for name, part in zip(names, takes):
             gain = gain - part * (0.0 if prices is None else prices.get((name, "max"), np.zeros(model.years))[year])
-        some = np.flatnonzero((gain > 0) & (dug[model.ore.bench[parcel], year] > 0))
+        some = np.flatnonzero((gain > 0) & (mined[model.ore.bench[parcel], year] > 0))
         order = some[np.argsort(-gain[some] / feed[parcel[some]], kind="stable")]
-        left, there = np.maximum(free[:, year], 0.0), dug[model.ore.bench, year].copy()
+        left, there = np.maximum(free[:, year], 0.0), mined[model.ore.bench, year].copy()
         for pair in order.tolist():
             share = room(takes[:, pair], left, there[parcel[pair]])
             if share > SOLVER_SHARE:

@@ -203,9 +203,9 @@ class Waste:
         """The most that a tonne saves that goes to no dump: any amount if one may lack room."""
         return np.inf if self.is_limited else float(self.costs.max(initial=0.0))
 
-    def by_bench(self, dug: Floats, sent: Floats) -> Floats:
+    def by_bench(self, mined: Floats, sent: Floats) -> Floats:
         """Returns the tonnes of waste by bench, set and year; `sent` are the shares of parcels that go elsewhere, shape (parcels, years)."""
-        found = self.rock[:, :, None] * dug[:, None, :]
+        found = self.rock[:, :, None] * mined[:, None, :]
         np.subtract.at(found, self.bench, self.ore.T[:, :, None] * sent[:, None, :])
         return np.maximum(found, 0.0)
 

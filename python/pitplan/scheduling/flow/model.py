@@ -361,7 +361,7 @@ class FlowModel:
         limits = self.problem.limits
         return list(dict.fromkeys([*limits.most, *limits.least]))
 
-    def dug(self, name: str) -> NDArray[np.float64]:
+    def mined(self, name: str) -> NDArray[np.float64]:
         """Returns what each whole bench adds to an amount by mining alone."""
         return self.benches.of(name) if name in self.benches.names else np.zeros(len(self.benches))
 

@@ -24,7 +24,7 @@ from .material import joined, ore_of
 from .model import OpeningOre
 
 if TYPE_CHECKING:
-    from pitplan.scheduling.pushback_schedule import YearlySchedule
+    from pitplan.scheduling.pushback_schedule import PushbackSchedule
 
 
 SOURCE = "[schedule.stockpiles] opening"
@@ -65,7 +65,7 @@ def of_plan(plan: Plan, rules: ScheduleRules) -> Optional[Lots]:
     table = pd.DataFrame([row_of(opening, project) for _, opening in given])
     grid = Grid((1, 1, len(given)), (0.0, 0.0, 0.0), (1.0, 1.0, 1.0), np.arange(len(given)))
     values = block_values.values_of(table, grid, project, f"{plan.project.path}: {SOURCE}")
-    lots = Plan(project, table, grid, values, plan.walls, np.zeros(len(given), dtype=bool), SOURCE)
+    lots = Plan(project, table, grid, values, plan.domains, np.zeros(len(given), dtype=bool), SOURCE)
     return Lots(lots, np.array([number for number, _ in given], dtype=np.int64))
 
 
@@ -107,7 +107,7 @@ def contained(lots: Lots) -> dict[str, NDArray[np.float64]]:
     }
 
 
-def of_opening(schedule: YearlySchedule, flows: Flows) -> pd.DataFrame:
+def of_opening(schedule: PushbackSchedule, flows: Flows) -> pd.DataFrame:
     """Returns the rows of flows.csv of a method: one per year, lot and process that takes some of it; they have no bench."""
     lots, names = schedule.lots, schedule.names
     if lots is None or not flows.opened.any():
@@ -130,7 +130,7 @@ def of_opening(schedule: YearlySchedule, flows: Flows) -> pd.DataFrame:
     return pd.DataFrame(found)
 
 
-def balance_at_start(schedule: YearlySchedule, name: str) -> pd.Series:
+def balance_at_start(schedule: PushbackSchedule, name: str) -> pd.Series:
     """Returns feed_tonnes and contained_METAL on a stockpile at the start."""
     lots = schedule.lots
     number = [it.name for it in schedule.model.stockpiles].index(name)

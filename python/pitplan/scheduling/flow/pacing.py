@@ -117,16 +117,16 @@ class Pacing:
         """What mining each bench earns in each year if all of it is waste, discounted, shape (benches, years)."""
         return np.asarray(self.model.mining_cash - self.model.waste.rock @ self.dumping)
 
-    def value(self, dug: NDArray[np.float64]) -> float:
+    def value(self, mined: NDArray[np.float64]) -> float:
         """Returns nearly the net present value of shares of benches in all years, shape (benches, years), with the richest bins first."""
         model, limits = self.model, self.model.problem.limits
-        ore = {name: np.einsum("bkc,by->ykc", values, dug) for name, values in self.by_bench.items()}
+        ore = {name: np.einsum("bkc,by->ykc", values, mined) for name, values in self.by_bench.items()}
         premiums = {name: more[:, None, None] for name, more in self.premiums.items()}
         premiums |= {name: -price[:, None, None] for name, price in self.blended.items()}
         most = dict(zip(limits.most, limits.of_years(model.years).T))
-        free = {name: amounts - model.dug(name) @ dug for name, amounts in most.items() if name not in self.blended}
+        free = {name: amounts - model.mined(name) @ mined for name, amounts in most.items() if name not in self.blended}
         gain = gained(with_prices(ore, premiums), free) @ model.discounts
-        return float(gain + (self.mined * dug).sum() - model.problem.costs(dug).sum())
+        return float(gain + (self.mined * mined).sum() - model.problem.costs(mined).sum())
 
     def coarse(self, order: NDArray[np.int64]) -> Course:
         """Returns the best course of an order of benches over a coarse grid."""
@@ -169,7 +169,7 @@ class Pacing:
         best = (gain == gain.max(axis=1, keepdims=True, initial=0.0)) & (gain > 0)
         nothing = np.zeros_like(gain)
         return {
-            name: self.model.dug(name) + (self.by_bench.get(name, nothing) * best).sum(axis=(1, 2))
+            name: self.model.mined(name) + (self.by_bench.get(name, nothing) * best).sum(axis=(1, 2))
             for name in self.model.problem.limits.most
         }
 
@@ -219,7 +219,7 @@ class Moves:
         fits = np.ones(len(first), dtype=bool)
         for name in limits.most:
             most = limits.greatest(name)
-            fits &= self.between(self.model.dug(name), first, last) <= most * (1 + SUM_ERROR)
+            fits &= self.between(self.model.mined(name), first, last) <= most * (1 + SUM_ERROR)
         if np.isfinite(limits.vertical_advance_rate):
             for pushback in np.unique(self.model.benches.pushback):
                 sunk = self.between((self.model.benches.pushback == pushback).astype(float), first, last)
@@ -259,9 +259,9 @@ class Moves:
         model, pacing = self.model, self.pacing
         limits, costs = model.problem.limits, model.problem.costs_of_years(model.years)
         of_years = limits.of_years(model.years)
-        mined = self.between(pacing.mined, *self.pairs)
+        present = self.between(pacing.mined, *self.pairs)
         ore = {name: self.between(values, *self.pairs) for name, values in pacing.by_bench.items()}
-        dug = {name: self.between(model.dug(name), *self.pairs) for name in limits.most}
+        mined = {name: self.between(model.mined(name), *self.pairs) for name in limits.most}
         found, regimes = np.empty((model.years, len(self.first))), dict[tuple[float, ...], NDArray[np.float64]]()
         for year, amounts in enumerate(of_years):
             premiums = {name: float(more[year]) for name, more in pacing.premiums.items()}
@@ -269,13 +269,13 @@ class Moves:
             key = (*amounts, *premiums.values())
             if key not in regimes:
                 free = {
-                    name: most - dug[name] for name, most in zip(limits.most, amounts) if name not in pacing.blended
+                    name: most - mined[name] for name, most in zip(limits.most, amounts) if name not in pacing.blended
                 }
                 regimes[key] = gained(with_prices(ore, premiums), free)
-            found[year] = mined[:, year] + regimes[key] * model.discounts[year] - costs[year]
+            found[year] = present[:, year] + regimes[key] * model.discounts[year] - costs[year]
             for name, most in zip(limits.most, amounts):
                 if name in model.of_mining.most:
-                    found[year][dug[name] > most * (1 + SUM_ERROR)] = -np.inf
+                    found[year][mined[name] > most * (1 + SUM_ERROR)] = -np.inf
         return found
 
 

@@ -132,13 +132,13 @@ class FlowOptimum:
 
 @dataclass(frozen=True)
 class FlowProgramme:
-    """The programme of a model; with `dug`, shape (benches, years), of what is mined already, so that only its flows are chosen. Without `paced` it
+    """The programme of a model; with `mined`, shape (benches, years), of what is mined already, so that only its flows are chosen. Without `paced` it
     has no rows that only schedules of whole benches must keep. With `near`, shape (benches, years), ore goes to processes and stockpiles only in the
     years in which its bench is expected to be mined. With `between`, two arrays of this shape, at least and at most these shares are mined by the end
     of each year."""
 
     model: FlowModel
-    dug: Optional[NDArray[np.float64]] = None
+    mined: Optional[NDArray[np.float64]] = None
     paced: bool = True
     near: Optional[NDArray[np.bool_]] = None
     between: Optional[tuple[NDArray[np.float64], NDArray[np.float64]]] = None
@@ -151,7 +151,7 @@ class FlowProgramme:
     def sizes(self) -> list[int]:
         """The number of unknowns: of mining, direct feed, to the stockpiles, in them, from them, from what lies there at the start, and of waste."""
         model, stocked = self.model, len(self.model.stocked)
-        counts = [0 if self.dug is not None else len(model.benches), len(model.direct)]
+        counts = [0 if self.mined is not None else len(model.benches), len(model.direct)]
         counts += [stocked, stocked, len(model.reclaimed), len(model.opened), len(model.waste.pairs[0])]
         return [count * self.years for count in counts]
 
@@ -168,7 +168,7 @@ class FlowProgramme:
     def gain(self) -> NDArray[np.float64]:
         """What each unknown adds to the value, discounted."""
         model = self.model
-        mined = by_end(model.mining_cash).ravel() if self.dug is None else np.zeros(0)
+        mined = by_end(model.mining_cash).ravel() if self.mined is None else np.zeros(0)
         parts = [
             mined,
             (model.direct.of(model.gains) * model.discounts).ravel(),
@@ -204,8 +204,8 @@ class FlowProgramme:
         model, count = self.model, len(self.model.ore)
         takes = incidence(model.direct.parcel, count)
         stocked = incidence(model.stocked.parcel, count)
-        if self.dug is not None:
-            most = self.dug[model.ore.bench].ravel()
+        if self.mined is not None:
+            most = self.mined[model.ore.bench].ravel()
             return self.row(None, kron(takes, self.each_year), kron(stocked, self.each_year), None, None), most
         mined = kron(incidence(model.ore.bench, len(model.benches)).T, self.step)
         parts = (-mined, kron(takes, self.each_year), kron(stocked, self.each_year), None, None)
@@ -242,22 +242,22 @@ class FlowProgramme:
         ore, rock = waste.ore / waste.whole[:, None], waste.rock.T / waste.whole[:, None]
         sent = [kron(csr_matrix(ore[:, uses.parcel]), self.each_year) for uses in (model.direct, model.stocked)]
         dumped = kron(incidence(waste.pairs[0], waste.sets), self.each_year)
-        mined = None if self.dug is not None else -kron(csr_matrix(rock), self.step)
+        mined = None if self.mined is not None else -kron(csr_matrix(rock), self.step)
         rows = self.row(mined, *sent, None, None, None, dumped)
-        due = np.zeros(waste.sets * self.years) if self.dug is None else (rock @ self.dug).ravel()
+        due = np.zeros(waste.sets * self.years) if self.mined is None else (rock @ self.mined).ravel()
         yield rows, due
         yield -rows, -due
 
     @cached_property
     def limits(self) -> list[Limit]:
-        """All limits of years, with those of stockpiles and dumps; without those of mining if it is given."""
+        """All yearly limits, including stockpiles and dumps. Mining limits are left out if the mining is given."""
         model, limits = self.model, self.model.problem.limits
         most, least = limits.of_years(self.years).T, limits.least_of_years(self.years)
         found = [Limit(name, MAX, self.used(name), amount) for name, amount in zip(limits.most, most)]
         found += [Limit(name, MIN, self.used(name), amount) for name, amount in least.items()]
-        if self.dug is not None:
+        if self.mined is not None:
             found = [
-                Limit(it.name, it.side, it.used, it.amount - model.dug(it.name) @ self.dug)
+                Limit(it.name, it.side, it.used, it.amount - model.mined(it.name) @ self.mined)
                 for it in found
                 if model.is_of_ore(it.name)
             ]
@@ -268,7 +268,7 @@ class FlowProgramme:
     def used(self, name: str) -> csr_matrix:
         """Returns what each unknown adds to an amount in each year, shape (years, unknowns)."""
         model = self.model
-        mined = None if self.dug is not None else kron(csr_matrix(model.dug(name)[None]), self.step)
+        mined = None if self.mined is not None else kron(csr_matrix(model.mined(name)[None]), self.step)
         amounts = model.ore.of(name)
         direct = kron(csr_matrix(model.direct.of(amounts)[None]), self.each_year)
         again = kron(csr_matrix(model.reclaimed.of(model.reclaimed_of(name))[None]), self.each_year)
@@ -282,8 +282,8 @@ class FlowProgramme:
         return Limit(f"{ADVANCE}{pushback}", MAX, self.row(mined, None, None, None, None), most)
 
     def capacities_of_stockpiles(self) -> Iterator[Limit]:
-        """The limits of what lies on each stockpile at the end of each year, in tonnes of feed: of what is placed there, beside what is left of what
-        lay there at the start."""
+        """The limits of the tonnes of feed on each stockpile at the end of each year, counting ore stacked in the schedule and what remains of the
+        opening stock."""
         model, until = self.model, csr_matrix(np.tril(np.ones((self.years, self.years))))
         stockpile, parcel = model.stocked.index
         for number, (it, (least, most)) in enumerate(zip(model.stockpiles, model.rooms)):
@@ -314,12 +314,12 @@ class FlowProgramme:
     @cached_property
     def costs(self) -> NDArray[np.float64]:
         """What each year costs if the mine runs, discounted; nothing if mining is given."""
-        return np.zeros(self.years) if self.dug is not None else self.model.problem.costs_of_years(self.years)
+        return np.zeros(self.years) if self.mined is not None else self.model.problem.costs_of_years(self.years)
 
     @cached_property
     def programme(self) -> Programme:
         """All rows: order, parcels, stockpile, lots, waste, then limits, and limits of running years."""
-        parts = [] if self.dug is not None else [self.order_rows()]
+        parts = [] if self.mined is not None else [self.order_rows()]
         parts += [self.parcel_rows(), *self.stock_rows(), *self.opening_rows(), *self.waste_rows()]
         parts += [it.rows for it in self.limits]
         matrix, most = vstack([rows for rows, _ in parts], format="csr"), np.concatenate([right for _, right in parts])
@@ -344,7 +344,7 @@ class FlowProgramme:
     def able_to_flow(self) -> NDArray[np.float64]:
         """The share of each bench that can be reached, and 1 for each flow, or 0 if its bench is not mined by then."""
         model, (mined, *_, opened, wasted) = self.model, self.sizes
-        near = self.near if self.dug is None else self.dug > 0
+        near = self.near if self.mined is None else self.mined > 0
         if self.between is not None:
             least, most = self.between
             near = most > np.pad(least[:, :-1], ((0, 0), (1, 0)))
@@ -356,7 +356,7 @@ class FlowProgramme:
         later = np.pad(placed[:, :-1], ((0, 0), (1, 0)))
         parts = [of_ore[model.direct.parcel], of_ore[model.stocked.parcel], placed[model.stocked.parcel]]
         flows = [part.ravel().astype(float) for part in (*parts, later[model.reclaimed.parcel])]
-        reach = self.reachable.ravel() if self.dug is None else np.zeros(0)
+        reach = self.reachable.ravel() if self.mined is None else np.zeros(0)
         return np.concatenate([reach, *flows, np.ones(opened + wasted)])
 
     def order_rows(self) -> tuple[csr_matrix, NDArray[np.float64]]:
@@ -423,7 +423,7 @@ class FlowProgramme:
 
     def optimum(self, unknowns: NDArray[np.float64], value: float, prices: Prices) -> FlowOptimum:
         """Returns the optimum by its parts; nothing is mined if that is worth more."""
-        if value < 0 and self.dug is None and self.between is None and not self.model.asks_least:
+        if value < 0 and self.mined is None and self.between is None and not self.model.asks_least:
             unknowns, value = np.zeros_like(unknowns), 0.0
         ends = np.cumsum(self.sizes)
         by_end_of_years, direct, stocked, _, reclaimed, opened, dumped = (

@@ -16,7 +16,7 @@ from pitplan.config.schedule import Effort
 from pitplan.core.tolerances import MISSED_LIMIT, SOLVER_SHARE, SOLVER_SUM, SUM_ERROR
 from pitplan.errors import PlanError
 from pitplan.pushbacks.bench_table import ORE, PushbackBenches
-from pitplan.scheduling.bench_sequencing import Problem, Sequence, by_lead, dig, leads
+from pitplan.scheduling.bench_sequencing import Problem, Sequence, by_lead, leads, mine_in_order
 from pitplan.scheduling.highs import Programme
 from pitplan.scheduling.highs_process import at_a_time, solve
 
@@ -113,15 +113,15 @@ def in_order(benches: PushbackBenches, key: NDArray[np.float64], second: NDArray
     return np.lexsort((np.arange(len(benches)), second, first))
 
 
-def keeps(model: FlowModel, dug: NDArray[np.float64]) -> bool:
+def keeps(model: FlowModel, mined: NDArray[np.float64]) -> bool:
     """Returns whether each bench is started when all that it waits for is mined, and no year exceeds a limit of mining, within a tolerance."""
-    benches, limits, years = model.benches, model.of_mining, dug.shape[1]
-    done = dug.cumsum(axis=1)
+    benches, limits, years = model.benches, model.of_mining, mined.shape[1]
+    done = mined.cumsum(axis=1)
     for bench, others in enumerate(benches.waits):
-        if (done[others][:, dug[bench] > 0] < 1 - SUM_ERROR).any():
+        if (done[others][:, mined[bench] > 0] < 1 - SUM_ERROR).any():
             return False
-    sunk = np.stack([dug[benches.pushback == pushback].sum(axis=0) for pushback in np.unique(benches.pushback)])
-    is_within = (limits.amounts(benches).T @ dug).T <= limits.of_years(years) * (1 + MISSED_LIMIT)
+    sunk = np.stack([mined[benches.pushback == pushback].sum(axis=0) for pushback in np.unique(benches.pushback)])
+    is_within = (limits.amounts(benches).T @ mined).T <= limits.of_years(years) * (1 + MISSED_LIMIT)
     return bool(is_within.all() and (sunk <= limits.sinking(years) + MISSED_LIMIT).all())
 
 
@@ -142,20 +142,20 @@ def whole_shares(cumulative: NDArray[np.float64], slight: float) -> NDArray[np.f
 PROGRAMMES, OF_LARGE, GAINED = 24, 8, 1e-4
 
 
-def improved_depths(model: FlowModel, dug: NDArray[np.float64], value: float) -> Optional[NDArray[np.float64]]:
+def improved_depths(model: FlowModel, mined: NDArray[np.float64], value: float) -> Optional[NDArray[np.float64]]:
     """Returns shares of benches by year that are worth more than those of a schedule, near it; None if none are found.
 
     Parameters
     ----------
     model : FlowModel
-    dug : array, shape (benches, years)
+    mined : array, shape (benches, years)
         Shares of whole benches, each begun when those that it waits for are through.
     value : float
         The net present value of the schedule.
     """
     found, idle = None, 0
     for number in range(OF_LARGE if FlowProgramme(model).is_large else PROGRAMMES):
-        least, most = around(model.benches, dug.cumsum(axis=1), deeper=number % 2 == 0)
+        least, most = around(model.benches, mined.cumsum(axis=1), deeper=number % 2 == 0)
         try:
             optimum = FlowProgramme(model, between=(least, most)).solved()
         except PlanError:
@@ -164,7 +164,7 @@ def improved_depths(model: FlowModel, dug: NDArray[np.float64], value: float) ->
         gained = optimum.value - value
         idle = 0 if gained > GAINED * abs(value) else idle + 1
         if gained > SOLVER_SHARE * abs(value) and keeps(model, shares):
-            found = dug = shares
+            found = mined = shares
             value = optimum.value
         if idle == 2:
             break
@@ -211,7 +211,7 @@ MOST_KINDS, COMPARED = 48, 2
 # How often an order is mined more slowly because its waste finds no room.
 SLOWER = 15
 # The shares of benches by year at a pace.
-Digs = Callable[[NDArray[np.float64]], NDArray[np.float64]]
+MineAt = Callable[[NDArray[np.float64]], NDArray[np.float64]]
 
 
 class NoSchedule(PlanError):
@@ -253,7 +253,7 @@ class Pace:
         for names in self.sets:
             problem = self.paced_by(names)
             for lead in leads(problem.benches):
-                yield lead, problem, dig(problem, by_lead(problem.benches, lead), years)
+                yield lead, problem, mine_in_order(problem, by_lead(problem.benches, lead), years)
 
 
 def pace_of(problem: Problem, assigned: PushbackBenches) -> Pace:
@@ -285,29 +285,29 @@ def by_rule(model: FlowModel, pace: Pace, years: Optional[int]) -> tuple[Flows, 
     pacing = Pacing(model)
     lead, problem, shares = max(found, key=lambda it: pacing.value(padded(it[-1], longest)))
 
-    def dig_at(pace: NDArray[np.float64]) -> NDArray[np.float64]:
-        return padded(dig(problem, replace(by_lead(problem.benches, lead), pace=pace), longest), longest)
+    def mine_at(pace: NDArray[np.float64]) -> NDArray[np.float64]:
+        return padded(mine_in_order(problem, replace(by_lead(problem.benches, lead), pace=pace), longest), longest)
 
-    flows = dumped_by_rule(model, padded(shares, longest), dig_at)
+    flows = dumped_by_rule(model, padded(shares, longest), mine_at)
     return flows.cut(flows.last), lead
 
 
-def dumped_by_rule(model: FlowModel, dug: NDArray[np.float64], dig_at: Digs) -> Flows:
+def dumped_by_rule(model: FlowModel, mined: NDArray[np.float64], mine_at: MineAt) -> Flows:
     """Returns the flows of what is mined with the richest ore first and waste on the cheapest dumps with room. Where none exists, less is mined;
     after SLOWER trials waste may still find none."""
-    flows = richest_first(model, dug)
+    flows = richest_first(model, mined)
     for _ in range(SLOWER if model.waste.sets else 0):
         dumped, lacking = model.waste.placed(flows.wasted.sum(axis=0))
         flows = replace(flows, dumped=dumped)
         if lacks_nothing(flows, lacking):
             break
-        flows = richest_first(model, dig_at(slower(flows, lacking)))
+        flows = richest_first(model, mine_at(slower(flows, lacking)))
     return flows
 
 
 def slower(flows: Flows, lacking: NDArray[np.float64]) -> NDArray[np.float64]:
     """Returns the rock that is mined by the end of each year if it is less by that with as much waste as found no room."""
-    mined, wasted = flows.model.rock @ flows.dug, flows.wasted.sum(axis=(0, 1))
+    mined, wasted = flows.model.rock @ flows.mined, flows.wasted.sum(axis=(0, 1))
     rock = lacking * np.divide(mined, wasted, out=np.ones_like(mined), where=wasted > 0)
     return np.maximum.accumulate(np.maximum(mined.cumsum() - rock.cumsum(), 0.0))
 
@@ -333,7 +333,7 @@ def from_optimum(model: FlowModel, optimum: FlowOptimum, rule: Optional[Flows] =
     NoSchedule
         If none of them meets the minimums.
     """
-    given = None if rule is None else feasible(model, padded(rule.dug, model.years))
+    given = None if rule is None else feasible(model, padded(rule.mined, model.years))
     made = [] if given is None else [given]
     made += made_of_orders(model, optimum)
     if not made:
@@ -347,11 +347,11 @@ def made_of_orders(model: FlowModel, optimum: FlowOptimum) -> list[Flows]:
     tries = TRIED_OF_LARGE if FlowProgramme(model).is_large else TRIED
     found = orders_of(model, optimum, COMPARED * tries)
     if not model.asks_least:
-        cases = (case for it in found[:tries] for case in mined(model, it.order, optimum))
+        cases = (case for it in found[:tries] for case in cases_of_order(model, it.order, optimum))
         return [it for it in at_a_time(lambda case: fitting(model, *case), cases) if it is not None]
     made: list[Flows] = []
     for it in found[:TRIED_WITH_MINIMUMS]:
-        flows = (fitting(model, dug, dig_at) for dug, dig_at in mined(model, it.order, optimum))
+        flows = (fitting(model, mined, mine_at) for mined, mine_at in cases_of_order(model, it.order, optimum))
         made += [it for it in flows if it is not None]
         if len(made) >= TRIED:
             break
@@ -361,8 +361,8 @@ def made_of_orders(model: FlowModel, optimum: FlowOptimum) -> list[Flows]:
 def deepened(flows: Flows) -> Flows:
     """Returns the schedule with better depths of pushbacks by year, if they are found."""
     model = flows.model
-    dug = improved_depths(model, padded(flows.dug, model.years), flows.value)
-    found = None if dug is None else feasible(model, dug)
+    mined = improved_depths(model, padded(flows.mined, model.years), flows.value)
+    found = None if mined is None else feasible(model, mined)
     return flows if found is None else max(ended(without_loss(found)), flows, key=lambda it: it.value)
 
 
@@ -384,37 +384,37 @@ def orders_of(model: FlowModel, optimum: FlowOptimum, compared: int) -> list[Ord
     return sorted(again, key=lambda it: it.course.value, reverse=True) + found[compared:]
 
 
-def mined(
+def cases_of_order(
     model: FlowModel, order: NDArray[np.int64], optimum: FlowOptimum
-) -> Iterator[tuple[NDArray[np.float64], Digs]]:
+) -> Iterator[tuple[NDArray[np.float64], MineAt]]:
     """Yields the shares of benches by year of an order at its best pace, at the prices of the optimum; with minimums, stockpiles, dumps or blends, which
     this pace does not know, also at the pace of the optimum. With them it yields how the order is mined at another pace.
     """
     mining = Problem(model.benches, model.of_mining, model.problem.settings, model.problem.money)
 
-    def dig_at(pace: NDArray[np.float64]) -> NDArray[np.float64]:
-        return padded(dig(mining, Sequence(order, pace=pace), model.years), model.years)
+    def mine_at(pace: NDArray[np.float64]) -> NDArray[np.float64]:
+        return padded(mine_in_order(mining, Sequence(order, pace=pace), model.years), model.years)
 
     paces = [Pacing(model, optimum.prices).best(order).tonnes]
     paces += [model.rock @ optimum.cumulative] if model.asks_ore or model.stockpiles or model.waste.is_limited else []
     for pace in paces:
-        yield dig_at(pace), dig_at
+        yield mine_at(pace), mine_at
 
 
-def fitting(model: FlowModel, dug: NDArray[np.float64], dig_at: Digs) -> Optional[Flows]:
+def fitting(model: FlowModel, mined: NDArray[np.float64], mine_at: MineAt) -> Optional[Flows]:
     """Returns the best flows of what is mined, or of less where its waste finds no room; None if they cannot meet the minimums, or after SLOWER
     trials waste still finds none."""
     if not model.waste.is_limited:
-        return feasible(model, dug)
+        return feasible(model, mined)
     wider = with_overflow(model)
     for _ in range(SLOWER):
-        flows = feasible(wider, dug)
+        flows = feasible(wider, mined)
         if flows is None:
             return None
         lacking = flows.placed[-1]
         if lacks_nothing(flows, lacking):
             return replace(flows, model=model, dumped=model.waste.shares(flows.dumped[:, :-1]))
-        dug = dig_at(slower(flows, lacking))
+        mined = mine_at(slower(flows, lacking))
     return None
 
 
@@ -429,15 +429,15 @@ def with_overflow(model: FlowModel) -> FlowModel:
     )
 
 
-def feasible(model: FlowModel, dug: NDArray[np.float64]) -> Optional[Flows]:
+def feasible(model: FlowModel, mined: NDArray[np.float64]) -> Optional[Flows]:
     """Returns the best flows of what is mined; None if they cannot meet the minimums or find room in the dumps, or what is mined does not meet
     the minimums."""
     least = model.problem.limits.least_of_years(model.years)
     of_mining = {name: amounts for name, amounts in least.items() if not model.is_of_ore(name)}
-    if any((model.dug(name) @ dug < amounts * (1 - MISSED_LIMIT)).any() for name, amounts in of_mining.items()):
+    if any((model.mined(name) @ mined < amounts * (1 - MISSED_LIMIT)).any() for name, amounts in of_mining.items()):
         return None
     try:
-        return best(model, dug)
+        return best(model, mined)
     except PlanError:
         if model.asks_least or model.waste.is_limited:
             return None
@@ -449,7 +449,7 @@ def without_loss(flows: Flows) -> Flows:
     pays = paying(flows.earned, flows.model.benches)
     if pays.all() or flows.model.asks_least:
         return flows
-    less = best(flows.model, flows.dug * pays[:, None])
+    less = best(flows.model, flows.mined * pays[:, None])
     return max(less, flows, key=lambda it: it.value)
 
 
@@ -503,8 +503,8 @@ def best_schedule(model: FlowModel, effort: Effort) -> tuple[Optional[Flows], fl
         return None, most
     if most < 0 and not model.asks_least:
         most = 0.0
-    dug = whole_shares(found.unknowns[: flow.sizes[0]].reshape(-1, model.years), SOLVER_SUM)
-    flows = feasible(model, dug) if keeps(model, dug) else None
+    mined = whole_shares(found.unknowns[: flow.sizes[0]].reshape(-1, model.years), SOLVER_SUM)
+    flows = feasible(model, mined) if keeps(model, mined) else None
     if flows is None:
         return None, most
     return ended(without_loss(flows)), most

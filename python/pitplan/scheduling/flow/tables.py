@@ -16,7 +16,7 @@ from pitplan.config.material import MILL, PIT, WASTE, Dump, Stockpile
 from pitplan.core.tolerances import SOLVER_SUM, SUM_ERROR
 from pitplan.economics.cutoff_grades import RockCosts
 from pitplan.economics.period_costs import MINING_COST, PROCESSING_COST, SELLING_COST, SMELTED
-from pitplan.pits import shell_tables
+from pitplan.pits.shells import ratio
 from pitplan.plan import Plan, shown_name
 from pitplan.pushbacks.bench_table import benches_of_cells
 from pitplan.scheduling.limits import ADVANCE, DUMP, DUMPED, STOCK, SUM, GradeLimit, grade_limits, whole_price
@@ -26,7 +26,7 @@ from .material import FEED, SET, column_of
 from .opening import balance_at_start, of_opening
 
 if TYPE_CHECKING:
-    from pitplan.scheduling.pushback_schedule import YearlySchedule
+    from pitplan.scheduling.pushback_schedule import PushbackSchedule
 
 
 @dataclass(frozen=True)
@@ -84,10 +84,10 @@ class Lots:
 
     Attributes
     ----------
-    schedule : YearlySchedule
+    schedule : PushbackSchedule
     """
 
-    schedule: YearlySchedule
+    schedule: PushbackSchedule
 
     @property
     def plan(self) -> Plan:
@@ -142,7 +142,7 @@ class Lots:
         return {int(parcel): rows.to_numpy() for parcel, rows in self.sums.groupby("parcel").groups.items()}
 
 
-def flow_table(schedule: YearlySchedule) -> pd.DataFrame:
+def flow_table(schedule: PushbackSchedule) -> pd.DataFrame:
     """Returns one row per method, year, lot, source and destination with a flow.
 
     Columns: method, year, pushback, bench (elevation), bin, rock type and class if the table has them, source, destination, total_tonnes,
@@ -155,7 +155,7 @@ def flow_table(schedule: YearlySchedule) -> pd.DataFrame:
     return pd.concat(found, ignore_index=True)
 
 
-def of_method(schedule: YearlySchedule, method: str, lots: Lots) -> pd.DataFrame:
+def of_method(schedule: PushbackSchedule, method: str, lots: Lots) -> pd.DataFrame:
     flows = schedule.flows[method]
     parts = [of_move(flows, move, lots) for move in moves_of(flows, schedule.names)]
     parts += [*of_waste(flows, lots), of_opening(schedule, flows)]
@@ -170,7 +170,7 @@ def of_waste(flows: Flows, lots: Lots) -> Iterator[pd.DataFrame]:
     """Yields the rows of material that is no ore: all of it goes to waste as it is mined."""
     rows = np.flatnonzero(lots.sums["parcel"] < 0)
     bench, sets = lots.sums["bench"].to_numpy()[rows], -lots.sums["bin"].to_numpy()[rows]
-    for move in of_shares(flows, flows.dug[bench], sets):
+    for move in of_shares(flows, flows.mined[bench], sets):
         yield written(flows, move, lots, rows, np.arange(len(rows)))
 
 
@@ -229,7 +229,7 @@ def handled(found: pd.DataFrame, flows: Flows, move: Move, names: list[str]) -> 
     return found
 
 
-def feed_table(schedule: YearlySchedule) -> pd.DataFrame:
+def feed_table(schedule: PushbackSchedule) -> pd.DataFrame:
     """Returns one row per method, year and process.
 
     Columns: method, year, process, feed_tonnes, reclaimed_tonnes (of these from stockpiles), head_grade_METAL, contained_METAL,
@@ -250,13 +250,13 @@ def feed_table(schedule: YearlySchedule) -> pd.DataFrame:
     sums.insert(1, "reclaimed_tonnes", again.reindex(index, fill_value=0.0))
     for place, metal in enumerate(metals):
         unit = float(GRADE_UNITS[metal.unit])
-        grade = shell_tables.ratio(sums[f"contained_{metal.name}"].to_numpy() / unit, sums["feed_tonnes"].to_numpy())
+        grade = ratio(sums[f"contained_{metal.name}"].to_numpy() / unit, sums["feed_tonnes"].to_numpy())
         sums.insert(2 + place, f"head_grade_{metal.name}", grade)
     sums.index.names = KEYS
     return sums.join(cutoff_columns(schedule, sums.index)).reset_index()
 
 
-def stockpile_table(schedule: YearlySchedule) -> pd.DataFrame:
+def stockpile_table(schedule: PushbackSchedule) -> pd.DataFrame:
     """Returns one row per method, stockpile and year.
 
     Columns: method, stockpile, year; opening_tonnes, in_tonnes, out_tonnes and closing_tonnes of feed; and of what lies there at the end of the
@@ -271,7 +271,7 @@ def stockpile_table(schedule: YearlySchedule) -> pd.DataFrame:
     return pd.concat(found, ignore_index=True)
 
 
-def balance_of(schedule: YearlySchedule, method: str, name: str, flows: pd.DataFrame) -> pd.DataFrame:
+def balance_of(schedule: PushbackSchedule, method: str, name: str, flows: pd.DataFrame) -> pd.DataFrame:
     years = pd.RangeIndex(1, schedule.flows[method].years + 1, name="year")
     metals = schedule.pushbacks.plan.project.metals
     amounts = ["feed_tonnes", *(f"contained_{metal.name}" for metal in metals)]
@@ -292,17 +292,17 @@ def balance_of(schedule: YearlySchedule, method: str, name: str, flows: pd.DataF
     }
     for metal in metals:
         content = lies[f"contained_{metal.name}"].to_numpy() / float(GRADE_UNITS[metal.unit])
-        columns[f"grade_{metal.name}"] = shell_tables.ratio(content, closing.to_numpy())
+        columns[f"grade_{metal.name}"] = ratio(content, closing.to_numpy())
     for metal in metals:
         content = out[f"contained_{metal.name}"].to_numpy() / float(GRADE_UNITS[metal.unit])
-        columns[f"reclaimed_grade_{metal.name}"] = shell_tables.ratio(content, out["feed_tonnes"].to_numpy())
+        columns[f"reclaimed_grade_{metal.name}"] = ratio(content, out["feed_tonnes"].to_numpy())
     table = pd.DataFrame(columns, index=years)
     table.insert(0, "stockpile", name)
     table.insert(0, "method", method)
     return table.reset_index()[["method", "stockpile", "year", *columns]]
 
 
-def dump_table(schedule: YearlySchedule) -> pd.DataFrame:
+def dump_table(schedule: PushbackSchedule) -> pd.DataFrame:
     """Returns one row per method, dump and year: in_tonnes, closing_tonnes in the dump at the end of the year, and room_tonnes that its capacity
     leaves then; empty without a capacity."""
     flows, found = schedule.material_flows, []
@@ -320,7 +320,7 @@ def dump_table(schedule: YearlySchedule) -> pd.DataFrame:
     return pd.concat(found, ignore_index=True)
 
 
-def bound_table(schedule: YearlySchedule) -> pd.DataFrame:
+def bound_table(schedule: PushbackSchedule) -> pd.DataFrame:
     """Returns one row per limit and year: the price, discounted, from which the upper bound follows."""
     rows = [
         (name, side, year, price)
@@ -339,7 +339,7 @@ Floats = NDArray[np.float64]
 COLUMNS = ("method", "year", "limit", "used", "minimum", "maximum", "utilisation", "shadow_price")
 
 
-def limit_table(schedule: YearlySchedule) -> pd.DataFrame:
+def limit_table(schedule: PushbackSchedule) -> pd.DataFrame:
     """Returns one row per method, year and limit.
 
     Columns: `used` of the amount; its `minimum` and `maximum`; `utilisation`, the share of the maximum that is used; and `shadow_price`, the
@@ -359,7 +359,7 @@ def limit_table(schedule: YearlySchedule) -> pd.DataFrame:
     )
 
 
-def names_of(schedule: YearlySchedule) -> list[str]:
+def names_of(schedule: PushbackSchedule) -> list[str]:
     """The limits: amounts, head grades, the vertical advance of each pushback, what lies on stockpiles, and what dumps take and hold."""
     limits, grades = schedule.problem.limits, grades_of(schedule)
     shown = {it.name: name for name, found in grades.items() for it in found}
@@ -375,7 +375,7 @@ def names_of(schedule: YearlySchedule) -> list[str]:
     return found
 
 
-def limit_rows(schedule: YearlySchedule, method: str, name: str) -> pd.DataFrame:
+def limit_rows(schedule: PushbackSchedule, method: str, name: str) -> pd.DataFrame:
     flows, grades = schedule.flows[method], grades_of(schedule).get(name)
     years, nothing = np.arange(flows.years), np.full(flows.years, np.nan)
     if grades is not None:
@@ -388,7 +388,9 @@ def limit_rows(schedule: YearlySchedule, method: str, name: str) -> pd.DataFrame
     return pd.DataFrame(dict(zip(COLUMNS, columns)))
 
 
-def of_grade(schedule: YearlySchedule, flows: Flows, limits: list[GradeLimit]) -> tuple[Floats, Floats, Floats, Floats]:
+def of_grade(
+    schedule: PushbackSchedule, flows: Flows, limits: list[GradeLimit]
+) -> tuple[Floats, Floats, Floats, Floats]:
     """Returns the head grade of each year, its minimum and maximum, and what a unit more of the limit would earn."""
     first, years = limits[0], flows.years
     feed = flows.used_in(FEED, first.process)
@@ -402,12 +404,12 @@ def of_grade(schedule: YearlySchedule, flows: Flows, limits: list[GradeLimit]) -
     return grade, *((nothing, limit) if first.sign > 0 else (limit, nothing)), price
 
 
-def amounts_of(schedule: YearlySchedule, flows: Flows, name: str) -> tuple[Floats, Floats, Floats]:
+def amounts_of(schedule: PushbackSchedule, flows: Flows, name: str) -> tuple[Floats, Floats, Floats]:
     """Returns what is used of an amount in each year, its minimum and its maximum; nan where none exists."""
     limits, years, nothing = schedule.problem.limits, flows.years, np.full(flows.years, np.nan)
     if name.startswith(ADVANCE):
         mine = schedule.benches.pushback == int(name.removeprefix(ADVANCE))
-        return flows.dug[mine].sum(axis=0), nothing, limits.sinking(years)
+        return flows.mined[mine].sum(axis=0), nothing, limits.sinking(years)
     if name.startswith(STOCK):
         return of_stockpile(schedule, flows, name)
     if name.startswith((DUMP, DUMPED)):
@@ -417,7 +419,7 @@ def amounts_of(schedule: YearlySchedule, flows: Flows, name: str) -> tuple[Float
     return flows.used(name), least, most
 
 
-def of_dump(schedule: YearlySchedule, flows: Flows, name: str) -> tuple[Floats, Floats, Floats]:
+def of_dump(schedule: PushbackSchedule, flows: Flows, name: str) -> tuple[Floats, Floats, Floats]:
     """Returns the tonnes that a dump takes in each year, or holds at its end, their minimum and their maximum."""
     years, dumps, nothing = flows.years, schedule.model.dumps, np.full(flows.years, np.nan)
     if name.startswith(DUMPED):
@@ -428,7 +430,7 @@ def of_dump(schedule: YearlySchedule, flows: Flows, name: str) -> tuple[Floats, 
     return flows.placed[number], least[:years] if least.any() else nothing, np.where(np.isfinite(most), most, nothing)
 
 
-def of_stockpile(schedule: YearlySchedule, flows: Flows, name: str) -> tuple[Floats, Floats, Floats]:
+def of_stockpile(schedule: PushbackSchedule, flows: Flows, name: str) -> tuple[Floats, Floats, Floats]:
     """Returns the tonnes of feed on a stockpile at the end of each year, their minimum and their maximum. The rule places nothing there, and
     leaves what lay there at the start."""
     number = [f"{STOCK}{it.name}" for it in schedule.model.stockpiles].index(name)
@@ -440,7 +442,7 @@ def of_stockpile(schedule: YearlySchedule, flows: Flows, name: str) -> tuple[Flo
     return lies, least[: flows.years] if has_least else nothing, np.where(np.isfinite(most), most, nothing)
 
 
-def grades_of(schedule: YearlySchedule) -> dict[str, list[GradeLimit]]:
+def grades_of(schedule: PushbackSchedule) -> dict[str, list[GradeLimit]]:
     """Returns the limits on head grades by the name that is shown."""
     found: dict[str, list[GradeLimit]] = {}
     for limit in grade_limits(schedule.pushbacks.plan.project):
@@ -448,14 +450,14 @@ def grades_of(schedule: YearlySchedule) -> dict[str, list[GradeLimit]]:
     return found
 
 
-def shadow_prices(schedule: YearlySchedule, name: str) -> Floats:
+def shadow_prices(schedule: PushbackSchedule, name: str) -> Floats:
     """Returns the money of the year that a unit more of a limit would earn in each year of the linear programme; nan without one.
 
     If years have costs, a limit also shows how far the mine runs in a year, so that a unit more of it saves a part of these costs.
     """
     if schedule.optimum is None:
-        return np.full(schedule.years, np.nan)
-    return whole_price(schedule.prices, name, schedule.years) / schedule.discounts(schedule.years)
+        return np.full(schedule.model.years, np.nan)
+    return whole_price(schedule.prices, name, schedule.model.years) / schedule.discounts(schedule.model.years)
 
 
 # Cut-offs of a schedule by process and year: those of the prices of capacities, as Lane has them (The Economic
@@ -465,7 +467,7 @@ def shadow_prices(schedule: YearlySchedule, name: str) -> Floats:
 KEYS = ["method", "year", "process"]
 
 
-def cutoffs(schedule: YearlySchedule) -> dict[str, NDArray[np.float64]]:
+def cutoffs(schedule: PushbackSchedule) -> dict[str, NDArray[np.float64]]:
     """Returns by process, "" for the only one, the net value per tonne of feed from which on ore is processed at the prices of the limits.
 
     It is the shadow price of a tonne of the process's capacity, in the currency of the year: 0 while capacity is left. Each array has the shape
@@ -474,13 +476,13 @@ def cutoffs(schedule: YearlySchedule) -> dict[str, NDArray[np.float64]]:
     return {name: price_of(schedule, name) for name in schedule.names}
 
 
-def price_of(schedule: YearlySchedule, process: str) -> NDArray[np.float64]:
+def price_of(schedule: PushbackSchedule, process: str) -> NDArray[np.float64]:
     """Returns the shadow price of a tonne of feed of a process: of its limits, and with several processes of those of the feed of all."""
     price = shadow_prices(schedule, FEED)
     return price + shadow_prices(schedule, f"{FEED}_{process}") if process else price
 
 
-def realised(schedule: YearlySchedule) -> pd.Series:
+def realised(schedule: PushbackSchedule) -> pd.Series:
     """Returns the lowest net value per tonne of feed that each process takes, by method, year and process."""
     flows = schedule.material_flows.rename(columns={"destination": "process"})
     fed = flows[flows["process"].isin([name or MILL for name in schedule.names])]
@@ -488,7 +490,7 @@ def realised(schedule: YearlySchedule) -> pd.Series:
     return (some["cash_flow"] / some["feed_tonnes"]).groupby([some[key] for key in KEYS]).min()
 
 
-def cutoff_columns(schedule: YearlySchedule, keys: pd.MultiIndex) -> pd.DataFrame:
+def cutoff_columns(schedule: PushbackSchedule, keys: pd.MultiIndex) -> pd.DataFrame:
     """Returns the columns `cutoff` and `realised_cutoff` of rows by method, year and process."""
     found = cutoffs(schedule)
     by_process = {name or MILL: found[name] for name in schedule.names}
@@ -496,7 +498,7 @@ def cutoff_columns(schedule: YearlySchedule, keys: pd.MultiIndex) -> pd.DataFram
     return pd.DataFrame({"cutoff": priced, "realised_cutoff": realised(schedule).reindex(keys)}, index=keys)
 
 
-def cutoff_table(schedule: YearlySchedule) -> pd.DataFrame:
+def cutoff_table(schedule: PushbackSchedule) -> pd.DataFrame:
     """Returns one row per method, year, process and rock type that the process takes.
 
     Columns: `cutoff`, the net value per tonne of feed from which on ore is processed at the prices of the limits; `realised_cutoff`, the lowest one
@@ -523,7 +525,7 @@ def cutoff_table(schedule: YearlySchedule) -> pd.DataFrame:
     return table
 
 
-def columns_of(schedule: YearlySchedule) -> list[str]:
+def columns_of(schedule: PushbackSchedule) -> list[str]:
     project = schedule.pushbacks.plan.project
     rock = [shown_name(project.table.rock_type)] if project.table.rock_type else []
     grades = ["cutoff_grade", "marginal_grade", "break_even_grade"]
@@ -531,7 +533,7 @@ def columns_of(schedule: YearlySchedule) -> list[str]:
     return [*KEYS, *rock, "cutoff", "realised_cutoff", "metal", *grades, *equivalents]
 
 
-def rocks_of(schedule: YearlySchedule, process: int) -> list[str]:
+def rocks_of(schedule: PushbackSchedule, process: int) -> list[str]:
     """Returns the codes of the rock types of the pushbacks that yield anything in a process; one empty code without rock types."""
     plan = schedule.pushbacks.plan
     inside = (schedule.pushbacks.pushback > 0) & (plan.values.tonnes > 0)
@@ -541,7 +543,7 @@ def rocks_of(schedule: YearlySchedule, process: int) -> list[str]:
     return sorted(plan.table[plan.project.table.rock_type].astype(str)[taken[plan.grid.rows]].unique())
 
 
-def cutoff_rows(schedule: YearlySchedule, year: int, rocks: list[tuple[int, RockCosts]]) -> Iterator[dict[str, Any]]:
+def cutoff_rows(schedule: PushbackSchedule, year: int, rocks: list[tuple[int, RockCosts]]) -> Iterator[dict[str, Any]]:
     """Yields the rows of a year, numbered from 0, without what differs by method."""
     project, money, found = schedule.pushbacks.plan.project, schedule.problem.money, cutoffs(schedule)
     factor = money.factors(PROCESSING_COST, year + 1)[year]
@@ -558,7 +560,7 @@ def cutoff_rows(schedule: YearlySchedule, year: int, rocks: list[tuple[int, Rock
         yield row | {f"equivalent_{it.name}": costs.equivalent(it, premiums) for it in costs.metals}
 
 
-def premiums_in(schedule: YearlySchedule, year: int, process: int) -> dict[str, float]:
+def premiums_in(schedule: PushbackSchedule, year: int, process: int) -> dict[str, float]:
     """Returns by metal what a unit that a process recovers earns in a year, numbered from 0, beyond the base price and cost."""
     money, found = schedule.problem.money, {}
     saved = float(1 - money.factors(SELLING_COST, year + 1)[year])

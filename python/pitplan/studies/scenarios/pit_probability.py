@@ -13,7 +13,7 @@ from pitplan.config.project import FigureRules
 from pitplan.core import keyed_arrays
 from pitplan.core.revenue_factors import factor_text
 from pitplan.errors import PlanError
-from pitplan.pits.shell_tables import MINERALISED
+from pitplan.pits.shells import MINERALISED
 from pitplan.results.names import TABLE
 
 from . import store

@@ -79,7 +79,7 @@ def prepare(project: Project, folder: Path, progress: Progress, by: str = store.
         with progress.step("writing blocks and precedences"), staged(
             folder, store.RECORD, subfolders=layout.FOLDERS
         ) as stage:
-            written = [*write_shared(laid, stage), *write_needs(laid.plan, solver, stage)]
+            written = [*write_shared(laid, stage), *write_precedences(laid.plan, solver, stage)]
             parts = common_parts(laid)
             parts["project"] |= {"revenue_factors": list(project.shells.revenue_factors)}
             write_record(laid, keyed(laid.scenarios, project, parts), written, stage)
@@ -133,8 +133,8 @@ def arrays_of(base: Base) -> dict[str, np.ndarray]:
     table = base.project.table
     arrays = {"cells": base.grid.rows, table.tonnes: base.frame[table.tonnes].to_numpy()}
     money = base.project.economics
-    by_region = any(isinstance(value, ByDomain) for value in (money.mining_recovery, money.dilution))
-    for name in (table.rock_type, table.domain if by_region else None, table.resource_class):
+    by_domain = any(isinstance(value, ByDomain) for value in (money.mining_recovery, money.dilution))
+    for name in (table.rock_type, table.domain if by_domain else None, table.resource_class):
         if name:
             arrays[name] = base.frame[name].to_numpy().astype(str)
     columns = (*money.factor_columns, *base.project.penalty_columns)
@@ -143,7 +143,7 @@ def arrays_of(base: Base) -> dict[str, np.ndarray]:
 
 def arrays_of_settled(plan: Plan) -> dict[str, np.ndarray]:
     """Returns masks of the cells that the constraints force in and sterilise, shape (cells,); nothing without constraints."""
-    return {} if plan.settled is None else {"dug": plan.settled.dug, "left": plan.settled.left}
+    return {} if plan.settled is None else {"mined": plan.settled.mined, "left": plan.settled.left}
 
 
 def write_shared(laid: Laid, stage: Path) -> list[str]:
@@ -161,15 +161,15 @@ def write_shared(laid: Laid, stage: Path) -> list[str]:
     return [store.BASE, store.PROJECT, TABLE]
 
 
-def write_needs(plan: Plan, solver: Solver, stage: Path) -> list[str]:
+def write_precedences(plan: Plan, solver: Solver, stage: Path) -> list[str]:
     """Writes the precedences that all scenarios share, as the solver takes them; returns the names of the files."""
     if solver.by != LIBRARY:
-        mine_files.write_needs(stage / store.PREC, plan, plan.needs_of_rest)
+        mine_files.write_precedences(stage / store.PREC, plan, plan.precedences_of_rest)
         return [store.PREC]
-    rows, _ = counted_rows(plan.needs_of_rest, plan)
+    rows, _ = counted_rows(plan.precedences_of_rest, plan)
     np.save(stage / store.STARTS, rows.starts)
-    np.save(stage / store.NEEDS, rows.needs)
-    return [store.STARTS, store.NEEDS]
+    np.save(stage / store.PRECEDENCES, rows.precedences)
+    return [store.STARTS, store.PRECEDENCES]
 
 
 def list_of(base: Base, read: Models) -> list[Scenario]:
@@ -187,13 +187,13 @@ def list_of(base: Base, read: Models) -> list[Scenario]:
 def common_parts(laid: Laid) -> dict[str, Any]:
     """Returns the input that the results of all scenarios depend on."""
     base, plan = laid.base, laid.plan
-    walls = {"code": plan.walls.code, **{str(k): p.cone for k, p in enumerate(plan.walls.patterns)}}
+    domains = {"code": plan.domains.code, **{str(k): p.cone for k, p in enumerate(plan.domains.patterns)}}
     surfaces = store.surfaces_of(base.project)
     return {
         **({"surfaces": surfaces} if surfaces else {}),
         "project": store.meaning(base.project),
         "grid": plan.grid.as_json(),
-        "blocks": store.hash_of_arrays({**arrays_of(base), **walls, **arrays_of_settled(plan)}),
+        "blocks": store.hash_of_arrays({**arrays_of(base), **domains, **arrays_of_settled(plan)}),
         "solver": laid.solver.sha256,
     }
 
@@ -213,11 +213,12 @@ def write_record(laid: Laid, scenarios: list[Scenario], written: list[str], stag
     record: dict[str, Any] = {
         "title": plan.project.title,
         "pitplan": release(),
+        "form": store.FORM,
         "project": os.path.relpath(plan.project.path, stage.parent),
         "revenue_factors": list(plan.project.shells.revenue_factors),
         "solver": vars(solver),
         "grid": plan.grid.as_json(),
-        "walls": [pattern.as_json() for pattern in plan.walls.patterns],
+        "slope_domains": [pattern.as_json() for pattern in plan.domains.patterns],
         "notes": [note for note in plan.notes if "amounts were rounded" not in note],
         "files": hashes(stage, written),
         "scenarios": [vars(scenario) for scenario in scenarios],

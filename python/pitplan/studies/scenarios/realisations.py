@@ -269,10 +269,10 @@ def envelope(base: Base, greatest: np.ndarray) -> Plan:
     )
     blocks = base.prepared.with_grades(base.with_grades(greatest), replace(project, metals=metals))
     plan = plan_of(blocks)
-    plan.values = plan.values.with_shared_nodes()
+    plan = replace(plan, values=plan.values.with_shared_nodes())
     block_values.demand_few_nodes(plan.values, plan.grid)
     if plan.values.cutoff == "base_price" and len(plan.values.by_process) > 1:
         # At other grades a block may go to another process, whose value rises faster with the factor.
         paying = np.array(plan.values.value_bound(project.shells.revenue_factors[-1]) > 0, dtype=bool)
-        plan.used |= closure.used_blocks(plan.grid, plan.walls, paying)
+        plan = replace(plan, used=plan.used | closure.used_blocks(plan.grid, plan.domains, paying))
     return with_notes(plan, blocks, "the largest grades and prices of all scenarios")

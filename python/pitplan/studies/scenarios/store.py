@@ -42,11 +42,11 @@ from pitplan.solver import mine_files
 from pitplan.solver.choice import Solver
 
 RECORD, PROJECT = "scenarios.json", "project.toml"
-BASE, STARTS, NEEDS = f"{SOLVER}/base.npz", f"{SOLVER}/starts.npy", f"{SOLVER}/needs.npy"
+BASE, STARTS, PRECEDENCES = f"{SOLVER}/base.npz", f"{SOLVER}/starts.npy", f"{SOLVER}/needs.npy"
 PREC, DIGGABLE, MEAN = f"{SOLVER}/{mine_files.PREC}", f"{SOLVER}/diggable.npz", f"{SOLVER}/mean.npz"
 FOLDERS = MODELS, DONE, FAILED = "realisations", "done", "failed"
-# Version of the files of results: since 2 they hold their own key.
-FORM = 2
+# Version of the files of input and results: since 2 results hold their own key, since 3 arrays have the names of keys.
+FORM = 3
 # The sources of the search for schedules.
 SEARCH = Path(__file__).parents[2] / "scheduling" / "blocks"
 # The result of each scenario: its pits, or a schedule of its blocks.
@@ -124,8 +124,10 @@ class Shared:
     @cached_property
     def rows(self) -> Rows:
         """The precedences for the library, in memory that all processes of a machine share."""
-        starts, needs = (np.load(self.folder / name, mmap_mode="r", allow_pickle=False) for name in (STARTS, NEEDS))
-        return Rows(starts, needs)
+        starts, precedences = (
+            np.load(self.folder / name, mmap_mode="r", allow_pickle=False) for name in (STARTS, PRECEDENCES)
+        )
+        return Rows(starts, precedences)
 
     @property
     def is_by_block(self) -> bool:
@@ -207,6 +209,8 @@ def read_shared(folder: Path) -> Shared:
     try:
         record = json.loads((folder / RECORD).read_text(encoding="utf-8"))
         demand_same_version(folder, record["pitplan"])
+        if record["form"] != FORM:
+            raise KeyError(f"form {record['form']}, expected {FORM}")
         for name, digest in record["files"].items():
             if hash_of(folder / name) != digest:
                 raise PlanError(f"{folder / name}: has changed since {RECORD} was written: run pitplan scenarios again")
@@ -221,7 +225,7 @@ def read_shared(folder: Path) -> Shared:
         ) from error
     grid = grid_of(record["grid"], arrays.pop("cells"))
     ore = arrays.pop("ore")
-    settled = Settled(arrays.pop("dug"), arrays.pop("left")) if "dug" in arrays else None
+    settled = Settled(arrays.pop("mined"), arrays.pop("left")) if "mined" in arrays else None
     return Shared(folder, load(folder / PROJECT), pd.DataFrame(arrays), grid, ore, record, solver, settled)
 
 

@@ -17,9 +17,9 @@ from pitplan.core.atomic_files import hash_of, staged_file
 from pitplan.core.libraries import load_library
 from pitplan.economics import block_values
 from pitplan.errors import PlanError, ProgramError
-from pitplan.pits import shell_tables
+from pitplan.pits.shells import Shells
 from pitplan.plan import Plan
-from pitplan.slopes.domains import Walls
+from pitplan.slopes.domains import SlopeDomains
 from pitplan.solver import choice, library, mine_files, problem, program
 from pitplan.solver.program import Solution
 
@@ -108,8 +108,8 @@ def plan_of(shared: Shared, scenario: Scenario) -> Plan:
     values = block_values.values_of(frame, shared.grid, project, scenario.label)
     # All scenarios have the same nodes and share one file of precedences. Nodes without metal here have no value.
     values = replace(values, shared=shared.ore)
-    walls, used = Walls((), np.zeros(0), (), np.zeros(0)), np.zeros(0, bool)
-    return Plan(project, frame, shared.grid, values, walls, used, scenario.label, settled=shared.settled)
+    domains, used = SlopeDomains((), np.zeros(0), (), np.zeros(0)), np.zeros(0, bool)
+    return Plan(project, frame, shared.grid, values, domains, used, scenario.label, settled=shared.settled)
 
 
 def shells_of(shared: Shared, plan: Plan) -> Solution:
@@ -139,10 +139,10 @@ def write_answer(shared: Shared, scenario: Scenario) -> None:
     plan = plan_of(shared, scenario)
     solution = problem.joined(shells_of(shared, plan), plan.settled, plan.values)
     missing_blocks.demand_known(solution.entry, plan.grid, plan.project, plan.source)
-    cells = shell_tables.cells_of(plan, solution)
-    table = shell_tables.amounts(plan, cells).astype(np.float64)
+    shells = Shells(plan, solution)
+    table = shells.amounts.astype(np.float64)
     factors = np.array(plan.project.shells.revenue_factors)
-    entry = cells.factor[plan.grid.rows]
+    entry = shells.cells.factor[plan.grid.rows]
     texts = {"value_at_revenue_factor": np.array([f"{worth:f}" for worth in solution.worth], dtype=str)}
     with staged_file(shared.answer(scenario)) as path:
         # The place of a block's least revenue factor in the list, from 1; 0: in no pit.

@@ -28,13 +28,13 @@ from pitplan.pits.best_worst_case import year_discounts
 from pitplan.plan import MILLION, Plan
 from pitplan.pushbacks.bench_table import CASH, ROCK
 from pitplan.scheduling.bench_sequencing import Limits
-from pitplan.scheduling.blocks import BlockProblem, Limit, Needs
+from pitplan.scheduling.blocks import BlockPrecedences, BlockProblem, Limit
 from pitplan.scheduling.blocks.from_plan import (
     Flows,
     at_best,
     demand_of_blocks,
-    diggable,
     dues_of,
+    minable,
     of_pushbacks,
     pit_of,
     years_of,
@@ -52,32 +52,39 @@ MINING = "mining"
 
 
 @dataclass(frozen=True)
-class Diggable:
+class Minable:
     """The blocks that may be mined, and the number of years: the same for all scenarios, so that each can follow the schedule of another.
 
     Attributes
     ----------
     cells : array of int, shape (blocks,)
         Their cells, ascending.
-    needs : Needs
+    precedences : BlockPrecedences
         Precedences between them.
-    forced : array of bool, shape (blocks,)
+    must_mine : array of bool, shape (blocks,)
         Whether each must be mined.
     years : int
     """
 
     cells: NDArray[np.int64]
-    needs: Needs
-    forced: NDArray[np.bool_]
+    precedences: BlockPrecedences
+    must_mine: NDArray[np.bool_]
     years: int
 
     def arrays(self) -> dict[str, NDArray]:
         """Returns the arrays for a file; the years are in the record."""
-        return {"cells": self.cells, "starts": self.needs.starts, "needed": self.needs.needed, "forced": self.forced}
+        return {
+            "cells": self.cells,
+            "starts": self.precedences.starts,
+            "needed": self.precedences.needed,
+            "must_mine": self.must_mine,
+        }
 
     @staticmethod
-    def of_arrays(arrays: dict[str, NDArray], years: int) -> Diggable:
-        return Diggable(arrays["cells"], Needs(arrays["starts"], arrays["needed"]), arrays["forced"], years)
+    def of_arrays(arrays: dict[str, NDArray], years: int) -> Minable:
+        return Minable(
+            arrays["cells"], BlockPrecedences(arrays["starts"], arrays["needed"]), arrays["must_mine"], years
+        )
 
 
 @dataclass(frozen=True)
@@ -139,16 +146,16 @@ def years_asked(weights: Weights, pit: NDArray[np.bool_], project: Project) -> i
     )
 
 
-def problem_of(diggable: Diggable, weights: Weights, project: Project) -> BlockProblem:
+def problem_of(minable: Minable, weights: Weights, project: Project) -> BlockProblem:
     """Returns the problem to schedule, with each block as waste and in the mill."""
     limits, flows = limits_of_scenarios(project), weights.by_destination
     return BlockProblem(
-        values=flows[CASH][:, :, None] * year_discounts(project.shells, diggable.years),
-        needs=diggable.needs,
+        values=flows[CASH][:, :, None] * year_discounts(project.shells, minable.years),
+        precedences=minable.precedences,
         limits=tuple(
-            Limit(name, flows[name], most) for name, most in zip(limits.most, limits.of_years(diggable.years).T)
+            Limit(name, flows[name], most) for name, most in zip(limits.most, limits.of_years(minable.years).T)
         ),
-        dues=dues_of(diggable.forced, 2),
+        dues=dues_of(minable.must_mine, 2),
     )
 
 
@@ -214,18 +221,18 @@ def write(laid: Laid, folder: Path, progress: Progress) -> None:
         prepare.write_record(laid, scenarios, written, stage, **more)
 
 
-def spread(laid: Laid, folder: Path, progress: Progress) -> tuple[Diggable, Weights]:
+def spread(laid: Laid, folder: Path, progress: Progress) -> tuple[Minable, Weights]:
     """Returns the blocks that may be mined, and the mean of their amounts over all scenarios, with equal weights. The years are those of the
     project, otherwise those of the longest pit, that of the mean included, and a fifth more."""
     plan, project, count = laid.plan, laid.base.project, len(laid.scenarios)
     with progress.step("collecting the blocks that can be mined"):
         # A block that pays in a scenario pays at the largest grades and prices without selling cost, since no recovery falls with the grade.
-        cells, needs = diggable(plan, np.array(plan.values.greatest_value(BASE_PRICE) > 0, dtype=bool))
-        forced = np.isin(cells, plan.fixed.forced)
+        cells, precedences = minable(plan, np.array(plan.values.greatest_value(BASE_PRICE) > 0, dtype=bool))
+        must_mine = np.isin(cells, plan.fixed.must_mine)
     rules = project.schedule or ScheduleRules()
 
     def years(weights: Weights) -> int:
-        return rules.years or years_asked(weights, pit_of(weights.flows[CASH], needs, forced), project)
+        return rules.years or years_asked(weights, pit_of(weights.flows[CASH], precedences, must_mine), project)
 
     shared, longest = shared_of(laid, folder), 0
     total: Optional[Weights] = None
@@ -235,7 +242,7 @@ def spread(laid: Laid, folder: Path, progress: Progress) -> tuple[Diggable, Weig
             longest, total = max(longest, years(weights)), weights if total is None else total.plus(weights)
     assert total is not None
     mean = total.over(count)
-    return Diggable(cells, needs, forced, max(longest, years(mean))), mean
+    return Minable(cells, precedences, must_mine, max(longest, years(mean))), mean
 
 
 def shared_of(laid: Laid, folder: Path) -> Shared:

@@ -20,7 +20,7 @@ from pitplan.studies.scenarios.store import Shared
 from pitplan.studies.scenarios.worker import plan_of
 
 from .problem import Weights, limits_of_scenarios, weights_of
-from .worker import Kept, diggable_of, mean_of, read_answer
+from .worker import Kept, mean_of, minable_of, read_answer
 
 # The common schedule in each scenario: mill feed and cash flow of its years with the grades of the scenario.
 #
@@ -36,7 +36,7 @@ LEFT, PLANNED = "unprocessed_tonnes", "planned_feed_tonnes"
 
 
 @dataclass(frozen=True)
-class Dug:
+class Mined:
     """A schedule applied to a scenario.
 
     Attributes
@@ -118,22 +118,22 @@ def by_worth(gain: NDArray[np.float64], takes: NDArray[np.float64], most: float)
     return np.where(takes > 0, shares, 1.0)
 
 
-def years_of_dug(dug: Dug, planned: NDArray[np.float64]) -> pd.DataFrame:
+def years_of_mined(mined: Mined, planned: NDArray[np.float64]) -> pd.DataFrame:
     """Returns one row per year of the schedule, with the columns of common_schedule_years.csv.
 
     Parameters
     ----------
-    dug : Dug
+    mined : Mined
     planned : array, shape (years,)
         Mill feed of each year on the mean of all scenarios, in tonnes.
     """
-    flows, share, last = dug.weights.flows, dug.milled(), int(dug.year.max(initial=0))
+    flows, share, last = mined.weights.flows, mined.milled(), int(mined.year.max(initial=0))
     of_block = {ROCK: flows[ROCK], ORE: flows[ORE] * share, LEFT: flows[ORE] * (1 - share)}
-    of_block[CASH] = dug.gain * share - dug.weights.mining
-    sums = {name: np.bincount(dug.year, amounts, minlength=last + 1)[1:] for name, amounts in of_block.items()}
+    of_block[CASH] = mined.gain * share - mined.weights.mining
+    sums = {name: np.bincount(mined.year, amounts, minlength=last + 1)[1:] for name, amounts in of_block.items()}
     table = pd.DataFrame({"year": np.arange(1, last + 1), **sums})
     table.insert(4, PLANNED, planned[:last])
-    return table.assign(discounted_cash_flow=table[CASH] * year_discounts(dug.project.shells, last))
+    return table.assign(discounted_cash_flow=table[CASH] * year_discounts(mined.project.shells, last))
 
 
 def row_of(years: pd.DataFrame) -> dict[str, float]:
@@ -226,18 +226,18 @@ def gather(shared: Shared, partial: bool = False) -> Schedules:
     planned = planned_ore(shared, one)
     for scenario in shared.scenarios:
         weights = weights_of(plan_of(shared, scenario), shared.grid.rows)
-        dug = years_of_dug(Dug(one.year, weights, shared.project), planned)
+        mined = years_of_mined(Mined(one.year, weights, shared.project), planned)
         heads, why = pit_probability.heads_of(scenario), missing.get(scenario.number)
         own = dict.fromkeys(one.row, np.nan) if why else read_answer(shared, scenario).row
-        rows.append(heads | {"status": why or SOLVED} | own | row_of(dug))
-        years.append(pd.DataFrame(heads | {name: dug[name] for name in dug}))
+        rows.append(heads | {"status": why or SOLVED} | own | row_of(mined))
+        years.append(pd.DataFrame(heads | {name: mined[name] for name in mined}))
     return Schedules(pd.DataFrame(rows), pd.concat(years, ignore_index=True), one, missing)
 
 
 def planned_ore(shared: Shared, one: Kept) -> NDArray[np.float64]:
     """Returns the mill feed of each year of the common schedule, on the mean of all scenarios, in tonnes."""
     ore = np.zeros(shared.grid.count)
-    ore[diggable_of(shared).cells] = mean_of(shared).flows[ORE]
+    ore[minable_of(shared).cells] = mean_of(shared).flows[ORE]
     years = np.bincount(one.year, ore[shared.grid.rows] * one.share, minlength=shared.record["years"] + 1)
     return years[1:].astype(np.float64)
 

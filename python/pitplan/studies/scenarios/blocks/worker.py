@@ -22,7 +22,7 @@ from pitplan.studies.scenarios import store
 from pitplan.studies.scenarios.store import Scenario, Shared
 from pitplan.studies.scenarios.worker import plan_of
 
-from .problem import MILL, Diggable, Weights, problem_of, weights_of
+from .problem import MILL, Minable, Weights, problem_of, weights_of
 
 WHOLE = ("years", "blocks")
 
@@ -71,28 +71,28 @@ class Made:
     """A schedule of blocks of a folder, with their amounts."""
 
     shared: Shared
-    diggable: Diggable
+    minable: Minable
     weights: Weights
     found: Scheduled
 
     @staticmethod
     def of(shared: Shared, job: Scenario) -> Made:
-        diggable = diggable_of(shared)
-        weights = mean_of(shared) if job.is_mean else weights_of(plan_of(shared, job), diggable.cells)
-        found = solve(problem_of(diggable, weights, shared.project))
+        minable = minable_of(shared)
+        weights = mean_of(shared) if job.is_mean else weights_of(plan_of(shared, job), minable.cells)
+        found = solve(problem_of(minable, weights, shared.project))
         if found.interrupted:
             raise KeyboardInterrupt
-        return Made(shared, diggable, weights, found)
+        return Made(shared, minable, weights, found)
 
     @cached_property
-    def is_dug(self) -> NDArray[np.bool_]:
-        return self.found.schedule.year < self.diggable.years
+    def is_mined(self) -> NDArray[np.bool_]:
+        return self.found.schedule.year < self.minable.years
 
     @property
     def entry(self) -> NDArray[np.int64]:
         """The base price's revenue factor for each mined cell, otherwise 0; shape (cells,)."""
         entry = np.zeros(self.shared.grid.count, dtype=np.int64)
-        entry[self.diggable.cells] = np.where(self.is_dug, BASE_PRICE, 0)
+        entry[self.minable.cells] = np.where(self.is_mined, BASE_PRICE, 0)
         return entry
 
     @property
@@ -100,22 +100,22 @@ class Made:
         """Year and share in the mill by row of the table."""
         schedule, grid = self.found.schedule, self.shared.grid
         year, share = np.zeros(grid.count, dtype=np.int16), np.zeros(grid.count)
-        year[self.diggable.cells] = np.where(self.is_dug, schedule.year + 1, 0)
-        share[self.diggable.cells] = schedule.share[:, MILL]
+        year[self.minable.cells] = np.where(self.is_mined, schedule.year + 1, 0)
+        share[self.minable.cells] = schedule.share[:, MILL]
         return year[grid.rows], share[grid.rows]
 
     @property
     def row(self) -> dict[str, float]:
         """The columns of schedules.csv."""
         found, flows, milled = self.found, self.weights.flows, self.found.schedule.share[:, MILL]
-        year = found.schedule.year[self.is_dug]
+        year = found.schedule.year[self.is_mined]
         return {
             "npv": found.value,
             "upper_bound": found.bound,
             "optimality_gap": found.gap,
             "years": int(year.max(initial=-1)) + 1,
-            "blocks": int((self.is_dug & (flows[ROCK] > 0)).sum()),
-            "tonnes": float(flows[ROCK][self.is_dug].sum()),
+            "blocks": int((self.is_mined & (flows[ROCK] > 0)).sum()),
+            "tonnes": float(flows[ROCK][self.is_mined].sum()),
             ORE: float((flows[ORE] * milled).sum()),
             **{
                 name: float((amounts * milled).sum())
@@ -125,9 +125,9 @@ class Made:
         }
 
 
-def diggable_of(shared: Shared) -> Diggable:
+def minable_of(shared: Shared) -> Minable:
     with np.load(shared.folder / store.DIGGABLE, allow_pickle=False) as arrays:
-        return Diggable.of_arrays({name: arrays[name] for name in arrays.files}, shared.record["years"])
+        return Minable.of_arrays({name: arrays[name] for name in arrays.files}, shared.record["years"])
 
 
 def mean_of(shared: Shared) -> Weights:

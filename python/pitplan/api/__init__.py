@@ -1,1 +1,0 @@
-"""Block model, plan, shells, pushbacks and schedule as objects. Each holds what it was made from."""
