@@ -7,15 +7,16 @@ A change (tools/changes_of_meaning.py) is drawn by the seed among all of python/
 elsewhere do not alter whether it is drawn. The modules that draw figures (PICTURES) are left out, since most of their numbers are widths,
 sizes of type and colours. --pictures draws among these alone, and asks for no share.
 
-All tests of python/tests except the library's run once without a change, under Debian's python3-coverage. On a change run the files whose
-tests run one of its lines, and all tests if those pass. --tests names the files of tests to use in place of all. The status is 1 if fewer
-than 95 of 100 changes are detected, and 2 if a test fails without a change.
+All tests of python/tests except the library's and those of the browser run once without a change, under Debian's python3-coverage. On a
+change run the tests that run one of its lines, the quickest first; with none, all tests. --tests names the files of tests to use in place
+of all. The status is 1 if fewer than 95 of 100 changes are detected, and 2 if a test fails without a change.
 
 --results writes the survivors. The reason that the file gives for a survivor, after the dash, is kept.
 """
 import argparse
 import concurrent.futures
 import contextlib
+import json
 import os
 import pathlib
 import queue
@@ -24,6 +25,7 @@ import signal
 import subprocess
 import sys
 import tempfile
+import time
 from collections.abc import Iterator, Mapping
 from typing import NamedTuple
 
@@ -42,6 +44,10 @@ WANTED = 0.95
 # A change may make a program take all the memory or all the time that it gets.
 MOST_BYTES = 4 << 30
 MOST_SECONDS = 1800
+BROWSERLESS = ("-m", "not browser")
+# So many tests run first, since most changes fail one of them and the collection of all files takes as long.
+FIRST = 60
+SECONDS = "PLANTED_SECONDS"
 HEAD = "# Planted changes that no test detects\n\nWritten by `tools/planted_changes.py`; the reasons are written by hand.\n"
 SETTINGS = """[run]
 source =
@@ -53,20 +59,28 @@ Lines = Mapping[str, Mapping[int, set[str]]]
 
 
 class Suite(NamedTuple):
-    """The files of tests, what of the layer each runs, by file and line, and copies of the repository that nobody uses at the moment."""
+    """The files of tests, the tests that run each line of the layer, by file and line, the seconds of each test, and copies of the repository
+    that nobody uses at the moment."""
 
     files: list[str]
     lines: Lines
+    seconds: Mapping[str, float]
     copies: queue.SimpleQueue
+
+    def rounds(self, change: Change) -> list[list[str]]:
+        """The tests that run a line of the change, the quickest first, in two rounds; all files if there are none."""
+        by_line = self.lines.get(str(change.file), {})
+        near = set().union(*(by_line.get(line, set()) for line in change.lines))
+        quickest = sorted(near, key=lambda test: self.seconds.get(test, 0.0))
+        rest = sorted({test.partition("::")[0] for test in quickest[FIRST:]})
+        return [quickest[:FIRST], rest] if near else [self.files]
 
     def detects(self, change: Change) -> bool:
         """Whether a test fails on the change, or the tests do not end."""
-        by_line = self.lines.get(str(change.file), {})
-        near = sorted(set().union(*(by_line.get(line, set()) for line in change.lines)))
         copy = self.copies.get()
         try:
             with planted(copy, change):
-                return any(fails(copy, files) for files in (near, self.files) if files)
+                return any(fails(copy, tests) for tests in self.rounds(change) if tests)
         finally:
             self.copies.put(copy)
 
@@ -76,9 +90,9 @@ def environment() -> dict[str, str]:
     return {**{name: str(file) for name, file in built.items() if file.exists()}, **os.environ}
 
 
-def fails(copy: pathlib.Path, files: list[str]) -> bool:
-    """Whether a test of these files fails in a copy, or they do not end."""
-    words = ["prlimit", f"--data={MOST_BYTES}", "/usr/bin/python3", "-m", "pytest", "-q", "-x", "-p", "no:cacheprovider", *files]
+def fails(copy: pathlib.Path, tests: list[str]) -> bool:
+    """Whether one of these tests or files of tests fails in a copy, or they do not end."""
+    words = ["prlimit", f"--data={MOST_BYTES}", "/usr/bin/python3", "-m", "pytest", "-q", "-x", "-p", "no:cacheprovider", *BROWSERLESS, *tests]
     words.append(f"--basetemp={copy.parent / 'tests'}")
     with subprocess.Popen(
         words, cwd=copy, env=environment(), stdout=subprocess.DEVNULL, stderr=subprocess.DEVNULL, start_new_session=True
@@ -113,30 +127,44 @@ def write(copy: pathlib.Path, file: pathlib.Path, text: str) -> None:
             compiled.unlink()
 
 
-@pytest.hookimpl(tryfirst=True)
-def pytest_runtest_protocol(item: pytest.Item) -> None:
-    """Notes what runs from now on under the test's file; pytest loads this module as a plugin in lines_run."""
-    coverage.Coverage.current().switch_context(item.nodeid.partition("::")[0])
+@pytest.hookimpl(hookwrapper=True)
+def pytest_runtest_protocol(item: pytest.Item) -> Iterator[None]:
+    """Notes what runs from now on under the test, and how long it takes; pytest loads this module as a plugin in lines_run."""
+    coverage.Coverage.current().switch_context(item.nodeid)
+    began = time.monotonic()
+    yield
+    with open(os.environ[SECONDS], "a", encoding="utf-8") as notes:
+        notes.write(json.dumps([item.nodeid, time.monotonic() - began]) + "\n")
 
 
-def lines_run(copy: pathlib.Path, files: list[str]) -> Lines | None:
-    """Runs the tests once, and gives the files of tests that run each line; None if a test fails."""
+def lines_run(copy: pathlib.Path, files: list[str]) -> tuple[Lines, dict[str, float]] | None:
+    """Runs the tests once, and gives the tests that run each line, and the seconds of each; None if a test fails."""
     with tempfile.TemporaryDirectory(prefix="pitshell-") as notes:
-        settings, data = pathlib.Path(notes) / "settings", pathlib.Path(notes) / "coverage"
+        settings, data, seconds = (pathlib.Path(notes) / name for name in ("settings", "coverage", "seconds"))
         settings.write_text(SETTINGS.format(copy=copy, notes=notes))
         words = ["/usr/bin/python3", "-m", "coverage", "run", f"--rcfile={settings}", "-m", "pytest", "-q", "-x", "-p", "no:cacheprovider"]
-        words += ["-p", pathlib.Path(__file__).stem, *files]
-        known = {**environment(), "PYTHONPATH": str(copy / "tools")}
+        words += ["-p", pathlib.Path(__file__).stem, *BROWSERLESS, *files, f"--basetemp={notes}/tests"]
+        known = {**environment(), "PYTHONPATH": str(copy / "tools"), SECONDS: str(seconds)}
         ran = subprocess.run(words, cwd=copy, env=known, capture_output=True, text=True)
-        if ran.returncode:
+        # Status 5: no test is left of these files.
+        if ran.returncode not in (0, 5):
             print(ran.stdout[-2000:], ran.stderr[-2000:])
             return None
         found = coverage.CoverageData(basename=str(data))
         found.read()
-        return {
+        lines = {
             str(pathlib.Path(file).relative_to(copy)): {line: set(names) - {""} for line, names in found.contexts_by_lineno(file).items()}
             for file in found.measured_files()
         }
+        return lines, dict(map(json.loads, seconds.read_text(encoding="utf-8").splitlines())) if seconds.exists() else {}
+
+
+def files_of(tests: list[str]) -> list[str]:
+    """The files of tests that the words for pytest name."""
+    left_out = {word.partition("=")[2] for word in tests if word.startswith("--ignore=")}
+    named = [pathlib.Path(word) for word in tests if not word.startswith("-")]
+    found = [file for path in named for file in (sorted((TOP / path).glob("test_*.py")) if (TOP / path).is_dir() else [TOP / path])]
+    return [name for file in found if (name := str(file.relative_to(TOP))) not in left_out]
 
 
 @contextlib.contextmanager
@@ -144,12 +172,23 @@ def suite(jobs: int, files: list[str]) -> Iterator[Suite | None]:
     """The suite with as many copies as there are jobs; None if a test fails without a change."""
     with contextlib.ExitStack() as stack:
         # All are made now, so that the repository may be worked on meanwhile.
-        first, *others = [stack.enter_context(clone.clone()) for _ in range(jobs + 1)]
         copies: queue.SimpleQueue = queue.SimpleQueue()
-        for copy in others:
+        made = [stack.enter_context(clone.clone()) for _ in range(jobs)]
+        with concurrent.futures.ThreadPoolExecutor(jobs) as pool:
+            parts = list(pool.map(lines_run, made, (files[number::jobs] for number in range(jobs))))
+        for copy in made:
             copies.put(copy)
-        lines = lines_run(first, files)
-        yield None if lines is None else Suite(files, lines, copies)
+        yield None if None in parts else Suite(files, *joined([part for part in parts if part]), copies)
+
+
+def joined(parts: list[tuple[Lines, dict[str, float]]]) -> tuple[Lines, dict[str, float]]:
+    """The lines and seconds of all parts of the tests."""
+    lines: dict[str, dict[int, set[str]]] = {}
+    for found, _ in parts:
+        for file, by_line in found.items():
+            for line, tests in by_line.items():
+                lines.setdefault(file, {}).setdefault(line, set()).update(tests)
+    return lines, {test: took for _, seconds in parts for test, took in seconds.items()}
 
 
 def survivors(seed: int, sample: list[Change], tests: Suite, jobs: int) -> list[Change]:
@@ -189,7 +228,7 @@ def main() -> int:
     given, found, counts = parsed(), {}, {}
     candidates = [change for change in [*changes(LAYER), *changes(AUDIT)] if change.file.is_relative_to(given.only)]
     candidates = [change for change in candidates if (change.file in PICTURES) == given.pictures]
-    with suite(given.jobs, given.tests) as tests:
+    with suite(given.jobs, files_of(given.tests)) as tests:
         if tests is None:
             print("a test fails without a change")
             return 2
