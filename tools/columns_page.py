@@ -10,21 +10,21 @@ import sys
 TOP = pathlib.Path(__file__).resolve().parent.parent
 sys.path.insert(0, str(TOP / "python"))
 
-from pitplan.results.column_types import Column, Table
+from pitplan.results.column_types import Column, TableDeclaration
 from pitplan.results.columns import TABLES
 
 PAGE = TOP / "docs" / "FORMATS.md"
 BEGIN, END = "<!-- by tools/columns_page.py -->\n", "<!-- end -->\n"
 
 
-def decimals(table: Table) -> str:
+def decimals(table: TableDeclaration) -> str:
     """How numbers are rounded, in words."""
     if table.digits is None:
         return ""
     return f" Numbers have {table.digits} significant digits." if table.digits else " Numbers are written in full."
 
 
-def row(column: Column, table: Table) -> str:
+def row(column: Column, table: TableDeclaration) -> str:
     """The row of a column."""
     places = "" if column.unit.decimals is None else f"{column.unit.decimals}"
     holds = f"{column.holds} ({column.when})" if column.when else column.holds
@@ -32,7 +32,7 @@ def row(column: Column, table: Table) -> str:
     return f"| {' | '.join(cells)} |"
 
 
-def section(table: Table) -> list[str]:
+def section(table: TableDeclaration) -> list[str]:
     """A table's file, its rows and its columns."""
     heads = ["Column", "Unit", *(["Decimals"] if table.digits is None else []), "Holds"]
     lines = [f"**`{table.file}`**: {table.rows}.{decimals(table)}", ""]

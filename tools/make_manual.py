@@ -23,7 +23,7 @@ TOP = pathlib.Path(__file__).resolve().parent.parent
 sys.path.insert(0, str(TOP / "python"))
 
 from pitplan import __version__  # noqa: E402
-from pitplan.cli.completions import Argument, Option, Subcommand, options_of, subcommands_of  # noqa: E402
+from pitplan.cli.completions import CompletedArgument, Option, CompletedSubcommand, options_of, subcommands_of  # noqa: E402
 from pitplan.cli.parser import DESCRIPTION, Parser, parser  # noqa: E402
 
 # The longest list of words that stands for a value; a longer one has a name.
@@ -34,18 +34,18 @@ PAGE, TEMPLATE = TOP / "man" / "pitplan.1", TOP / "man" / "pitplan.1.in"
 class Parts(NamedTuple):
     """What the parser says: its subcommands in groups, and the descriptions of their help."""
 
-    groups: dict[str, list[Subcommand]]
+    groups: dict[str, list[CompletedSubcommand]]
     descriptions: dict[str, str]
     top: Parser
 
-    def subcommands(self) -> list[Subcommand]:
+    def subcommands(self) -> list[CompletedSubcommand]:
         return [sub for group in self.groups.values() for sub in group]
 
 
 def parts() -> Parts:
     top = parser()
     known = {sub.name: sub for sub in subcommands_of(top)}
-    groups: dict[str, list[Subcommand]] = {}
+    groups: dict[str, list[CompletedSubcommand]] = {}
     for line in (top.epilog or "").splitlines():
         if line.endswith(":") and not line.startswith(" "):
             groups[line[:-1]] = []
@@ -64,7 +64,7 @@ def sentence(text: str) -> str:
     return f"{roff(text[:1].upper() + text[1:]).rstrip('.')}."
 
 
-def value_of(argument: Argument) -> str:
+def value_of(argument: CompletedArgument) -> str:
     """The value of an option or argument: its words if they are few, otherwise its name."""
     words = ",".join(argument.words)
     if len(argument.words) == 1 or len(words) > WIDEST:
@@ -72,20 +72,20 @@ def value_of(argument: Argument) -> str:
     return "{" + words + "}" if words else argument.name
 
 
-def on_the_line(argument: Argument) -> str:
+def on_the_line(argument: CompletedArgument) -> str:
     """An argument as command lines have it: in brackets if it may be left out, with dots if several may follow."""
     value = f"[{value_of(argument)}]" if argument.is_optional else value_of(argument)
     return f"{value} ..." if argument.repeats else value
 
 
-def described(part: Union[Argument, Option]) -> str:
+def described(part: Union[CompletedArgument, Option]) -> str:
     """What an argument or option is for, and whether it is required."""
     return sentence(part.help) + (" Required." if isinstance(part, Option) and part.required else "")
 
 
-def heading(part: Union[Argument, Option]) -> str:
+def heading(part: Union[CompletedArgument, Option]) -> str:
     """The line of an option, with all its spellings, or of an argument."""
-    if isinstance(part, Argument):
+    if isinstance(part, CompletedArgument):
         return f"\\fI{value_of(part)}\\fR"
     value = f" \\fI{value_of(part.value)}\\fR" if part.value else ""
     return ", ".join(f"\\fB{roff(spelling)}\\fR{value}" for spelling in part.spellings)
@@ -115,11 +115,11 @@ def subcommand_lines(known: Parts, more: dict[str, list[str]]) -> list[str]:
     return lines
 
 
-def name_of(part: Union[Argument, Option]) -> str:
-    return part.name if isinstance(part, Argument) else max(part.spellings, key=len).lstrip("-")
+def name_of(part: Union[CompletedArgument, Option]) -> str:
+    return part.name if isinstance(part, CompletedArgument) else max(part.spellings, key=len).lstrip("-")
 
 
-def part_lines(found: Iterable[tuple[str, Union[Argument, Option]]], more: dict[str, list[str]]) -> list[str]:
+def part_lines(found: Iterable[tuple[str, Union[CompletedArgument, Option]]], more: dict[str, list[str]]) -> list[str]:
     """Arguments or options, each with its words and the subcommands that take it in these words."""
     named: dict[str, dict[str, dict[str, list[str]]]] = {}
     for sub, part in found:

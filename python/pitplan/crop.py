@@ -26,7 +26,7 @@ from .economics import block_values
 
 
 @dataclass(frozen=True)
-class Model:
+class GriddedModel:
     """The rows of a table on their grid, the slope domain of each cell, and how many rows are the table's own; filled ones follow these."""
 
     frame: pd.DataFrame
@@ -37,7 +37,7 @@ class Model:
 
 
 @dataclass(frozen=True)
-class Box:
+class CellRanges:
     """Half-open ranges of levels from the top, rows from the south and columns from the west."""
 
     levels: slice
@@ -49,7 +49,7 @@ class Box:
         return self.levels, self.rows, self.columns
 
 
-def is_too_large(model: Model, project: Project) -> bool:
+def is_too_large(model: GriddedModel, project: Project) -> bool:
     """Returns whether blocks and processing nodes may exceed the limit of the solver."""
     nodes = model.grid.count + (
         np.count_nonzero(with_metal(model.frame, project)) if project.economics.cutoff == PER_REVENUE_FACTOR else 0
@@ -64,7 +64,7 @@ def with_metal(frame: pd.DataFrame, project: Project) -> np.ndarray:
     return found
 
 
-def left(model: Model, domains: SlopeDomains, project: Project) -> tuple[Model, str]:
+def left(model: GriddedModel, domains: SlopeDomains, project: Project) -> tuple[GriddedModel, str]:
     """Returns the cropped model and a note. Raises PlanError if no shell can reach any block, or the cropped model is too large."""
     grid = model.grid
     wanted = np.zeros(grid.count, dtype=bool)
@@ -85,7 +85,7 @@ def left(model: Model, domains: SlopeDomains, project: Project) -> tuple[Model, 
     return named_anew(cropped(model, box, inside), project), note_of(model, box)
 
 
-def can_pay(model: Model, project: Project) -> np.ndarray:
+def can_pay(model: GriddedModel, project: Project) -> np.ndarray:
     """Returns the rows that pay for their processing at the largest revenue factor, exactly."""
     some = np.flatnonzero(with_metal(model.frame, project))
     grid = replace(model.grid, rows=model.grid.rows[some])
@@ -93,7 +93,7 @@ def can_pay(model: Model, project: Project) -> np.ndarray:
     return some[gains]
 
 
-def box_of(used: np.ndarray, grid: Grid) -> Box:
+def box_of(used: np.ndarray, grid: Grid) -> CellRanges:
     """Returns the box of the used cells, one cell wider, and down to where each of its columns ends in rock."""
     cube = grid.cube(used)
     levels, rows, columns = (wider(cube.any(axis=tuple({0, 1, 2} - {axis})), grid.shape[axis]) for axis in range(3))
@@ -103,7 +103,7 @@ def box_of(used: np.ndarray, grid: Grid) -> Box:
     # Whether each level may be the last: each column has a block there, or none below it.
     may_end = (below | ~np.logical_or.accumulate(below[::-1], axis=0)[::-1]).all(axis=(1, 2))
     last = levels.stop - 1 + int(may_end[levels.stop - 1 :].argmax())
-    return Box(slice(0, last + 1), rows, columns)
+    return CellRanges(slice(0, last + 1), rows, columns)
 
 
 def wider(some: np.ndarray, count: int) -> slice:
@@ -112,7 +112,7 @@ def wider(some: np.ndarray, count: int) -> slice:
     return slice(max(0, int(first) - 1), min(count, int(last) + 2))
 
 
-def cropped(model: Model, box: Box, inside: np.ndarray) -> Model:
+def cropped(model: GriddedModel, box: CellRanges, inside: np.ndarray) -> GriddedModel:
     """Returns the part of a model within a box; `inside` has the cells of the box."""
     grid, ids = model.grid, np.full(model.grid.count, -1, dtype=np.int32)
     ids[inside.ravel()] = np.arange(inside.size)
@@ -123,10 +123,12 @@ def cropped(model: Model, box: Box, inside: np.ndarray) -> Model:
     small = Grid((levels, rows_of_cells, columns), (origin[0], origin[1], origin[2]), grid.size, rows, grid.azimuth)
     frame = model.frame.iloc[kept].reset_index(drop=True)
     known = int(np.count_nonzero(kept < model.known))
-    return Model(frame, small, model.domain_code[inside.ravel()], f"of what a shell can reach in {model.source}", known)
+    return GriddedModel(
+        frame, small, model.domain_code[inside.ravel()], f"of what a shell can reach in {model.source}", known
+    )
 
 
-def named_anew(model: Model, project: Project) -> Model:
+def named_anew(model: GriddedModel, project: Project) -> GriddedModel:
     """Returns the same model with the ids of filled blocks numbered by their cells in the box."""
     if project.table.id is None:
         return model
@@ -137,7 +139,7 @@ def named_anew(model: Model, project: Project) -> Model:
     return replace(model, frame=model.frame.assign(**{project.table.id: ids}))
 
 
-def note_of(model: Model, box: Box) -> str:
+def note_of(model: GriddedModel, box: CellRanges) -> str:
     """Returns a note with the number of removed blocks and the extent of the box."""
     grid, parts = model.grid, []
     kept = np.ones(len(grid.rows), dtype=bool)

@@ -61,7 +61,7 @@ class Precedences:
 
 
 @dataclass(frozen=True)
-class Rows:
+class PrecedenceRows:
     """Compressed sparse rows: the predecessors of node u are `needs[starts[u]:starts[u + 1]]`, rising. uint32, shapes (nodes + 1,) and
     (pairs,).
     """
@@ -70,7 +70,7 @@ class Rows:
     precedences: np.ndarray
 
 
-def rows_of(precedences: Precedences, most: int) -> tuple[Rows, Pairs]:
+def rows_of(precedences: Precedences, most: int) -> tuple[PrecedenceRows, Pairs]:
     """Returns the precedences as compressed rows, and their number. Precedences beyond `most` are only counted."""
     nodes, needed = precedences.binding()
     # What is not written to takes no memory.
@@ -89,7 +89,7 @@ def rows_of(precedences: Precedences, most: int) -> tuple[Rows, Pairs]:
     if written <= most:
         found[written : written + len(nodes)] = needed
     lengths[nodes + 1] = 1
-    return Rows(np.cumsum(lengths, dtype=np.uint32), found[: written + len(nodes)]), pairs
+    return PrecedenceRows(np.cumsum(lengths, dtype=np.uint32), found[: written + len(nodes)]), pairs
 
 
 def most_pairs(precedences: Precedences) -> int:

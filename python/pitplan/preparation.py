@@ -162,7 +162,7 @@ def lay_slope_domains(model: Preparation) -> None:
 
 def crop_to_reach(model: Preparation) -> None:
     """Leaves out the blocks that no shell can reach, if there are more blocks and processing nodes than the solver takes."""
-    whole = crop.Model(model.frame, model.grid, model.domain_code, model.source, len(model.table.frame))
+    whole = crop.GriddedModel(model.frame, model.grid, model.domain_code, model.source, len(model.table.frame))
     if not crop.is_too_large(whole, model.project):
         return
     with model.progress.step("removing blocks that no shell can reach"):

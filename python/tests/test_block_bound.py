@@ -22,7 +22,7 @@ from pitplan import PlanError
 from pitplan.config.schedule import Effort
 from pitplan.scheduling.blocks import problem as problems, relaxation
 from pitplan.scheduling.blocks.filling import ranks_of
-from pitplan.scheduling.blocks.problem import BlockProblem, Limit, demand_sound, upward
+from pitplan.scheduling.blocks.problem import BlockLimit, BlockProblem, demand_sound, upward
 from pitplan.scheduling.blocks.relaxation import (
     Groups,
     History,
@@ -275,10 +275,13 @@ def test_seconds_end_the_relaxation_behind_a_round():
     [
         (dict(values=np.array([[[np.nan]]])), "finite values"),
         (dict(values=np.zeros((1, 1, 0))), "at least one destination and one year"),
-        (dict(limits=(Limit("rock", np.array([[-1.0]]), np.array([1.0])),)), "rock: an amount is negative"),
-        (dict(limits=(Limit("rock", np.array([[1.0]]), np.array([-1.0])),)), "rock: the maximum of a year is negative"),
+        (dict(limits=(BlockLimit("rock", np.array([[-1.0]]), np.array([1.0])),)), "rock: an amount is negative"),
         (
-            dict(limits=(Limit("rock", np.array([[1.0]]), np.array([1.0, 2.0])),)),
+            dict(limits=(BlockLimit("rock", np.array([[1.0]]), np.array([-1.0])),)),
+            "rock: the maximum of a year is negative",
+        ),
+        (
+            dict(limits=(BlockLimit("rock", np.array([[1.0]]), np.array([1.0, 2.0])),)),
             "rock: expected amounts by block and destination",
         ),
     ],

@@ -20,7 +20,7 @@ from pitplan.config.schedule import Effort
 from pitplan.core.progress import silent
 from pitplan.scheduling.blocks import solve
 from pitplan.scheduling.blocks.filling import paying, ranks_of, schedule_of
-from pitplan.scheduling.blocks.problem import Assignment, Limit, demand_sound as demand_problem
+from pitplan.scheduling.blocks.problem import Assignment, BlockLimit, demand_sound as demand_problem
 from pitplan.scheduling.blocks.relaxation import (
     earliest_years,
     first_required,
@@ -39,7 +39,7 @@ def graded(problem, seed, loose=0.0):
         feed = rng.integers(1, 20, (problem.blocks, problem.destinations)).astype(float)
         feed[:, 0] = 0.0
         excess = (rng.uniform(0, 2, (problem.blocks, 1)) - rng.uniform(0.5, 1.2) - loose) * feed
-        limits.append(Limit(f"grade {number}", excess, np.zeros(problem.years), signed=True))
+        limits.append(BlockLimit(f"grade {number}", excess, np.zeros(problem.years), signed=True))
     return replace(problem, limits=(*problem.limits, *limits))
 
 
@@ -113,7 +113,7 @@ def blend(limit, years=1):
     values = np.array([DIRTY, CLEAN])[:, :, None] * 0.9 ** np.arange(years)
     problem = problem_of(values, [])
     excess = np.array([[0.0, (200 - limit) * 10.0], [0.0, (100 - limit) * 10.0]])
-    return replace(problem, limits=(Limit("grade", excess, np.zeros(years), signed=True),))
+    return replace(problem, limits=(BlockLimit("grade", excess, np.zeros(years), signed=True),))
 
 
 @pytest.mark.parametrize(
@@ -157,7 +157,7 @@ def test_blocks_that_a_grade_requires_are_added(batch):
         if not begun.problem.blocks:
             assert optimum == pytest.approx(0, abs=1e-6)
             continue
-        part, found = relaxed_as_required(problem, begun, EXACT, silent, lambda round: None)
+        part, found = relaxed_as_required(problem, begun, EXACT, silent, tell=lambda round: None)
         slack = 1e-6 * max(1.0, abs(optimum))
         assert optimum - slack <= found.bound <= optimum + slack, seed
         added += part.problem.blocks > begun.problem.blocks
@@ -172,7 +172,7 @@ def test_an_interrupted_relaxation_has_a_bound_for_all_blocks():
         raise KeyboardInterrupt
 
     begun = reduced(problem, first_required(problem))
-    part, found = relaxed_as_required(problem, begun, EXACT, silent, interrupt)
+    part, found = relaxed_as_required(problem, begun, EXACT, silent, tell=interrupt)
     assert begun.kept.tolist() == part.kept.tolist() == [0] and found.interrupted
     assert found.bound >= solve(problem, Effort(0.0, 60.0)).value == pytest.approx(45)
     assert priced(begun.nodes, found.multipliers).bound < 45
@@ -182,7 +182,7 @@ def test_clean_ore_stays_in_years_that_require_it_alone():
     """Two clean blocks that do not pay: one with the dirty block, and one in the next year."""
     values = np.array([DIRTY, CLEAN, CLEAN])[:, :, None] * np.ones(2)
     excess = np.array([[0.0, 500.0], [0.0, -500.0], [0.0, -500.0]])
-    problem = replace(problem_of(values, []), limits=(Limit("grade", excess, np.zeros(2), signed=True),))
+    problem = replace(problem_of(values, []), limits=(BlockLimit("grade", excess, np.zeros(2), signed=True),))
     schedule = schedule_of(problem, np.array([0, 0, 1]), np.array([1, 1, 1]))
     assert paying(problem, schedule).year.tolist() == [0, 0, 2]
 

@@ -14,8 +14,8 @@ from pitplan.config.schedule import Effort
 from pitplan.scheduling import highs_process
 from pitplan.scheduling.blocks import solve
 from pitplan.scheduling.blocks.filling import (
+    BlockOrder,
     Filling,
-    Sequence,
     in_order,
     moved,
     paying,
@@ -113,15 +113,15 @@ def test_each_block_comes_in_the_first_year_with_room():
     third; 4 needs 3, and no year is left for it."""
     problem = problem_of(np.ones((5, 3)), [(4, 3)], ([1, 1, 1, 2, 1], [2, 2, 2]))
     earliest = np.array([0, 0, 1, 0, 0])
-    assert filling_of(problem).fill(Sequence(np.arange(5), earliest)).year.tolist() == [0, 0, 1, 2, 3]
-    assert filling_of(problem).fill(Sequence(np.array([3, 4, 2]), earliest)).year.tolist() == [3, 3, 1, 0, 1]
+    assert filling_of(problem).fill(BlockOrder(np.arange(5), earliest)).year.tolist() == [0, 0, 1, 2, 3]
+    assert filling_of(problem).fill(BlockOrder(np.array([3, 4, 2]), earliest)).year.tolist() == [3, 3, 1, 0, 1]
 
 
 def test_a_block_goes_to_the_destination_that_has_room():
     """Each earns more in the mill, which takes one block a year."""
     values = np.tile(np.array([[1.0], [5.0]]), (3, 1, 1))
     problem = problem_of(values, [], ([[0, 1]] * 3, [1]))
-    schedule = filling_of(problem).fill(Sequence(np.arange(3), np.zeros(3, dtype=int)))
+    schedule = filling_of(problem).fill(BlockOrder(np.arange(3), np.zeros(3, dtype=int)))
     assert schedule.year.tolist() == [0, 0, 0] and schedule.share.tolist() == [[0, 1], [1, 0], [1, 0]]
 
 
@@ -190,7 +190,7 @@ def test_a_window_frees_blocks_of_its_years_and_keeps_the_others():
     schedule = schedule_of(problem, np.array([1, 2, 1, 2, 0, 3]), np.zeros(6, dtype=int))
     cumulative = np.zeros((6, 4))
     cumulative[[0, 2, 3]] = [0, 0.5, 1, 1]
-    window = window_of(problem, schedule, cumulative, (1, 3), 6)
+    window = window_of(problem, schedule, cumulative, range(1, 3), most=6)
     assert window.blocks.tolist() == [0, 2, 3] and window.part.limits[0].most.tolist() == [2, 1]
     assert [bounds.tolist() for bounds in window.bounds()] == [[1, 1, 1], [4, 4, 3]]
     # Room for one in the third year, where each earns one more than in the second: two stay, and any of them may be the third.

@@ -24,7 +24,7 @@ from pitplan.blockmodel import reader
 from pitplan.cli import main
 from pitplan.commands import drawing
 from pitplan.core.atomic_files import hash_of
-from pitplan.precedences import Rows
+from pitplan.precedences import PrecedenceRows
 from pitplan.solver import choice, library, mine_files, program
 from pitplan.solver.problem import counted_rows
 from pitplan.studies import sensitivity
@@ -205,7 +205,7 @@ def test_arrays_are_handed_over_as_they_are(monkeypatch):
     given = []
     monkeypatch.setattr(pitshell._nesting._library, "shells", lambda *words: given.extend(words) or 0)
     revenue, cost = np.array([0, 5], dtype=np.int64), np.array([3, 0], dtype=np.int64)
-    listed = Rows(np.array([0, 0, 1], dtype=np.uint32), np.array([0], dtype=np.uint32))
+    listed = PrecedenceRows(np.array([0, 0, 1], dtype=np.uint32), np.array([0], dtype=np.uint32))
     library.shells((revenue, cost), listed, (0.5, 1.0))
     for array in (revenue, cost, listed.starts, listed.precedences):
         assert any(array is it for it in given)
@@ -214,7 +214,7 @@ def test_arrays_are_handed_over_as_they_are(monkeypatch):
 def test_shells_of_arrays_by_hand():
     """Ore of 5 under waste of 3: mined at 1.0 and worth 2 there; at 0.7 it is worth half a unit."""
     millions = np.array([[0, 5_000_000], [3_000_000, 0]])
-    listed = Rows(np.array([0, 0, 1], dtype=np.uint32), np.array([0], dtype=np.uint32))
+    listed = PrecedenceRows(np.array([0, 0, 1], dtype=np.uint32), np.array([0], dtype=np.uint32))
     found = library.shells((millions[0], millions[1]), listed, (0.5, 0.7, 1.0))
     assert found.entry.tolist() == [0.7, 0.7] and found.answer is None
     assert found.worth.to_dict() == {0.5: 0, 0.7: Decimal("0.5"), 1.0: 2} and found.nodes.to_dict() == {
@@ -243,7 +243,7 @@ def lines_of(tmp_path, *lines):
 )
 def test_refusals_are_those_of_the_program(tmp_path, lines, starts, precedences, said):
     told = []
-    listed = Rows(np.array(starts, dtype=np.uint32), np.array(precedences, dtype=np.uint32))
+    listed = PrecedenceRows(np.array(starts, dtype=np.uint32), np.array(precedences, dtype=np.uint32))
     amounts = np.array([0, 5]), np.array([3, 0])
     for solve in (
         lambda: program.solve_files(*lines_of(tmp_path, *lines)),
@@ -256,7 +256,7 @@ def test_refusals_are_those_of_the_program(tmp_path, lines, starts, precedences,
 
 
 def test_a_block_that_must_be_dug_and_may_not_be_is_refused_as_by_the_program():
-    listed = Rows(np.array([0, 0, 1], dtype=np.uint32), np.array([0], dtype=np.uint32))
+    listed = PrecedenceRows(np.array([0, 0, 1], dtype=np.uint32), np.array([0], dtype=np.uint32))
     with pytest.raises(
         ProgramError, match="^pitshell solve ended with status 1: error 21: fixed blocks clash at block 0$"
     ):
@@ -266,11 +266,11 @@ def test_a_block_that_must_be_dug_and_may_not_be_is_refused_as_by_the_program():
 MEMORY = """
 import resource, numpy as np
 from pitplan import ProgramError
-from pitplan.precedences import Rows
+from pitplan.precedences import PrecedenceRows
 from pitplan.solver import library
 nodes = 4_000_000
 amounts = np.ones(nodes, dtype=np.int64)
-rows = Rows(np.arange(nodes + 1, dtype=np.uint32).clip(1) - 1, np.arange(nodes - 1, dtype=np.uint32))
+rows = PrecedenceRows(np.arange(nodes + 1, dtype=np.uint32).clip(1) - 1, np.arange(nodes - 1, dtype=np.uint32))
 rows.starts[-1] = nodes - 1
 library.loaded()
 held = int(open("/proc/self/statm").read().split()[0]) * resource.getpagesize()
@@ -455,7 +455,7 @@ def test_a_worker_with_another_library_solves_nothing(plan_folder, monkeypatch):
 
 def test_cases_of_a_sensitivity_are_not_begun_with_another_library(plan_folder, monkeypatch):
     project = load(plan_folder(rows(3, 1, 2, cu=lambda i, j, k: 3), PROJECT))
-    asked = sensitivity.Asked(project, reader.read(project).frame, choice.chosen("library"))
+    asked = sensitivity.SensitivityInput(project, reader.read(project).frame, choice.chosen("library"))
     assert sensitivity.find(sensitivity.Case(), asked).row["blocks"] == 6
     other_library(monkeypatch)
     with pytest.raises(ProgramError, match="the library here .* differs from the one that began this"):

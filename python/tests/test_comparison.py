@@ -16,7 +16,7 @@ from pitplan.cli import main
 from pitplan.commands import plans
 from pitplan.core.atomic_files import hash_of
 from pitplan.figures import comparison as figures
-from pitplan.studies.comparison import Change, changes, names_of
+from pitplan.studies.comparison import KeyChange, changes, names_of
 
 PLAIN = pitplan.Writing(verifies=False, figures=False)
 CHEAP = ("mining_cost = 2\n", "mining_cost = 1\n")
@@ -247,7 +247,7 @@ def test_changes_of_sections_by_hand():
     assert made == other and base["economics"] == {"a": 1, "b": 2}
     order = changes({"metals": base["metals"]}, {"metals": base["metals"][::-1]})
     assert [it.key for it in order] == ["metals"] and order[0].made_in(base)["metals"] == base["metals"][::-1]
-    assert Change(("title",), "one", "two").matters is False and found[0].matters
+    assert KeyChange(("title",), "one", "two").matters is False and found[0].matters
 
 
 def test_names_of_folders(tmp_path):

@@ -9,7 +9,7 @@ from helpers.benches import benches_of, problem_of
 
 from pitplan.config.material import Dump, Stockpile
 from pitplan.scheduling.bench_sequencing import Limits
-from pitplan.scheduling.flow.conflicts import Conflict, Unit, in_words, smallest
+from pitplan.scheduling.flow.conflicts import Conflict, LimitOfYear, in_words, smallest
 from pitplan.scheduling.flow.material import SET, Ore
 from pitplan.scheduling.flow.model import FlowModel, OpeningOre
 from pitplan.scheduling.flow.programme import FlowProgramme
@@ -114,7 +114,7 @@ def test_of_random_limits_the_filter_leaves_a_conflict_in_which_none_is_idle():
     """Any family of minimal conflicts over ten units, against the definition: what remains conflicts, and no part of it does."""
     draw = random.Random(7)
     for _ in range(200):
-        units = [Unit(draw.randrange(4), name, MAX) for name in "abcde"]
+        units = [LimitOfYear(draw.randrange(4), name, MAX) for name in "abcde"]
         conflicts = [set(draw.sample(units, draw.randint(1, 4))) for _ in range(draw.randint(1, 4))]
 
         def conflicting(some, conflicts=conflicts):
@@ -129,7 +129,7 @@ def test_of_random_limits_the_filter_leaves_a_conflict_in_which_none_is_idle():
 
 
 def test_a_filter_without_programmes_left_says_so():
-    units = [Unit(year, "total_tonnes", MAX) for year in range(8)]
+    units = [LimitOfYear(year, "total_tonnes", MAX) for year in range(8)]
     needed = {units[0], units[5]}
     found = smallest(units, lambda some: set(some) if needed <= set(some) else None, most=3)
     assert needed <= set(found.units)

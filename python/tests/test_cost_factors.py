@@ -14,7 +14,7 @@ from helpers.verified import UNVERIFIED
 import pitplan
 from pitplan import PlanError, verify
 from pitplan.blockmodel import reader
-from pitplan.economics.weighing import Rows
+from pitplan.economics.weighing import ValuedRows
 from planaudit import AuditError
 from planaudit.inputs import block_table, project_file
 
@@ -186,9 +186,9 @@ def test_a_planted_wrong_factor_is_found(plan_folder, monkeypatch, key):
     """Costs are computed with the factors of the other column."""
     path = plan_folder(table_of(), PROJECT, BOTH)
     pitplan.write_shells(path)
-    adjusted, columns = Rows.adjusted, {"mcaf": "mc", "pcaf": "pc"}
+    adjusted, columns = ValuedRows.adjusted, {"mcaf": "mc", "pcaf": "pc"}
     monkeypatch.setattr(
-        Rows, "adjusted", lambda rows, cost, name: adjusted(rows, cost, "cu" if name == columns[key] else name)
+        ValuedRows, "adjusted", lambda rows, cost, name: adjusted(rows, cost, "cu" if name == columns[key] else name)
     )
     with pytest.raises(PlanError, match="money: .*" + ("mining_cost" if key == "mcaf" else "processing_cost")):
         pitplan.write_shells(path)

@@ -85,7 +85,11 @@ def parts_of(monkeypatch, path, table, count):
 
 @pytest.mark.parametrize(
     "count, parts",
-    [(1, [(0, 7)]), (3, [(0, 2), (2, 4), (4, 7)]), (9, [(0, 1), (1, 3), (3, 5), (5, 7)])],
+    [
+        (1, [range(0, 7)]),
+        (3, [range(0, 2), range(2, 4), range(4, 7)]),
+        (9, [range(0, 1), range(1, 3), range(3, 5), range(5, 7)]),
+    ],
 )
 def test_processes_write_parts_that_are_put_together(tmp_path, monkeypatch, count, parts):
     table = pd.DataFrame({"id": np.arange(7), "name": [*"abcdef", "g,h"], "x": [0.5, np.nan, 1, 2, 3, 4, 5]})

@@ -8,7 +8,7 @@ from helpers.random_tests import examples
 from hypothesis import given, strategies as st
 
 from pitplan.core import tolerances
-from pitplan.scheduling.bench_sequencing import Limits, Sequence, mine_in_order
+from pitplan.scheduling.bench_sequencing import BenchSequence, Limits, mine_in_order
 from pitplan.scheduling.flow import scheduler
 from pitplan.scheduling.flow.programme import FlowProgramme
 from pitplan.scheduling.flow.scheduler import whole_shares
@@ -53,7 +53,7 @@ def test_depths_are_of_whole_benches_and_worth_no_less(pits, limits, lag, speed)
     benches, years = random_benches(pits, lag), 4
     problem = problem_of(benches, limits)
     pace = speed * benches.of("total_tonnes").sum() / years * np.arange(1, years + 1)
-    mined = mine_in_order(problem, Sequence(np.arange(len(benches)), pace=pace), years)
+    mined = mine_in_order(problem, BenchSequence(np.arange(len(benches)), pace=pace), years)
     mined = np.pad(mined, ((0, 0), (0, years - mined.shape[1])))
     for deeper in (True, False):
         least, most = scheduler.around(benches, mined.cumsum(axis=1), deeper)

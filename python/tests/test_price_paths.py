@@ -46,13 +46,13 @@ def test_mean_and_covariance_of_many_paths_are_those_of_the_closed_formula():
     """Of 20,000 paths at uneven times. The mean of a sample errs by its standard deviation over the root of the count, a variance by its own times the
     root of 2 over the count; both within four of these."""
     times, count = np.array([0.25, 0.5, 2.0, 7.0]), 20_000
-    sample = np.log(price_paths.prices_of(COPPER, 8000.0, times, (3, 0), count))
+    sample = np.log(price_paths.prices_of(COPPER, 8000.0, times, (3, 0), count=count))
     mean, covariance = closed(times)
     spread = np.sqrt(np.diag(covariance))
     assert (np.abs(sample.mean(axis=0) - mean) < 4 * spread / math.sqrt(count)).all()
     assert (np.abs(np.cov(sample.T) - covariance) < 4 * np.outer(spread, spread) * math.sqrt(2 / count)).all()
     # In the long run the median is the long-term price.
-    late = price_paths.prices_of(COPPER, 8000.0, np.array([60.0]), (3, 0), 4000)
+    late = price_paths.prices_of(COPPER, 8000.0, np.array([60.0]), (3, 0), count=4000)
     assert np.median(late) == pytest.approx(9000, rel=4 * 1.2533 * spread[-1] / math.sqrt(4000))
 
 
@@ -75,21 +75,21 @@ def second(path, start, times, seed):
 
 def test_a_path_is_that_of_a_second_implementation():
     times = np.array([0.5, 1.5, 2.5, 4.0])
-    found = price_paths.prices_of(COPPER, 8000.0, times, (7, 1), 3)
+    found = price_paths.prices_of(COPPER, 8000.0, times, (7, 1), count=3)
     for number in range(3):
         assert found[number].tolist() == pytest.approx(second(COPPER, 8000.0, times, [7, 1, number]), rel=1e-12)
 
 
 def test_a_seed_gives_the_same_paths_and_more_years_do_not_change_them():
-    short, long = (price_paths.prices_of(COPPER, 8000.0, np.arange(0.5, years), (7, 0), 5) for years in (3, 6))
+    short, long = (price_paths.prices_of(COPPER, 8000.0, np.arange(0.5, years), (7, 0), count=5) for years in (3, 6))
     assert long[:, :3].tolist() == short.tolist()
-    other = price_paths.prices_of(COPPER, 8000.0, np.arange(0.5, 3), (8, 0), 5)
+    other = price_paths.prices_of(COPPER, 8000.0, np.arange(0.5, 3), (8, 0), count=5)
     assert not np.isclose(other, short).any()
 
 
 def test_without_volatility_the_price_goes_straight_to_its_long_term():
     still = PricePath(Decimal(9000), Decimal("0.4"), Decimal(0))
-    found = price_paths.prices_of(still, 8000.0, np.array([1.0, 50.0]), (1, 0), 2)
+    found = price_paths.prices_of(still, 8000.0, np.array([1.0, 50.0]), (1, 0), count=2)
     one = 9000 * (8000 / 9000) ** math.exp(-0.4)
     assert found == pytest.approx(np.array([[one, 9000], [one, 9000]]), rel=1e-6)
 

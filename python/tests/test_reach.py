@@ -11,7 +11,7 @@ from helpers.verified import UNVERIFIED
 import pitplan
 from pitplan import PlanError, crop, verify
 from pitplan.blockmodel.grid import Grid
-from pitplan.crop import Box
+from pitplan.crop import CellRanges
 
 ANGLES = ('pattern = "1:5"', "angle = 50")
 
@@ -98,7 +98,7 @@ def test_the_box_by_hand(absent, levels):
     filled = np.flatnonzero(~cells(*absent))
     grid = Grid((5, 4, 6), (0.0, 0.0, 0.0), (1.0, 1.0, 1.0), filled)
     used = cells((0, 0, 2), (1, 1, 3)).ravel()
-    assert crop.box_of(used, grid) == Box(slice(0, levels), slice(0, 3), slice(1, 5))
+    assert crop.box_of(used, grid) == CellRanges(slice(0, levels), slice(0, 3), slice(1, 5))
 
 
 def test_what_must_be_dug_is_kept(plan_folder, few):
@@ -147,7 +147,7 @@ def test_a_table_written_back_has_no_factor_where_it_was_left_out(plan_folder, f
 
 def narrower(used, grid):
     box = box_of(used, grid)
-    return Box(box.levels, box.rows, slice(box.columns.start + 3, box.columns.stop))
+    return CellRanges(box.levels, box.rows, slice(box.columns.start + 3, box.columns.stop))
 
 
 box_of = crop.box_of

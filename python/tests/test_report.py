@@ -305,8 +305,8 @@ def test_a_report_is_of_the_project_that_was_run(copied):
 def test_a_table_that_is_too_wide_stands_in_parts(count):
     """Each with the first column, and of at most 13; none is lost, and the grade of a metal is beside what is recovered of it."""
     names = ["revenue_factor", *(f"{kind}_{k}" for k in range(count) for kind in ("grade", "metal"))][:count]
-    table = html.Written("tables/shells.csv", pd.DataFrame({name: [1.0, 2.0] for name in names}))
-    parts = html.parts_of(table, lambda frame, project: [(name, name, 1.0, 0) for name in names], None)
+    table = html.WrittenTable("tables/shells.csv", pd.DataFrame({name: [1.0, 2.0] for name in names}))
+    parts = html.parts_of(table, lambda frame, project: [columns.ShownColumn(name, name) for name in names], None)
     assert all(
         part["headings"][0] == "revenue_factor" and len(part["headings"]) <= 13 and len(part["rows"]) == 2
         for part in parts
@@ -319,10 +319,10 @@ def test_a_table_that_is_too_wide_stands_in_parts(count):
 
 
 def test_a_bound_that_was_not_found_is_a_dash_without_a_unit():
-    ways = html.Written(
+    ways = html.WrittenTable(
         "tables/methods.csv", pd.DataFrame({"method": ["rule"], "npv": [2.5e7], "upper_bound": [float("nan")]})
     )
-    told = [ways.figure("NPV", 0, (name, "NPV, M EUR", 1e6, 1)) for name in ("npv", "upper_bound")]
+    told = [ways.figure("NPV", 0, columns.ShownColumn(name, "NPV, M EUR", 1e6, 1)) for name in ("npv", "upper_bound")]
     assert [(it.text, it.source) for it in told] == [
         ("25.0 M EUR", "tables/methods.csv row 2 column npv"),
         ("–", "tables/methods.csv row 2 column upper_bound"),

@@ -9,7 +9,7 @@ from conftest import PROJECT, rows
 from helpers import worked_cash_flow
 
 import pitplan
-from pitplan.report.statements import Written, of_money, physicals
+from pitplan.report.statements import WrittenTable, of_money, physicals
 
 PLAIN = pitplan.Writing(figures=False, verifies=False)
 
@@ -111,7 +111,7 @@ def test_more_years_than_fit_continue_in_another_table(worked):
     lines = pd.read_csv(folder / "tables/cash_flow.csv").query("method == 'milp'").iloc[[0, 1, 2] * 4 + [2]]
     lines = lines.assign(year=range(1, 14)).reset_index(drop=True)
     years = pd.DataFrame({f"feed_tonnes_{name}": [1.0] * 13 for name in ("mill", "leach")})
-    first, second = physicals(Written("cash_flow.csv", lines), Written("years.csv", years), project)
+    first, second = physicals(WrittenTable("cash_flow.csv", lines), WrittenTable("years.csv", years), project)
     assert first["headings"][:3] == ["quantity", "all", "year 1"] and second["headings"] == [
         "quantity",
         "year 12",
@@ -141,8 +141,8 @@ def test_a_schedule_that_pays_from_the_start_shows_no_return_and_no_payback(work
     """A card of 0.0 years would be read as a fast return; one without a payback in its life keeps its dash."""
     project = pitplan.load(worked[0].parent.parent / "project.toml")
     row = {"discount_rate": 0.1, "npv": 5.0, "npv_after_tax": 4.0, "irr_after_tax": float("nan")}
-    values = Written("valuation.csv", pd.DataFrame([row | {"payback_after_tax": payback}]))
-    found = of_money(Written("cash_flow.csv", pd.DataFrame({"year": [1]})), values, project)
+    values = WrittenTable("valuation.csv", pd.DataFrame([row | {"payback_after_tax": payback}]))
+    found = of_money(WrittenTable("cash_flow.csv", pd.DataFrame({"year": [1]})), values, project)
     labels = ["Net present value after tax", "Internal rate of return after tax", "Payback after tax"]
     assert [it.name for it in found] == labels[:count]
 

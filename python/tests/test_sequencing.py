@@ -7,7 +7,7 @@ from helpers.benches import THREE, benches_of, demand_minable, pits, problem_of,
 from hypothesis import given, strategies as st
 
 from pitplan import PlanError
-from pitplan.scheduling.bench_sequencing import Limits, Sequence, by_lead, by_rule, leads, mine_in_order
+from pitplan.scheduling.bench_sequencing import BenchSequence, Limits, by_lead, by_rule, leads, mine_in_order
 
 
 def shares_of(rows):
@@ -71,13 +71,13 @@ def test_what_is_left_over_is_used_where_an_order_is_eager():
     limits = Limits({"feed_tonnes": 100, "total_tonnes": 150})
     order = by_lead(benches, 2).order
     assert order.tolist() == [0, 1, 2, 3]
-    assert mine_in_order(problem_of(benches, limits), Sequence(order)).tolist() == shares_of(
+    assert mine_in_order(problem_of(benches, limits), BenchSequence(order)).tolist() == shares_of(
         [[1, 0, 0], [0, 1, 0], [0, 0.5, 0.5], [0, 0, 1]]
     )
-    assert mine_in_order(problem_of(benches, limits), Sequence(order, eager=True)).tolist() == shares_of(
+    assert mine_in_order(problem_of(benches, limits), BenchSequence(order, eager=True)).tolist() == shares_of(
         [[1, 0, 0], [0, 1, 0], [0.5, 0.5, 0], [0, 0, 1]]
     )
-    late = Sequence(order, np.array([1, 1, 2, 1]), eager=True)
+    late = BenchSequence(order, np.array([1, 1, 2, 1]), eager=True)
     assert mine_in_order(problem_of(benches, limits), late).tolist() == shares_of(
         [[1, 0, 0], [0, 1, 0], [0, 0.5, 0.5], [0, 0, 1]]
     )
@@ -110,7 +110,7 @@ limits = st.builds(
 def test_what_is_dug_can_be_dug_and_all_is(pit, limits, lag, eager):
     benches = random_benches(pit, lag)
     for lead in leads(benches):
-        shares = mine_in_order(problem_of(benches, limits), Sequence(by_lead(benches, lead).order, eager=eager))
+        shares = mine_in_order(problem_of(benches, limits), BenchSequence(by_lead(benches, lead).order, eager=eager))
         demand_minable(benches, limits, shares)
         assert shares.sum(axis=1) == pytest.approx(np.ones(len(benches)))
         assert shares[:, -1].any()

@@ -559,7 +559,7 @@ def test_capacity_that_is_caught_up_is_found(plan_folder, monkeypatch):
 
     def cumulative(amounts, wait):
         ends = np.cumsum(amounts @ wait.uses, axis=0).max(axis=1)
-        return best_worst_case.Course(amounts, np.concatenate([[0.0], ends])[:, None], np.ones((1, 1)))
+        return best_worst_case.PieceSequence(amounts, np.concatenate([[0.0], ends])[:, None], np.ones((1, 1)))
 
     monkeypatch.setattr(best_worst_case, "course_of", cumulative)
     assert "years: " in refused(plan_folder)

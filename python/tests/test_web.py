@@ -20,7 +20,7 @@ import pitplan
 from pitplan import PlanError
 from pitplan.core import paths
 from pitplan.web import import_pages, jobs as jobs_of, run_form
-from pitplan.web.jobs import CANCELLED, DONE, FAILED, LOST, RUNNING, WAITING, Jobs, Step, steps_of
+from pitplan.web.jobs import CANCELLED, DONE, FAILED, LOST, RUNNING, WAITING, Jobs, JobStep, steps_of
 from pitplan.web.run_form import WrongForm
 from pitplan.web.security import Access
 from pitplan.web.server import listening
@@ -277,7 +277,7 @@ def test_a_form_that_is_too_long_or_no_form_is_refused(client):
 
 def test_steps_of_a_log():
     log = "reading blocks.csv .. 1.7 s\nnote\nsolving .. 3 of 9: x .. 0.1 s\ndrawing .."
-    assert steps_of(log)[0] == Step("reading blocks.csv", 1.7) and steps_of(log)[-1] == Step("drawing", None)
+    assert steps_of(log)[0] == JobStep("reading blocks.csv", 1.7) and steps_of(log)[-1] == JobStep("drawing", None)
     assert [it.what for it in steps_of(log)] == ["reading blocks.csv", "solving", "drawing"]
 
 

@@ -14,7 +14,7 @@ from helpers.pushbacks import pillars
 from pitplan.config.project import load
 from pitplan.web import grids, project_text
 from pitplan.web.draft import Draft
-from pitplan.web.grids import KINDS, Row, grids_of
+from pitplan.web.grids import KINDS, GridRow, grids_of
 from pitplan.web.named_process import with_named_process
 from pitplan.web.run_form import WrongForm
 from pitplan.web.security import Access
@@ -200,7 +200,7 @@ def test_a_row_between_others_goes_there_and_comments_stay(path, client):
     cells = tuple(
         {"name": "silver", "column": "ag", "unit": "percent", "price": "5"}.get(it.name, "") for it in found.columns
     )
-    after = replace(found, rows=[found.rows[0], Row(None, cells), Row(None, ("x", *cells[1:])), found.rows[1]])
+    after = replace(found, rows=[found.rows[0], GridRow(None, cells), GridRow(None, ("x", *cells[1:])), found.rows[1]])
     text = grids.changed(TEXT, found, after, NAME)
     names = [it["name"] for it in tomllib.loads(text)["metals"]]
     assert names == ["copper", "silver", "x", "gold"]
@@ -255,7 +255,7 @@ def test_rules_in_another_form_are_changed_there(path):
     path.write_text(text)
     grid = grids_of(text, load(path))["classes"]
     assert [row.cells for row in grid.rows] == [("inf", "ore")]
-    after = replace(grid, rows=[Row(0, ("inf", "ore")), Row(None, ("x", "waste"))])
+    after = replace(grid, rows=[GridRow(0, ("inf", "ore")), GridRow(None, ("x", "waste"))])
     expected = text.replace('{ inf = "ore" }', '{ inf = "ore", x = "waste" }')
     assert grids.changed(text, grid, after, NAME) == expected
 
@@ -350,7 +350,7 @@ def test_a_text_that_a_grid_cannot_change_is_refused(path):
     cells = list(grid.rows[0].cells)
     cells[place] = "5"
     with pytest.raises(WrongForm, match=r"in a way that this grid cannot change: change it in the text"):
-        grids.changed(text, grid, replace(grid, rows=[Row(0, tuple(cells)), grid.rows[1]]), NAME)
+        grids.changed(text, grid, replace(grid, rows=[GridRow(0, tuple(cells)), grid.rows[1]]), NAME)
 
 
 # ---- all examples, each cell
@@ -359,7 +359,7 @@ def test_a_text_that_a_grid_cannot_change_is_refused(path):
 def rows_with(grid, row, column, text):
     cells = list(grid.rows[row].cells)
     cells[column] = text
-    return replace(grid, rows=[*grid.rows[:row], Row(row, tuple(cells)), *grid.rows[row + 1 :]])
+    return replace(grid, rows=[*grid.rows[:row], GridRow(row, tuple(cells)), *grid.rows[row + 1 :]])
 
 
 @pytest.mark.parametrize("file", sorted(str(it.relative_to(ROOT)) for it in ROOT.glob("examples/*/project*.toml")))

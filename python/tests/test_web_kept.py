@@ -12,7 +12,7 @@ from helpers.documentation import ROOT
 
 from pitplan import PlanError
 from pitplan.web import project_text, results_page, workspace
-from pitplan.web.kept import Kept
+from pitplan.web.kept import FileCache
 from pitplan.web.security import Access
 from pitplan.web.workspace import Workspace
 
@@ -44,7 +44,7 @@ def counted(monkeypatch, module, name):
 
 
 def test_a_value_is_read_again_only_if_its_file_changes(tmp_path):
-    file, kept = tmp_path / "a", Kept(2)
+    file, kept = tmp_path / "a", FileCache(2)
     file.write_text("one")
     assert [kept.of("a", [file], file.read_text) for _ in range(3)] == ["one"] * 3
     # Another file of the same size and time takes its place, as a save within the clock's resolution does.
@@ -60,7 +60,7 @@ def test_a_value_is_read_again_only_if_its_file_changes(tmp_path):
 
 
 def test_a_file_that_changes_while_it_is_read_is_read_again(tmp_path):
-    file, kept = tmp_path / "a", Kept(2)
+    file, kept = tmp_path / "a", FileCache(2)
     file.write_text("old")
 
     def reads_late():
@@ -73,7 +73,7 @@ def test_a_file_that_changes_while_it_is_read_is_read_again(tmp_path):
 
 
 def test_the_value_that_was_asked_for_longest_ago_goes_first(tmp_path):
-    file, kept, reads = tmp_path / "a", Kept(2), []
+    file, kept, reads = tmp_path / "a", FileCache(2), []
     file.write_text("")
     for key in "abacabc":
         kept.of(key, [file], lambda: reads.append(key))
@@ -81,7 +81,7 @@ def test_the_value_that_was_asked_for_longest_ago_goes_first(tmp_path):
 
 
 def test_a_value_that_is_not_to_be_kept_is_read_each_time(tmp_path):
-    kept = Kept(2)
+    kept = FileCache(2)
     assert [kept.of("a", [], lambda: value, keeps=bool) for value in ([], [1], [2])] == [[], [1], [1]]
 
 

@@ -237,7 +237,7 @@ def test_a_key_that_is_left_out_is_added_and_removed_again(file):
         name = "/" + field.entry.name.replace(".", "/")
         assert found == before | {name: Decimal("0.125")}
         (entry,) = [it for it in values_form.entries(added) if it.name == field.entry.name]
-        again = [values_form.Field(entry, "", "", "0.125", is_optional=True)]
+        again = [values_form.FormField(entry, "", "", "0.125", is_optional=True)]
         assert tomllib.loads(changed(added, again, typed(again, {field.name: ""})), parse_float=Decimal).items() >= (
             tomllib.loads(text, parse_float=Decimal).items()
         )
@@ -256,7 +256,9 @@ def test_the_form_of_the_schedule_adds_its_sections(path, client):
 
 def test_a_number_is_refused_with_its_label():
     text = "[economics]\nmining_cost = 2\n"
-    field = values_form.Field(values_form.Entry("economics.mining_cost", 2, 26, 27), "Mining cost", "USD/t", "2")
+    field = values_form.FormField(
+        values_form.TomlEntry("economics.mining_cost", 2, 26, 27), "Mining cost", "USD/t", "2"
+    )
     with pytest.raises(WrongForm, match="Mining cost: found '2,5', expected a number such as 2: write decimals with"):
         changed(text, [field], typed([field], {field.name: " 2,5 "}))
     assert changed(text, [field], typed([field], {field.name: " 2.5 "})) == text.replace("2", "2.5")

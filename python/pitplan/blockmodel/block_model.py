@@ -11,7 +11,7 @@ import pandas as pd
 from pitplan.config.agreement import demand, of_table
 from pitplan.config.keys import read
 from pitplan.config.table import GridRules, TableColumns
-from pitplan.config.toml_text import Section, Source, as_toml
+from pitplan.config.toml_text import ProjectSource, Section, as_toml
 
 # The keys that belong to the grid; all others belong to the table.
 OF_GRID = ("size", "tolerance", "azimuth")
@@ -83,7 +83,7 @@ def of_keys(frame: Optional[pd.DataFrame], file: str, keys: Mapping[str, Any]) -
     given = as_toml(keys, SOURCE)
     table = {"file": file} | {key: value for key, value in given.items() if key not in OF_GRID}
     grid = {key: value for key, value in given.items() if key in OF_GRID}
-    source = Source(SOURCE, {"table": table, "grid": grid})
+    source = ProjectSource(SOURCE, {"table": table, "grid": grid})
     demand(of_table(read(TableColumns, Section(source, "table", table)), source.data), source)
     read(GridRules, Section(source, "grid", grid))
     return BlockModel(frame, table, grid)

@@ -12,7 +12,7 @@ import numpy as np
 import pandas as pd
 
 from pitplan.config.project import Project
-from pitplan.config.table import Reblock, Share
+from pitplan.config.table import BlockSize, Reblock, Share
 from pitplan.core.decimals import Exact
 from pitplan.core.numeric_fields import at_row
 from pitplan.errors import WARNING
@@ -26,7 +26,7 @@ MOST_FILLED = 1.001
 
 
 @dataclass(frozen=True)
-class Cells:
+class CellVolumes:
     """The cells of the rows of a table.
 
     Attributes
@@ -42,7 +42,7 @@ class Cells:
     """
 
     volumes: np.ndarray
-    size: tuple[float, float, float]
+    size: BlockSize
     corner: tuple[float, float, float]
     azimuth: Optional[float] = None
 
@@ -112,7 +112,7 @@ def diluted(frame: pd.DataFrame, name: str, share: Share) -> np.ndarray:
     return Exact(found.rounded(GRADE_PLACES)[0], GRADE_PLACES).floats()
 
 
-def cells_of(frame: pd.DataFrame, project: Project, source: str) -> Cells:
+def cells_of(frame: pd.DataFrame, project: Project, source: str) -> CellVolumes:
     """Returns the cells of the rows. Raises PlanError if they have several sizes and the project does not reblock them."""
     table = project.table
     sides = frame[list(table.rules.cell_size or ())].to_numpy()
@@ -131,7 +131,7 @@ def cells_of(frame: pd.DataFrame, project: Project, source: str) -> Cells:
         west, south = Frame(x, y, azimuth).back(np.array(-size[0] / 2), np.array(-size[1] / 2))
         corner = [float(west), float(south), float(z - size[2] / 2)]
     east, north, up = (float(side) for side in size)
-    return Cells(volumes(frame, project).floats(), (east, north, up), (corner[0], corner[1], corner[2]), azimuth)
+    return CellVolumes(volumes(frame, project).floats(), (east, north, up), (corner[0], corner[1], corner[2]), azimuth)
 
 
 def demand_one_size(sides: np.ndarray, project: Project, source: str) -> None:

@@ -74,7 +74,7 @@ LAYOUTS = tuple(Words(size, order) for order in "<>" for size in (4, 8))
 
 
 @dataclass(frozen=True)
-class Part:
+class DefinedField:
     """A field of the definition: its column, whether it is a text, the word of a record from 0 (None: implicit), and its default."""
 
     name: str
@@ -90,7 +90,7 @@ class Definition:
     """The first page of a file."""
 
     words: Words
-    parts: tuple[Part, ...]
+    parts: tuple[DefinedField, ...]
     pages: int
     on_last: int
 
@@ -186,7 +186,7 @@ def definition_of(file: Path, page: bytes, words: Words) -> Definition:
     return found
 
 
-def part_of(file: Path, page: bytes, words: Words, number: int) -> Part:
+def part_of(file: Path, page: bytes, words: Words, number: int) -> DefinedField:
     """Reads the definition of a field, counted from 0. Raises PlanError if it is not one."""
     at = HEAD + FIELD * number
     name, kind = words.text(page, at, 2), words.text(page, at + 2)
@@ -198,7 +198,7 @@ def part_of(file: Path, page: bytes, words: Words, number: int) -> Part:
         if not np.isfinite(value) or value != int(value) or not 0 <= value <= most:
             raise PlanError(f"{where}: found word {value:g}, expected 0 to {DATA}: export the file again")
     default, text = words.number(page, at + 6), words.text(page, at + 6)
-    return Part(name, kind == "A", int(word) - 1 if word else None, max(int(part), 1), default, text)
+    return DefinedField(name, kind == "A", int(word) - 1 if word else None, max(int(part), 1), default, text)
 
 
 def records_of(file: Path, definition: Definition) -> np.ndarray:
@@ -224,7 +224,7 @@ def records_of(file: Path, definition: Definition) -> np.ndarray:
 
 def block_model(file: Path, definition: Definition, records: np.ndarray, codes: Sequence[str]) -> pd.DataFrame:
     """Returns the fields of all records as columns. Raises PlanError if a field of a block model is missing, or the model is rotated."""
-    fields: dict[str, list[Part]] = {}
+    fields: dict[str, list[DefinedField]] = {}
     for part in definition.parts:
         fields.setdefault(part.name, []).append(part)
     known = {name.upper(): name for name in fields}
@@ -247,7 +247,7 @@ def block_model(file: Path, definition: Definition, records: np.ndarray, codes: 
     return pd.DataFrame(columns)
 
 
-def column_of(file: Path, definition: Definition, records: np.ndarray, parts: list[Part]) -> np.ndarray:
+def column_of(file: Path, definition: Definition, records: np.ndarray, parts: list[DefinedField]) -> np.ndarray:
     """Returns the values of a field: floats, or texts of its parts. Raises PlanError if the parts do not follow each other."""
     first = parts[0]
     if not first.is_text and len(parts) == 1:
@@ -266,13 +266,13 @@ def column_of(file: Path, definition: Definition, records: np.ndarray, parts: li
     return np.array(names, dtype=object)[place]
 
 
-def implicit(part: Part, count: int) -> np.ndarray:
+def implicit(part: DefinedField, count: int) -> np.ndarray:
     """Returns the default of a text as bytes, shape (count, 4)."""
     text = part.default_text.encode(ENCODING, "replace")[:CHARACTERS].ljust(CHARACTERS)
     return np.broadcast_to(np.frombuffer(text, dtype=np.uint8), (count, CHARACTERS))
 
 
-def numbers_of(file: Path, definition: Definition, records: np.ndarray, part: Part) -> np.ndarray:
+def numbers_of(file: Path, definition: Definition, records: np.ndarray, part: DefinedField) -> np.ndarray:
     """Returns the numbers of a field, nan if absent. Raises PlanError if one is infinite."""
     if part.word is None:
         found = np.full(len(records), part.default, dtype=definition.words.dtype)

@@ -10,7 +10,7 @@ import numpy as np
 import pandas as pd
 
 from pitplan.config.project import FigureRules, Project
-from pitplan.config.table import GridRules, TableColumns
+from pitplan.config.table import BlockSize, GridRules, TableColumns
 from pitplan.core.libraries import load
 from pitplan.core.numeric_fields import at_row, row_of
 from pitplan.errors import PlanError
@@ -133,8 +133,8 @@ def azimuth_of(centres: np.ndarray, tolerance: float) -> Optional[float]:
     return None if abs(np.sin(axes.angle)) * reach_of(places, axes) <= tolerance else rounded(axes, places, tolerance)
 
 
-def of_centres(centres: np.ndarray, azimuth: float, rules: GridRules, where: tuple[str, str]) -> Places:
-    """The places of centres x and y, an array (rows, 2) in metres, on a grid of an azimuth; `where` has the table and its columns.
+def of_centres(centres: np.ndarray, azimuth: float, rules: GridRules, source: str, *, columns: str) -> Places:
+    """The places of centres x and y, an array (rows, 2) in metres, on a grid of an azimuth. Errors name the source and its columns.
 
     Raises PlanError where the azimuth is not that of the centres, a size is wanting, or, with its row, where one lies off the grid.
     """
@@ -146,18 +146,20 @@ def of_centres(centres: np.ndarray, azimuth: float, rules: GridRules, where: tup
     for axis, name in zip(size, ("east", "north")):
         if axis is None:
             raise PlanError(
-                f"{where[0]}: blocks have no neighbours along the grid's {name}: give the blocks' size as [grid] size"
+                f"{source}: blocks have no neighbours along the grid's {name}: give the blocks' size as [grid] size"
             )
     axes = Axes(middle_of(places), angle + off, (float(size[0] or 0), float(size[1] or 0)))
     if guess is not None:
         axes = fitted(places, axes, rules.tolerance)
-        demand_azimuth(azimuth, axes, places, rules, where[0])
+        demand_azimuth(azimuth, axes, places, rules, source=source)
     axes = replace(axes, angle=angle)
     axes = replace(axes, size=rules.size[:2] if rules.size else sizes_told(axes, places, rules.tolerance))
-    return places_on_axes(centres[:, 0] + 1j * centres[:, 1], centred(places, axes), (azimuth, rules.tolerance), where)
+    points, axes = centres[:, 0] + 1j * centres[:, 1], centred(places, axes)
+    demand_on_grid(points, axes, rules.tolerance, source, columns=columns)
+    return places_on_axes(points, axes, azimuth)
 
 
-def demand_azimuth(azimuth: float, axes: Axes, places: np.ndarray, rules: GridRules, source: str) -> None:
+def demand_azimuth(azimuth: float, axes: Axes, places: np.ndarray, rules: GridRules, *, source: str) -> None:
     """Refuses an azimuth that would move a centre by more than the tolerance."""
     if abs(np.angle(np.exp(1j * (np.radians(azimuth) + axes.angle)))) * reach_of(places, axes) > max(
         rules.tolerance, 10.0**-PLACES
@@ -300,20 +302,22 @@ def centred(places: np.ndarray, axes: Axes) -> Axes:
     return replace(axes, off=axes.off + complex(east, north) * np.exp(1j * axes.angle))
 
 
-def places_on_axes(centres: np.ndarray, axes: Axes, given: tuple[float, float], where: tuple[str, str]) -> Places:
-    """Returns the places of all rows. `given` has the azimuth in degrees and the tolerance in metres, `where` the file and its columns."""
-    (azimuth, tolerance), (source, columns) = given, where
-    whole, worst = axes.counted(centres)[0], off_grid(axes, centres)
-    if worst.max() > tolerance:
-        row = int((worst > tolerance).argmax())
-        at = f"{centres[row].real:.15g}, {centres[row].imag:.15g}"
-        blocks = f"blocks of {axes.size[0]:.10g} x {axes.size[1]:.10g} m turned by {azimuth:.10g} degrees"
-        raise at_row(
-            source,
-            row,
-            columns,
-            f"{at} is off the grid of {blocks} by {worst[row]:.4g} m: sub-blocks need [table] reblock",
-        )
+def demand_on_grid(points: np.ndarray, axes: Axes, tolerance: float, source: str, *, columns: str) -> None:
+    """Raises PlanError, with the row, if a centre lies off the grid by more than a tolerance in metres."""
+    worst = off_grid(axes, points)
+    if worst.max() <= tolerance:
+        return
+    row = int((worst > tolerance).argmax())
+    at = f"{points[row].real:.15g}, {points[row].imag:.15g}"
+    azimuth = -np.degrees(axes.angle)
+    blocks = f"blocks of {axes.size[0]:.10g} x {axes.size[1]:.10g} m turned by {azimuth:.10g} degrees"
+    why = f"{at} is off the grid of {blocks} by {worst[row]:.4g} m: sub-blocks need [table] reblock"
+    raise at_row(source, row, columns, why)
+
+
+def places_on_axes(points: np.ndarray, axes: Axes, azimuth: float) -> Places:
+    """Returns the places of all rows on the axes of a grid of an azimuth in degrees."""
+    whole = axes.counted(points)[0]
     least = whole.min(axis=1)
     first = axes.start + axes.off + complex(*(least * axes.size)) * turn_of(azimuth)
     column, row_of = (whole - least[:, None]).astype(np.int64)
@@ -353,7 +357,7 @@ class Grid:
 
     shape: tuple[int, int, int]
     origin: tuple[float, float, float]
-    size: tuple[float, float, float]
+    size: BlockSize
     rows: np.ndarray
     azimuth: float = 0.0
 
@@ -466,7 +470,7 @@ def of_table(frame: pd.DataFrame, project: Project, source: str = "table", any_s
     """
     rules = project.grid
     if rules.azimuth:
-        return laid(frame, project, source, any_size, rules.azimuth)
+        return laid(frame, project, source, any_size, azimuth=rules.azimuth)
     try:
         return laid(frame, project, source, any_size)
     except PlanError as error:
@@ -477,20 +481,20 @@ def of_table(frame: pd.DataFrame, project: Project, source: str = "table", any_s
             why = f"[grid] azimuth is 0 degrees, and the centres lie on a grid whose north has azimuth {azimuth:.10g}"
             raise PlanError(f"{source}: {why}") from error
     try:
-        return laid(frame, project, source, any_size, azimuth)
+        return laid(frame, project, source, any_size, azimuth=azimuth)
     except PlanError as error:
         raise PlanError(
             f"{error}; the centres lie on a grid that is turned by {azimuth:.10g} degrees clockwise"
         ) from error
 
 
-def laid(frame: pd.DataFrame, project: Project, source: str, any_size: bool, azimuth: float = 0.0) -> Grid:
+def laid(frame: pd.DataFrame, project: Project, source: str, any_size: bool, *, azimuth: float = 0.0) -> Grid:
     columns, rules = project.table, project.grid
     if azimuth:
         east, north = turned_axes(frame, project, source, azimuth)
     else:
-        east, north = (axis_of(frame, name, k, rules, source) for k, name in enumerate((columns.x, columns.y)))
-    up = axis_of(frame, columns.z, 2, rules, source)
+        east, north = (axis_of(frame, name, k, rules, source=source) for k, name in enumerate((columns.x, columns.y)))
+    up = axis_of(frame, columns.z, 2, rules, source=source)
     count = east.count * north.count * up.count
     if count > (MOST_CELLS if any_size else MOST_BLOCKS):
         raise PlanError(f"{source}: the grid has {count:,} cells, and the solver takes at most {MOST_BLOCKS:,} blocks")
@@ -512,14 +516,14 @@ def turned_axes(frame: pd.DataFrame, project: Project, source: str, azimuth: flo
     """Returns the two axes of a rotated grid; `first` of both are the planner's x and y of one block."""
     columns = project.table
     centres = frame[[columns.x, columns.y]].to_numpy()
-    found = of_centres(centres, azimuth, project.grid, (source, f"{columns.x}, {columns.y}"))
+    found = of_centres(centres, azimuth, project.grid, source, columns=f"{columns.x}, {columns.y}")
     return (
         Axis(found.first[0], found.size[0], int(found.column.max()) + 1, found.column),
         Axis(found.first[1], found.size[1], int(found.row.max()) + 1, found.row),
     )
 
 
-def axis_of(frame: pd.DataFrame, name: str, k: int, rules: GridRules, source: str) -> Axis:
+def axis_of(frame: pd.DataFrame, name: str, k: int, rules: GridRules, *, source: str) -> Axis:
     values = frame[name].to_numpy()
     distinct = np.sort(pd.unique(values))
     first, gaps = float(distinct[0]), np.diff(distinct)

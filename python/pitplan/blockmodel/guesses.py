@@ -14,7 +14,7 @@ import pandas as pd
 
 from pitplan.config.economics import GRADE_SIGNS
 from pitplan.config.table import GridRules
-from pitplan.core.numeric_fields import Source, holds_texts, is_numeric
+from pitplan.core.numeric_fields import TableSource, holds_texts, is_numeric
 from pitplan.core.text_tables import (
     NUMBER,
     UNREADABLE,
@@ -170,7 +170,7 @@ class MetalGuess:
 
 
 @dataclass(frozen=True)
-class Columns:
+class GuessedColumns:
     """The guessed columns of a table.
 
     `sizes` has x, y and z, or nothing; `named` has id, tonnes and codes by their keys; `texts` are columns named like amounts that also hold
@@ -190,7 +190,7 @@ def hints_of(names: list[str], below: list[list[str]]) -> dict[str, str]:
     return {name: " ".join(line[k] for line in lines) for k, name in enumerate(map(str, names))} if lines else {}
 
 
-def columns_of(frame: pd.DataFrame, hints: Optional[Mapping[str, str]] = None) -> Columns:
+def columns_of(frame: pd.DataFrame, hints: Optional[Mapping[str, str]] = None) -> GuessedColumns:
     """Returns the guessed columns of a table as read: numbers as numbers, everything else as text. `hints` says more of columns."""
     hints = hints or {}
     plain = {plain_of(name): name for name in reversed(list(map(str, frame.columns)))}
@@ -215,7 +215,7 @@ def columns_of(frame: pd.DataFrame, hints: Optional[Mapping[str, str]] = None) -
     texts = tuple(
         name for name in map(str, frame.columns) if not is_number(frame, name) and is_called_like_an_amount(name)
     )
-    return Columns(centres, sizes if len(sizes) == 3 else {}, named, first_of_each(metals), texts)
+    return GuessedColumns(centres, sizes if len(sizes) == 3 else {}, named, first_of_each(metals), texts)
 
 
 def is_called_like_an_amount(name: str) -> bool:
@@ -395,7 +395,7 @@ def demand_each_once(roles: Mapping[str, Role]) -> None:
         holders[role.key] = column
 
 
-def with_roles(columns: Columns, roles: Mapping[str, Role], frame: pd.DataFrame) -> Columns:
+def with_roles(columns: GuessedColumns, roles: Mapping[str, Role], frame: pd.DataFrame) -> GuessedColumns:
     """Returns guessed columns with other roles for some. A column whose role another one gets is not used.
 
     Raises
@@ -417,7 +417,7 @@ def with_roles(columns: Columns, roles: Mapping[str, Role], frame: pd.DataFrame)
         raise PlanError(
             f"role of {set_for[set_sizes[0]]}: {set_sizes[0]} needs the sizes along the other axes: set {' and '.join(missing)} too"
         )
-    return Columns(
+    return GuessedColumns(
         centres, sizes if len(sizes) == len(SIZE_ROLES) else {}, named, metals_of(columns, roles, names), columns.texts
     )
 
@@ -430,7 +430,7 @@ def changed(
     return kept | {key: Guess(column, WHY) for key, column in wanted.items() if column}
 
 
-def metals_of(columns: Columns, roles: Mapping[str, Role], names: list[str]) -> tuple[MetalGuess, ...]:
+def metals_of(columns: GuessedColumns, roles: Mapping[str, Role], names: list[str]) -> tuple[MetalGuess, ...]:
     """Returns the metals in the order of their columns."""
     wanted = [MetalGuess(role.key, column, role.unit, WHY) for column, role in roles.items() if role.is_metal]
     taken = {it.metal for it in wanted}
@@ -447,7 +447,7 @@ NEEDED = ("tonnes", "density", "volume", "rock_percent")
 
 
 @dataclass(frozen=True)
-class Model:
+class GuessedModel:
     """A table with its guessed columns.
 
     Attributes
@@ -456,7 +456,7 @@ class Model:
     form : TableFormat
     frame : DataFrame
         The rows that are blocks; nan for a null.
-    columns : Columns
+    columns : GuessedColumns
     nulls : dict of str to NullGuess
         By column.
     rows : int
@@ -466,7 +466,7 @@ class Model:
     file: Path
     form: TableFormat
     frame: pd.DataFrame
-    columns: Columns
+    columns: GuessedColumns
     nulls: dict[str, NullGuess]
     rows: int
 
@@ -474,8 +474,8 @@ class Model:
         return self.frame[self.columns.named[key].column].to_numpy(dtype=np.float64)
 
     @property
-    def source(self) -> Source:
-        return Source.of(str(self.file), (self.form.header_row, self.form.first_row))
+    def source(self) -> TableSource:
+        return TableSource.of(str(self.file), self.form.header_row, self.form.first_row)
 
     @property
     def weighed(self) -> list[str]:
@@ -492,7 +492,7 @@ class Model:
 
 
 @dataclass(frozen=True)
-class Rows:
+class TableRows:
     """A table as read, and the same without nulls, which is kept by the columns that have none.
 
     Attributes
@@ -520,22 +520,22 @@ class Rows:
         return self.cleaned[fixed]
 
 
-def read(file: Path, roles: Optional[Mapping[str, Role]] = None) -> Model:
+def read(file: Path, roles: Optional[Mapping[str, Role]] = None) -> GuessedModel:
     """Reads a table. Raises PlanError if it is no text or no table, or if a column cannot have the role that is given."""
     return model_of(rows_of(file), roles)
 
 
-def rows_of(file: Path) -> Rows:
+def rows_of(file: Path) -> TableRows:
     """Reads the rows of a table. Raises PlanError if it is no text or no table."""
     if is_parquet(file):
         demand_text(file, "pitplan init")
     if not is_model(file):
         demand_no_binary(file)
     frame, form = read_whole(file)
-    return Rows(file, form, numbers_where_all_are(frame))
+    return TableRows(file, form, numbers_where_all_are(frame))
 
 
-def model_of(rows: Rows, roles: Optional[Mapping[str, Role]] = None) -> Model:
+def model_of(rows: TableRows, roles: Optional[Mapping[str, Role]] = None) -> GuessedModel:
     """Returns the guessed columns of a table, some with the roles that are given. Raises PlanError if a column cannot have its role."""
     roles = roles or {}
     rough = with_roles(columns_of(rows.frame), roles, rows.frame)
@@ -548,17 +548,17 @@ def model_of(rows: Rows, roles: Optional[Mapping[str, Role]] = None) -> Model:
     nulls = {name: guess for name, guess in nulls.items() if name not in identities(columns)}
     needed = [columns.named[key].column for key in NEEDED if key in columns.named]
     kept = clean[needed].notna().all(axis=1) if needed else pd.Series(True, index=clean.index)
-    return Model(rows.file, rows.form, clean[kept].reset_index(drop=True), columns, nulls, len(rows.frame))
+    return GuessedModel(rows.file, rows.form, clean[kept].reset_index(drop=True), columns, nulls, len(rows.frame))
 
 
-def demand_roles(rows: Rows, frame: pd.DataFrame, roles: Mapping[str, Role]) -> None:
+def demand_roles(rows: TableRows, frame: pd.DataFrame, roles: Mapping[str, Role]) -> None:
     """Raises PlanError, with the row, if a column has text and its role needs numbers."""
-    source = Source.of(str(rows.file), (rows.form.header_row, rows.form.first_row))
+    source = TableSource.of(str(rows.file), rows.form.header_row, rows.form.first_row)
     for name in [name for name, role in roles.items() if role.needs_numbers and holds_texts(frame[name])]:
         filled_numbers(frame[name], source, name, may_fill=False)
 
 
-def identities(columns: Columns) -> set[str]:
+def identities(columns: GuessedColumns) -> set[str]:
     return {columns.named["id"].column} if "id" in columns.named else set()
 
 
@@ -583,11 +583,11 @@ def numbers_where_all_are(frame: pd.DataFrame) -> pd.DataFrame:
     return result
 
 
-def has_several_sizes(model: Model) -> bool:
+def has_several_sizes(model: GuessedModel) -> bool:
     return any(model.frame[guess.column].nunique() > 1 for guess in model.columns.sizes.values())
 
 
-def size_of(model: Model) -> tuple[Optional[list[float]], str]:
+def size_of(model: GuessedModel) -> tuple[Optional[list[float]], str]:
     """Returns the block size if the table gives it or tonnes need it, and how it is known; None if the centroids alone give it."""
     columns = model.columns
     if columns.sizes and not has_several_sizes(model):
@@ -606,7 +606,7 @@ def size_of(model: Model) -> tuple[Optional[list[float]], str]:
     return filled, f"the smallest steps between centroids{volumes}{guessed}"
 
 
-def turned_grid(model: Model) -> Optional[Places]:
+def turned_grid(model: GuessedModel) -> Optional[Places]:
     """Returns the blocks' places on a turned grid; None if rows go east, or cells have several sizes."""
     if has_several_sizes(model):
         return None
@@ -616,19 +616,19 @@ def turned_grid(model: Model) -> Optional[Places]:
     rules = GridRules(None, TOLERANCE)
     azimuth = None if np.isnan(centres).any() else azimuth_of(centres, rules.tolerance)
     try:
-        return None if azimuth is None else of_centres(centres, azimuth, rules, (str(model.file), "x, y"))
+        return None if azimuth is None else of_centres(centres, azimuth, rules, str(model.file), columns="x, y")
     except PlanError:
         # The first run of the project reports the error.
         return None
 
 
-def least_gap(model: Model, axis: str) -> Optional[float]:
+def least_gap(model: GuessedModel, axis: str) -> Optional[float]:
     """Returns the least step between centroids along an axis; None if all lie at one place."""
     values = np.unique(model.frame[model.columns.centres[axis].column].to_numpy(dtype=np.float64))
     return float(np.diff(values).min()) if len(values) > 1 else None
 
 
-def volumes_of(model: Model) -> np.ndarray:
+def volumes_of(model: GuessedModel) -> np.ndarray:
     """Returns the volume of each row in cubic metres, as far as it is known."""
     if has_several_sizes(model):
         sides = [model.frame[model.columns.sizes[axis].column].to_numpy(dtype=np.float64) for axis in "xyz"]
@@ -639,7 +639,7 @@ def volumes_of(model: Model) -> np.ndarray:
     return np.full(len(model.frame), np.prod(size or ()))
 
 
-def share_of(model: Model) -> tuple[Optional[Guess], str]:
+def share_of(model: GuessedModel) -> tuple[Optional[Guess], str]:
     """Returns the column with the share of rock, if tonnes do not hold it already, and its unit."""
     guess = model.columns.named.get("rock_percent")
     if guess is None or "tonnes" in model.columns.named:
@@ -650,7 +650,7 @@ def share_of(model: Model) -> tuple[Optional[Guess], str]:
     return guess, "percent" if model.numbers("rock_percent").max() > 1 else "fraction"
 
 
-def tonnes_of(model: Model) -> np.ndarray:
+def tonnes_of(model: GuessedModel) -> np.ndarray:
     if "tonnes" in model.columns.named:
         return np.nan_to_num(model.numbers("tonnes"))
     guess, unit = share_of(model)

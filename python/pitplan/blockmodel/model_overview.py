@@ -18,7 +18,7 @@ from .guesses import (
     NEEDED,
     SIZE_ROLES,
     UNUSED,
-    Model,
+    GuessedModel,
     Role,
     has_several_sizes,
     least_gap,
@@ -28,7 +28,7 @@ from .guesses import (
     turned_grid,
     volumes_of,
 )
-from .summary import Axis, Grade, mean_of, not_used, of_codes
+from .summary import AxisSummary, Grade, mean_of, not_used, of_codes
 
 HEADINGS = ("column", "role", "unit", "nulls", "least", "mean", "greatest", "why")
 UNITS = {"tonnes": "t", "density": "t/m3", "volume": "m3"}
@@ -80,7 +80,7 @@ class Overview:
 
 
 @dataclass(frozen=True)
-class Written:
+class WrittenProject:
     """A project that was written for a block model, with its figure if one was drawn."""
 
     overview: Overview
@@ -108,7 +108,7 @@ class Written:
         }
 
 
-def overview(model: Model) -> Overview:
+def overview(model: GuessedModel) -> Overview:
     """Returns the notes, the columns and the warnings of a block model."""
     tonnes = tonnes_of(model)
     said = [f"{model.file}: {len(model.frame):,} blocks, {tonnes.sum():,.0f} tonnes", *axes_of(model)]
@@ -125,12 +125,12 @@ def overview(model: Model) -> Overview:
     return Overview([line for line in said if line not in warnings], columns, warnings, roles)
 
 
-def axes_of(model: Model) -> list[str]:
+def axes_of(model: GuessedModel) -> list[str]:
     """Returns a line for each axis, and one for a turned grid."""
     turned, said = turned_grid(model), []
     for name, guess in sorted(model.columns.centres.items()):
         values, step = model.frame[guess.column], None if turned and name != "z" else step_along(model, name)
-        said.append(f"{Axis(name, guess.column, values.min(), values.max(), step).line}, {guess.why}")
+        said.append(f"{AxisSummary(name, guess.column, values.min(), values.max(), step).line}, {guess.why}")
     if turned:
         east, north = (f"{side:.10g}" for side in turned.size)
         said.append(
@@ -139,7 +139,7 @@ def axes_of(model: Model) -> list[str]:
     return said
 
 
-def step_along(model: Model, axis: str) -> Optional[float]:
+def step_along(model: GuessedModel, axis: str) -> Optional[float]:
     """Returns the block size along an axis in metres; None if there are several."""
     if has_several_sizes(model):
         return None
@@ -147,13 +147,13 @@ def step_along(model: Model, axis: str) -> Optional[float]:
     return size["xyz".index(axis)] if size else least_gap(model, axis)
 
 
-def grade_of(model: Model, column: str, tonnes: np.ndarray) -> Grade:
+def grade_of(model: GuessedModel, column: str, tonnes: np.ndarray) -> Grade:
     metal = next(it for it in model.columns.metals if it.column == column)
     values = np.nan_to_num(model.frame[column].to_numpy(dtype=np.float64))
     return Grade(metal.metal, column, metal.unit, mean_of(values, tonnes), float(values.max(initial=0)))
 
 
-def format_notes(model: Model) -> list[str]:
+def format_notes(model: GuessedModel) -> list[str]:
     """Returns notes on the text."""
     said = []
     if model.form.separator != ",":
@@ -165,7 +165,7 @@ def format_notes(model: Model) -> list[str]:
     return said
 
 
-def volume_lines(model: Model) -> list[str]:
+def volume_lines(model: GuessedModel) -> list[str]:
     """Returns how much of the box from edge to edge the cells fill, if their sizes are known; a warning if they overlap."""
     if "tonnes" in model.columns.named and not model.columns.sizes or turned_grid(model):
         return []
@@ -192,7 +192,7 @@ def aligned(columns: list[tuple[str, ...]]) -> list[str]:
     ]
 
 
-def row_of(model: Model, name: str) -> tuple[str, ...]:
+def row_of(model: GuessedModel, name: str) -> tuple[str, ...]:
     """Returns the fields of a column in the table of columns."""
     role, unit, why = role_of(model, name)
     guess, column = model.nulls.get(name), model.frame[name]
@@ -209,7 +209,7 @@ def row_of(model: Model, name: str) -> tuple[str, ...]:
     return name, role, unit, nulls, *figures, why
 
 
-def role_of(model: Model, name: str) -> tuple[str, str, str]:
+def role_of(model: GuessedModel, name: str) -> tuple[str, str, str]:
     """Returns the role of a column, its unit and why."""
     columns = model.columns
     for group, role in ((columns.centres, "centroid"), (columns.sizes, "cell size")):
@@ -226,7 +226,7 @@ def role_of(model: Model, name: str) -> tuple[str, str, str]:
     return "not used", "", ""
 
 
-def key_of(model: Model, name: str) -> str:
+def key_of(model: GuessedModel, name: str) -> str:
     """Returns the role of a column as `--role` has it."""
     columns = model.columns
     keys = {guess.column: axis for axis, guess in columns.centres.items()}
@@ -236,7 +236,7 @@ def key_of(model: Model, name: str) -> str:
     return UNUSED if name in unused(model) else keys.get(name, named.get(name, UNUSED))
 
 
-def unused(model: Model) -> list[str]:
+def unused(model: GuessedModel) -> list[str]:
     """Returns the columns that the project does not name."""
     columns = model.columns
     used = {guess.column for guess in columns.centres.values()} | set(model.grades)
@@ -255,7 +255,7 @@ def unused(model: Model) -> list[str]:
     return [name for name in map(str, model.frame.columns) if name not in used]
 
 
-def warnings_of(model: Model, tonnes: np.ndarray) -> list[str]:
+def warnings_of(model: GuessedModel, tonnes: np.ndarray) -> list[str]:
     """Returns what may not be as it seems."""
     said = []
     if has_several_sizes(model):

@@ -215,7 +215,7 @@ def block_model(archive: Archive, element: dict[str, Any], codes: Sequence[str])
 
 
 @dataclass(frozen=True)
-class Cells:
+class TensorCells:
     """The cells of a tensor grid: the sides along each axis, the unit vectors of the axes, and the corner from which they count, in metres. `order` has the
     axes that run east, north and up."""
 
@@ -248,7 +248,7 @@ def middles(side: np.ndarray) -> np.ndarray:
     return np.cumsum(side) - side / 2
 
 
-def cells_of(archive: Archive, geometry: dict[str, Any], where: str) -> Cells:
+def cells_of(archive: Archive, geometry: dict[str, Any], where: str) -> TensorCells:
     """Reads the grid of a volume. Raises PlanError if a side is missing, the axes are not upright, or there are too many cells."""
     sides = tuple(archive.array(geometry.get(f"tensor_{axis}"), None, f"{where}: tensor_{axis}") for axis in "uvw")
     for axis, side in zip("uvw", sides):
@@ -262,7 +262,7 @@ def cells_of(archive: Archive, geometry: dict[str, Any], where: str) -> Cells:
     corner = vector(archive, geometry.get("origin", [0, 0, 0]), f"{where}: origin")
     if isinstance(project, dict):
         corner = corner + vector(archive, project.get("origin", [0, 0, 0]), "project: origin")
-    return Cells(tuple(side.astype(np.float64) for side in sides), axes, corner, upright(archive, axes, where))
+    return TensorCells(tuple(side.astype(np.float64) for side in sides), axes, corner, upright(archive, axes, where))
 
 
 def dashed(identifier: str) -> str:

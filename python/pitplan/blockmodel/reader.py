@@ -16,7 +16,7 @@ import pandas as pd
 from pitplan.config.project import Project
 from pitplan.config.table import TableColumns
 from pitplan.core import numeric_fields, text_tables
-from pitplan.core.numeric_fields import Source, at_row, holds_texts, numbers_of, row_of
+from pitplan.core.numeric_fields import TableSource, at_row, holds_texts, numbers_of, row_of
 from pitplan.core.text_tables import (
     MIXED,
     NAMES,
@@ -38,7 +38,7 @@ from pitplan.core.text_tables import (
 from pitplan.errors import PlanError
 
 from . import cell_volumes, datamine, omf, resource_classes
-from .cell_volumes import Cells
+from .cell_volumes import CellVolumes
 from .row_rules import numbers_of_codes, ruled
 from .table_checks import (
     codes_of,
@@ -124,7 +124,7 @@ class Table:
         Columns that the project does not name.
     warned : tuple of str
         Warnings about texts that spreadsheets may take for formulas.
-    cells : Cells, optional
+    cells : CellVolumes, optional
         The cells of the rows, if the project names their sizes.
     zeros : dict of str to bool array
         By column the rows of the file, without those left out, whose null is read as 0.
@@ -136,7 +136,7 @@ class Table:
     notes: tuple[str, ...] = ()
     unused: tuple[str, ...] = ()
     warned: tuple[str, ...] = ()
-    cells: Optional[Cells] = None
+    cells: Optional[CellVolumes] = None
     zeros: dict[str, np.ndarray] = field(default_factory=dict)
 
 
@@ -160,7 +160,7 @@ def read(project: Project) -> Table:
         )
     model = read_model(columns.file, codes)
     if model is not None:
-        source = Source.of(str(columns.file), ROWS)
+        source = TableSource.of(str(columns.file), *ROWS)
         table = checked(model[0], project, source)
         return replace(table, notes=(model[1], *table.notes))
     # The type of these columns is unknown: they are read as texts, since pieces of them may look like numbers.
@@ -168,7 +168,7 @@ def read(project: Project) -> Table:
     frame, form = read_as_written(columns.file, columns, [*codes, *untyped], wanted)
     for name in untyped if form.decimal == "," else ():
         frame[name] = with_points(frame[name], columns.rules.nulls.of(name))
-    source = Source.of(str(columns.file), (form.header_row, form.first_row))
+    source = TableSource.of(str(columns.file), form.header_row, form.first_row)
     table = checked(frame, project, source)
     return replace(table, notes=(*notes_of(form, columns), *table.notes))
 
@@ -209,7 +209,7 @@ def read_as_written(
     """Returns the file as `read_columns` reads it, and its format: that of the project, otherwise that of the text."""
     form = format_of(file, columns)
     # The reader would give the second of two columns of one name another.
-    source = Source.of(str(file), (form.header_row, form.first_row))
+    source = TableSource.of(str(file), form.header_row, form.first_row)
     demand_each_once([name for name in names_in_header(file, form) if name in wanted], source)
     before = Mixed.count
     numbers = [name for name in wanted if name not in codes]
@@ -293,7 +293,7 @@ def checked(frame: pd.DataFrame, project: Project, source: str = "table") -> Tab
     )
 
 
-def with_tonnes(frame: pd.DataFrame, project: Project, source: str) -> tuple[pd.DataFrame, Optional[Cells]]:
+def with_tonnes(frame: pd.DataFrame, project: Project, source: str) -> tuple[pd.DataFrame, Optional[CellVolumes]]:
     """Returns the columns of the blocks with their tonnes, and the cells of the rows if the project names their sizes."""
     table, rules = project.table, project.table.rules
     if table.density or rules.rock_percent:

@@ -19,7 +19,7 @@ import pandas as pd
 from pitplan.blockmodel.cell_volumes import GRADE_PLACES, TONNES_PLACES, volume_notes
 from pitplan.config.project import Project
 from pitplan.config.schedule import ScheduleRules
-from pitplan.config.table import GridRules, Reblock
+from pitplan.config.table import BlockSize, GridRules, Reblock
 from pitplan.core.decimals import MOST_WHOLE, Exact, greatest, nearest, product
 from pitplan.core.numeric_fields import at_row
 from pitplan.errors import PlanError
@@ -49,7 +49,7 @@ class Lattice:
     """
 
     first: tuple[float, float, float]
-    size: tuple[float, float, float]
+    size: BlockSize
     places: tuple[np.ndarray, np.ndarray, np.ndarray]
     frame: Frame
 
@@ -90,7 +90,7 @@ def of_table(table: Table, project: Project) -> Reblocked:
         project = replace(project, grid=replace(project.grid, azimuth=table.cells.azimuth))
     lattice = of_counts(table, project, rules) if rules.counts else of_corner(table, project, rules)
     places, parts = parts_of(table.frame[project.table.tonnes].to_numpy(), lattice)
-    frame, mixed = put_together(table.frame, lattice.centres(places), places, parts, project)
+    frame, mixed = put_together(table.frame, lattice.centres(places), places, parts, project=project)
     x, y, z = (metres(side) for side in lattice.size)
     notes = [f"{len(table.frame):,} rows were reblocked into {len(frame):,} blocks of {x} x {y} x {z} m", *mixed]
     if table.cells:
@@ -195,7 +195,7 @@ def numbered_codes(codes: np.ndarray) -> tuple[np.ndarray, np.ndarray]:
 
 
 def put_together(
-    frame: pd.DataFrame, centres: list[np.ndarray], places: np.ndarray, parts: Parts, project: Project
+    frame: pd.DataFrame, centres: list[np.ndarray], places: np.ndarray, parts: Parts, *, project: Project
 ) -> tuple[pd.DataFrame, list[str]]:
     """Returns a row per block, and notes on mixed rock types and domains."""
     columns, fixed = project.table, project.constraints

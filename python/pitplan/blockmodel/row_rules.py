@@ -12,7 +12,7 @@ import pandas as pd
 from pitplan.config.project import Project
 from pitplan.config.table import MISSING, OTHERS, REFUSE, ZERO
 from pitplan.core.expressions import Expression, ExpressionError
-from pitplan.core.numeric_fields import Source, at_row, is_numeric, numbers_of
+from pitplan.core.numeric_fields import TableSource, at_row, is_numeric, numbers_of
 from pitplan.errors import PlanError
 
 from .table_checks import centroids, codes_of, demand_no_nul, file_columns, names_of
@@ -55,7 +55,7 @@ class RuledRows:
         """The source of the rows that are left."""
         if self.kept.all():
             return self.source
-        source = self.source if isinstance(self.source, Source) else Source(self.source)
+        source = self.source if isinstance(self.source, TableSource) else TableSource(self.source)
         return source.at(np.flatnonzero(self.kept))
 
     def leave_out(self, rows: np.ndarray, why: str) -> None:

@@ -113,7 +113,7 @@ OPTIONAL = ("id", "rock_type", "domain")
 
 
 @dataclass(frozen=True)
-class Axis:
+class AxisSummary:
     """One axis of a model: the column of centres, the least and the greatest of them, and the blocks' size, all in metres; the size is
     None where blocks have several."""
 
@@ -214,7 +214,7 @@ def turned_line(grid: Grid, project: Project) -> str:
     return f"grid north has azimuth {grid.azimuth:.10g}, {told}; figures use the axes of the grid, from its corner at {x}, {y}"
 
 
-def axes_of(grid: Grid, columns: TableColumns) -> list[Axis]:
+def axes_of(grid: Grid, columns: TableColumns) -> list[AxisSummary]:
     """x, y and z of a grid, of one that is turned along its own axes."""
     west, east, south, north, floor, top = grid.extent()
     edges, size = ((west, east), (south, north), (floor, top)), grid.size
@@ -223,7 +223,7 @@ def axes_of(grid: Grid, columns: TableColumns) -> list[Axis]:
         flat = f"{columns.x} and {columns.y}"
         axes, names = (*grid.frame.names, "z"), (flat, flat, columns.z)
     return [
-        Axis(axis, names[k], edges[k][0] + size[k] / 2, edges[k][1] - size[k] / 2, size[k])
+        AxisSummary(axis, names[k], edges[k][0] + size[k] / 2, edges[k][1] - size[k] / 2, size[k])
         for k, axis in enumerate(axes)
     ]
 

@@ -143,18 +143,17 @@ def demand_amounts(frame: pd.DataFrame, project: Project, source: str) -> None:
 def demand_no_more_than_whole(grades: np.ndarray, metal: Metal, source: str) -> None:
     """Raises PlanError for a grade by which a block holds more metal than it weighs."""
     whole = {"gram_per_tonne": 1e6}.get(metal.unit, 1 / float(GRADE_UNITS[metal.unit]))
-    demand_within(grades, grades > whole, (source, metal.column), f"above {whole:,g} {GRADE_SIGNS[metal.unit]}")
+    demand_within(grades, grades > whole, source, metal.column, why=f"above {whole:,g} {GRADE_SIGNS[metal.unit]}")
 
 
 def demand_none_below_0(numbers: np.ndarray, source: str, name: str) -> None:
-    demand_within(numbers, numbers < 0, (source, name), "negative")
+    demand_within(numbers, numbers < 0, source, name, why="negative")
 
 
-def demand_within(numbers: np.ndarray, wrong: np.ndarray, where: tuple[str, str], why: str) -> None:
-    """Raises PlanError, with the rows and the probable null code, if numbers are wrong. `where` is the source and the column."""
+def demand_within(numbers: np.ndarray, wrong: np.ndarray, source: str, name: str, *, why: str) -> None:
+    """Raises PlanError, with the rows and the probable null code, if numbers of a column are wrong."""
     if not wrong.any():
         return
-    source, name = where
     rows = np.flatnonzero(wrong)
     first = at_row(source, int(rows[0]), name, f"{numbers[rows[0]]:g} is {why}")
     raise first if len(rows) == 1 else PlanError(f"{first}{several(numbers, rows, source)}")

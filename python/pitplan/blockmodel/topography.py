@@ -16,7 +16,8 @@ from pitplan.core.libraries import load
 from pitplan.core.tolerances import SUM_ERROR
 from pitplan.errors import PlanError
 from pitplan.survey import readers
-from pitplan.survey.readers import Box, Topography
+from pitplan.survey.gdal import MapBox
+from pitplan.survey.readers import Topography
 
 from .cell_volumes import TONNES_PLACES
 from .grid import Grid, metres
@@ -32,7 +33,7 @@ from .grid import Grid, metres
 PAIRS = 100_000
 
 
-def box_of(grid: Grid) -> Box:
+def box_of(grid: Grid) -> MapBox:
     """Least and greatest x, least and greatest y in metres of a grid's corners."""
     _, rows, columns = grid.shape
     middles = grid.centres(np.array([0, columns - 1, (rows - 1) * columns, rows * columns - 1]))
@@ -318,7 +319,7 @@ MINED_SHARE = "share of the block that is mined"
 
 
 @dataclass(frozen=True)
-class Ground:
+class GroundShares:
     """For each row the share of its volume below the original ground, and the share below the original ground and the as-mined surface."""
 
     original: np.ndarray
@@ -359,7 +360,7 @@ def is_mined(frame: pd.DataFrame) -> np.ndarray:
     return frame[MINED_SHARE].to_numpy() >= MINED if MINED_SHARE in frame else np.zeros(len(frame), dtype=bool)
 
 
-def by_volumes(grid: Grid, original: SurveyFile, surface: SurveyFile) -> Ground:
+def by_volumes(grid: Grid, original: SurveyFile, surface: SurveyFile) -> GroundShares:
     """Shares by the volumes below both surfaces. Columns that a surface does not cover are whole below it."""
     box = (grid.shape, grid.origin, grid.size, grid.azimuth)
     (_, ground), (read, mined) = (surveyed(file, file.state, box) for file in (original, surface))
@@ -368,10 +369,10 @@ def by_volumes(grid: Grid, original: SurveyFile, surface: SurveyFile) -> Ground:
         raise PlanError(f"{surface.path}: covers no block: {beside(read.points, grid)}")
     demand_one_height(mined, grid, surface.path)
     whole = ground.share[level, place]
-    return Ground(whole, np.minimum(whole, mined.share[level, place]), tuple(read.notes))
+    return GroundShares(whole, np.minimum(whole, mined.share[level, place]), tuple(read.notes))
 
 
-def by_centres(grid: Grid, file: SurveyFile) -> Ground:
+def by_centres(grid: Grid, file: SurveyFile) -> GroundShares:
     """Shares by the centres of blocks: a block with its centre above the surface is mined as a whole."""
     read = readers.topography(file, box_of(grid))
     surface = surface_of(grid, read)
@@ -379,11 +380,11 @@ def by_centres(grid: Grid, file: SurveyFile) -> Ground:
     if np.isinf(height).all():
         raise PlanError(f"{file.path}: covers no block: {beside(read.points, grid)}")
     left = (grid.centres(grid.rows)[2] <= height).astype(float)
-    return Ground(np.ones(len(left)), left, (*read.notes, *surface.notes(file.path, grid)))
+    return GroundShares(np.ones(len(left)), left, (*read.notes, *surface.notes(file.path, grid)))
 
 
 @dataclass(frozen=True)
-class Surface:
+class MinedSurface:
     """The as-mined surface over each column of blocks: its height in metres, infinite beyond all points; and whether the height was
     interpolated from points outside the column."""
 
@@ -406,12 +407,12 @@ class Surface:
         return found
 
 
-def surface_of(grid: Grid, survey: Topography) -> Surface:
+def surface_of(grid: Grid, survey: Topography) -> MinedSurface:
     """The surface over each column of blocks. A survey of triangles gives its height at the middle of the column. A survey of points gives
     the mean of the points over the column, or the height of the triangles between points if no point lies over it."""
     at_middle = heights(triangles_of(survey), grid)
     if len(survey.faces):
-        return Surface(at_middle, np.zeros(grid.per_level, dtype=bool))
+        return MinedSurface(at_middle, np.zeros(grid.per_level, dtype=bool))
     points = survey.points
     _, rows, columns = grid.shape
     column, row = (np.floor(steps + 0.5).astype(int) for steps in grid.steps(points[:, 0], points[:, 1]))
@@ -420,4 +421,4 @@ def surface_of(grid: Grid, survey: Topography) -> Surface:
     count = np.bincount(place, minlength=rows * columns)
     total = np.bincount(place, weights=points[inside, 2], minlength=rows * columns)
     height = np.where(count > 0, total / np.maximum(count, 1), at_middle)
-    return Surface(height, (count == 0) & np.isfinite(height))
+    return MinedSurface(height, (count == 0) & np.isfinite(height))

@@ -19,8 +19,8 @@ from pitplan.core.atomic_files import staged_file
 from pitplan.core.layout import figure_of_model
 from pitplan.errors import PlanError
 
-from .guesses import PRECIOUS, MetalGuess, Model, Role, has_several_sizes, read, share_of, size_of, tonnes_of
-from .model_overview import Overview, Written, overview
+from .guesses import PRECIOUS, GuessedModel, MetalGuess, Role, has_several_sizes, read, share_of, size_of, tonnes_of
+from .model_overview import Overview, WrittenProject, overview
 from .reader import filled_numbers
 from .summary import USUAL_PRICES
 
@@ -34,7 +34,7 @@ CLASSES = {"1": "measured", "2": "indicated", "3": "inferred"}
 UNITS = {"density": ", in t/m3", "volume": ", in m3"}
 
 
-Draw = Callable[[Model, Path], None]
+Draw = Callable[[GuessedModel, Path], None]
 
 
 @dataclass(frozen=True)
@@ -58,7 +58,7 @@ def write(file: Path, out: Path, draw: Optional[Draw] = None) -> list[str]:
     return write_project(file, out, draw).lines
 
 
-def write_project(file: Path, out: Path, draw: Optional[Draw] = None, choices: Choices = Choices()) -> Written:
+def write_project(file: Path, out: Path, draw: Optional[Draw] = None, choices: Choices = Choices()) -> WrittenProject:
     """Writes a project for a table, and a figure of the block model if `draw` is given, which writes it to a path.
 
     Returns the overview of the block model, with warnings about what is doubtful in it. Raises PlanError if the table cannot be read, if no
@@ -72,14 +72,14 @@ def write_project(file: Path, out: Path, draw: Optional[Draw] = None, choices: C
     with staged_file(out) as place:
         place.write_text(text, encoding="utf-8")
     if draw is None:
-        return Written(found, out)
+        return WrittenProject(found, out)
     figure = figure_of_model(out)
     with staged_file(figure) as place:
         draw(model, place)
-    return Written(found, out, figure)
+    return WrittenProject(found, out, figure)
 
 
-def project_of(model: Model, out: Path) -> tuple[str, Overview]:
+def project_of(model: GuessedModel, out: Path) -> tuple[str, Overview]:
     """Returns the text of a project in the place `out`, and the overview of its block model. Raises PlanError if columns are missing."""
     demand_enough(model)
     demand_numbers(model, [guess.column for guess in model.columns.centres.values()])
@@ -87,7 +87,7 @@ def project_of(model: Model, out: Path) -> tuple[str, Overview]:
     return text_of(model, out), found
 
 
-def demand_enough(model: Model) -> None:
+def demand_enough(model: GuessedModel) -> None:
     columns, there = model.columns, ", ".join(map(str, model.frame.columns))
     if model.frame.empty:
         raise PlanError(f"{model.file}: has no blocks")
@@ -106,13 +106,13 @@ def demand_enough(model: Model) -> None:
         )
 
 
-def demand_numbers(model: Model, names: list[str]) -> None:
+def demand_numbers(model: GuessedModel, names: list[str]) -> None:
     """Raises PlanError, with the row, if a column has a field that is no number."""
     for name in names:
         filled_numbers(model.frame[name], model.source, name, may_fill=False)
 
 
-def text_of(model: Model, out: Path) -> str:
+def text_of(model: GuessedModel, out: Path) -> str:
     from jinja2 import Environment, FileSystemLoader
 
     environment = Environment(loader=FileSystemLoader(TEMPLATES), keep_trailing_newline=True)
@@ -166,7 +166,7 @@ def quoted(words: str) -> str:
     return json.dumps(words, ensure_ascii=False).replace("\x7f", "\\u007f")
 
 
-def table_lines(model: Model) -> list[tuple[str, str, str]]:
+def table_lines(model: GuessedModel) -> list[tuple[str, str, str]]:
     """Returns the keys of [table], their values as TOML, and why."""
     columns = model.columns
     lines = [(axis, quoted(guess.column), guess.why) for axis, guess in sorted(columns.centres.items())]
@@ -182,7 +182,7 @@ def table_lines(model: Model) -> list[tuple[str, str, str]]:
     return [*lines, *class_lines(model), *null_lines(model)]
 
 
-def cell_lines(model: Model) -> list[tuple[str, str, str]]:
+def cell_lines(model: GuessedModel) -> list[tuple[str, str, str]]:
     """Returns the keys for cells of several sizes, and for the share of rock."""
     lines, (share, unit) = [], share_of(model)
     if has_several_sizes(model):
@@ -199,7 +199,7 @@ def cell_lines(model: Model) -> list[tuple[str, str, str]]:
     return lines
 
 
-def class_lines(model: Model) -> list[tuple[str, str, str]]:
+def class_lines(model: GuessedModel) -> list[tuple[str, str, str]]:
     """Returns the column of resource classes, and names for its numbers as most models have them."""
     guess = model.columns.named.get("class")
     if guess is None:
@@ -213,7 +213,7 @@ def class_lines(model: Model) -> list[tuple[str, str, str]]:
     return lines
 
 
-def codes_in(model: Model, name: str) -> set[str]:
+def codes_in(model: GuessedModel, name: str) -> set[str]:
     """Returns the codes of a column; whole numbers without decimals."""
     return {
         f"{it:.15g}" if isinstance(it, float) else str(it).strip()
@@ -221,13 +221,13 @@ def codes_in(model: Model, name: str) -> set[str]:
     } - {""}
 
 
-def is_whole(model: Model, name: str) -> bool:
+def is_whole(model: GuessedModel, name: str) -> bool:
     """Returns whether a column of codes has one for each block."""
     codes = model.frame[name]
     return bool((codes.notna() & (codes.astype(str).str.strip() != "")).all())
 
 
-def null_lines(model: Model) -> list[tuple[str, str, str]]:
+def null_lines(model: GuessedModel) -> list[tuple[str, str, str]]:
     """Returns the null codes of the columns that the project names, and what a null means in each."""
     meanings = meanings_of(model)
     others = {model.columns.named[key].column for key in ("class", *FACTORS) if key in model.columns.named}
@@ -244,7 +244,7 @@ def null_lines(model: Model) -> list[tuple[str, str, str]]:
     return [*lines, *([("nulls", inline(rules), why)] if rules else [])]
 
 
-def meanings_of(model: Model) -> dict[str, str]:
+def meanings_of(model: GuessedModel) -> dict[str, str]:
     """Returns what a null means in the columns of numbers that have some: 0 in grades, no block where it makes tonnes."""
     share, _ = share_of(model)
     weighed = [model.columns.named[key].column for key in model.weighed] + ([share.column] if share else [])
@@ -289,7 +289,7 @@ def priced(metal: MetalGuess) -> dict[str, str]:
     }
 
 
-def domain_codes_of(model: Model) -> list[Optional[str]]:
+def domain_codes_of(model: GuessedModel) -> list[Optional[str]]:
     """The regions of the table; one entry without a name where it has none, or more than anybody would give walls of their own."""
     if "domain" not in model.columns.named:
         return [None]
@@ -297,7 +297,7 @@ def domain_codes_of(model: Model) -> list[Optional[str]]:
     return list(found) if 0 < len(found) <= MOST_DOMAINS else [None]
 
 
-def processing_capacity(model: Model) -> int:
+def processing_capacity(model: GuessedModel) -> int:
     """What a mill takes, to two digits: the ore by the life that Taylor found, 0.2 times its fourth root in years (1977)."""
     revenue = np.zeros(len(model.frame))
     for metal in model.columns.metals:

@@ -16,7 +16,7 @@ PATHS = {"FILE": FILE, "TABLE": FILE, "PLACE": FILE, "FOLDER": FOLDER, "TARGET":
 
 
 @dataclass(frozen=True)
-class Argument:
+class CompletedArgument:
     """An argument of a subcommand, or the value of an option.
 
     Attributes
@@ -49,18 +49,18 @@ class Option:
 
     spellings: tuple[str, ...]
     help: str
-    value: Argument | None
+    value: CompletedArgument | None
     repeats: bool
     required: bool
 
 
 @dataclass(frozen=True)
-class Subcommand:
+class CompletedSubcommand:
     """A subcommand: its name, what it does, its arguments in order, and its options."""
 
     name: str
     does: str
-    arguments: tuple[Argument, ...]
+    arguments: tuple[CompletedArgument, ...]
     options: tuple[Option, ...]
 
     @property
@@ -78,7 +78,7 @@ def script(shell: str) -> str:
     )
 
 
-def subcommands_of(top: Parser) -> list[Subcommand]:
+def subcommands_of(top: Parser) -> list[CompletedSubcommand]:
     """The subcommands of a parser. The arguments and options of a subcommand's own subcommands count as its own."""
     found = []
     for name, sub in nested(top).items():
@@ -89,7 +89,7 @@ def subcommands_of(top: Parser) -> list[Subcommand]:
             arguments += [argument_of(action) for action in kind._actions if not action.option_strings]
             options += [option for option in options_of(kind) if option not in options]
         does = (sub.description or "").partition(". ")[0].rstrip(".")
-        found.append(Subcommand(name, does, tuple(arguments), tuple(options)))
+        found.append(CompletedSubcommand(name, does, tuple(arguments), tuple(options)))
     return found
 
 
@@ -119,14 +119,14 @@ def options_of(top: Parser) -> tuple[Option, ...]:
     return (*(it for it in found if "--help" not in it.spellings), *(it for it in found if "--help" in it.spellings))
 
 
-def argument_of(action: argparse.Action) -> Argument:
+def argument_of(action: argparse.Action) -> CompletedArgument:
     """The argument of an action. A path must have a name of PATHS."""
     name = action.metavar if isinstance(action.metavar, str) else action.dest.upper()
     repeats = action.nargs in ("+", "*")
     if action.choices is not None:
-        return Argument(name, help_of(action), WORDS, tuple(action.choices), repeats)
+        return CompletedArgument(name, help_of(action), WORDS, tuple(action.choices), repeats)
     kind = PATHS[name] if action.type is Path else KEYS if name == "KEY=VALUE" else NOTHING
-    return Argument(name, help_of(action), kind, (), repeats, action.nargs == "?")
+    return CompletedArgument(name, help_of(action), kind, (), repeats, action.nargs == "?")
 
 
 def help_of(action: argparse.Action) -> str:
@@ -188,7 +188,7 @@ complete -F _pitplan pitplan
 """
 
 
-def of_bash(subcommands: list[Subcommand], top: tuple[Option, ...]) -> str:
+def of_bash(subcommands: list[CompletedSubcommand], top: tuple[Option, ...]) -> str:
     """The script for bash. An option that takes neither words nor a path completes nothing."""
     cases: dict[str, list[str]] = {}
     for sub in subcommands:
@@ -210,7 +210,7 @@ def of_bash(subcommands: list[Subcommand], top: tuple[Option, ...]) -> str:
     return filled.replace("OPTIONS", "\n".join(options)).replace("ARGUMENTS", "\n".join(arguments))
 
 
-def bash_action(argument: Argument) -> str:
+def bash_action(argument: CompletedArgument) -> str:
     if argument.kind == WORDS:
         return f'_pitplan_words "{" ".join(argument.words)}" && return'
     if argument.kind == KEYS:
@@ -253,7 +253,7 @@ fi
 """
 
 
-def of_zsh(subcommands: list[Subcommand], top: tuple[Option, ...]) -> str:
+def of_zsh(subcommands: list[CompletedSubcommand], top: tuple[Option, ...]) -> str:
     """The script for zsh, by `_arguments`, as a function to load or a file to source."""
     listed = [f"            {quoted(colons(sub.name) + ':' + colons(sub.does))}" for sub in subcommands]
     arguments = []
@@ -280,7 +280,7 @@ def zsh_option(option: Option) -> str:
     return f"{before}{spelled}{quoted(f'[{text}]')}{value}"
 
 
-def zsh_value(argument: Argument) -> str:
+def zsh_value(argument: CompletedArgument) -> str:
     """The name of a value and what completes it; a space completes nothing."""
     action = {
         FILE: "_files",
@@ -309,7 +309,7 @@ end
 """
 
 
-def of_fish(subcommands: list[Subcommand], top: tuple[Option, ...]) -> str:
+def of_fish(subcommands: list[CompletedSubcommand], top: tuple[Option, ...]) -> str:
     """The script for fish."""
     lines = [
         f"complete -c pitplan -n __fish_use_subcommand{fish_spellings(option)} -d {fish_quoted(option.help)}"
@@ -322,7 +322,7 @@ def of_fish(subcommands: list[Subcommand], top: tuple[Option, ...]) -> str:
     return FISH + "\n".join(lines) + "\n"
 
 
-def fish_lines(sub: Subcommand) -> Iterator[str]:
+def fish_lines(sub: CompletedSubcommand) -> Iterator[str]:
     """The lines of a subcommand: its arguments, in any number, and its options."""
     begin = f"complete -c pitplan -n '__fish_seen_subcommand_from {sub.name}'"
     for argument in sub.arguments:
@@ -333,7 +333,7 @@ def fish_lines(sub: Subcommand) -> Iterator[str]:
         yield f"{begin}{fish_spellings(option)}{value} -d {fish_quoted(option.help)}"
 
 
-def fish_value(argument: Argument) -> str:
+def fish_value(argument: CompletedArgument) -> str:
     """The words of a value, or paths."""
     suffix = "(__fish_complete_suffix .toml)"
     words = {

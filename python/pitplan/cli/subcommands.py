@@ -17,7 +17,7 @@ if TYPE_CHECKING:
 
     from pandas import DataFrame
 
-    from pitplan.blockmodel.guesses import Model
+    from pitplan.blockmodel.guesses import GuessedModel
     from pitplan.config.project import Project
     from pitplan.report.columns import Display
     from pitplan.studies.scenarios.result import ScenarioResult
@@ -47,7 +47,7 @@ def writing_of(options: Namespace) -> Writing:
     )
 
 
-def draw_block_model(model: Model, path: Path) -> None:
+def draw_block_model(model: GuessedModel, path: Path) -> None:
     """Draws a block model; matplotlib is imported only now."""
     from pitplan.figures.geology import write_block_model
 
@@ -262,7 +262,7 @@ def export(options: Namespace) -> None:
     from .printing import print_path
 
     shape = Shape(options.of, options.surface, options.smooth, options.revenue_factor)
-    print_path(write_export(options.folder, options.to, shape, progress_of(options), options.out))
+    print_path(write_export(options.folder, options.to, shape, progress_of(options), out=options.out))
 
 
 def audit(options: Namespace) -> None:

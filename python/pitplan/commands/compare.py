@@ -18,7 +18,7 @@ from pitplan.errors import PlanError, PlanWarning
 from pitplan.results import names
 from pitplan.results.rounding import shown
 from pitplan.studies import comparison
-from pitplan.studies.comparison import SCHEDULE, SHELLS, Run, Step, bridge, read_runs
+from pitplan.studies.comparison import SCHEDULE, SHELLS, BridgeStep, ComparedRun, bridge, read_runs
 from planaudit import Rule
 
 from .verification import demand, verify
@@ -31,7 +31,7 @@ class Comparison:
 
     Attributes
     ----------
-    runs : list of Run
+    runs : list of ComparedRun
     results, inputs, periods : DataFrame
         One row per run; per run and differing key; per run and period.
     bridge : DataFrame, optional
@@ -40,7 +40,7 @@ class Comparison:
         Where the tables were written.
     """
 
-    runs: list[Run]
+    runs: list[ComparedRun]
     results: pd.DataFrame
     inputs: pd.DataFrame
     periods: pd.DataFrame
@@ -95,7 +95,7 @@ def compare(
     if target.resolve() in {run.folder.resolve() for run in runs}:
         raise PlanError(f"{target}: is one of the runs: give another folder with --out")
     made_by = Runs(runs[0].kind, writing.verifies)
-    found: dict[str, list[Step]] = {}
+    found: dict[str, list[BridgeStep]] = {}
     if bridges:
         found = {run.name: bridge(runs[0], run, made_by.npv, writing.progress) for run in runs[1:]}
         demand(made_by.rules)

@@ -125,6 +125,7 @@ def write_export(
     kind: str,
     shape: Union[Shape, float] = Shape(),
     progress: Progress = silent,
+    *,
     out: Optional[Place] = None,
 ) -> NotedPath:
     """Writes the shells of a folder that `write_shells` has written for other programs.

@@ -18,7 +18,7 @@ from .schedule import FEED, TOTAL, ScheduleRules
 from .shells import MOST_FACTORS, WAYS
 from .studies import AXES, EXAMPLE, HillAxis
 from .table import CLASS, DOMAIN, PARENTS, ROCK_TYPE, ZERO, MissingRock, TableColumns
-from .toml_text import Section, Source
+from .toml_text import ProjectSource, Section
 
 if TYPE_CHECKING:
     from .project import Project
@@ -41,7 +41,7 @@ def wrong(section: str, key: str, why: str) -> Fault:
     return Fault(f"[{section}] {key}: {why}", f"{section}.{key}")
 
 
-def demand(faults: Iterable[Fault], source: Source) -> None:
+def demand(faults: Iterable[Fault], source: ProjectSource) -> None:
     for fault in faults:
         raise source.error(fault.why, fault.place)
 

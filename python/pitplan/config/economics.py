@@ -10,7 +10,7 @@ from typing import Any, Optional, Union
 from .keys import (
     RENAMED,
     TEXT,
-    Kind,
+    ValueKind,
     amount,
     array,
     by_name,
@@ -124,7 +124,7 @@ class Smelter:
     )
     penalties: tuple[Penalty, ...] = key(tables(Penalty), "list of penalties, below", ())
     processes: Union[str, tuple[str, ...]] = key(
-        Kind(read_processes, {"anyOf": [{"const": ALL}, array(TEXT)]}),
+        ValueKind(read_processes, {"anyOf": [{"const": ALL}, array(TEXT)]}),
         'names whose metal the smelter buys, or `"all"`, which is also meant if each that recovers it is named; then without `selling_cost`',
         "",
         otherwise="the one that recovers the metal",
@@ -172,7 +172,7 @@ class Curve:
 Recovery = Union[Decimal, Curve]
 
 
-def by_code(item: Kind) -> Kind:
+def by_code(item: ValueKind) -> ValueKind:
     """A number for all blocks, by rock type, or as `{ domain = { CODE = number } }` by domain."""
     of_rock, of_domain = by_rock(item), by_name(item)
 
@@ -188,7 +188,7 @@ def by_code(item: Kind) -> Kind:
         return {"domain": value.values} if isinstance(value, ByDomain) else value
 
     domains = {"type": "object", "properties": {"domain": of_domain.schema}, "required": ["domain"]}
-    return Kind(read, {"anyOf": [*of_rock.schema["anyOf"], domains]}, f"{of_rock.range} or domain", write)
+    return ValueKind(read, {"anyOf": [*of_rock.schema["anyOf"], domains]}, f"{of_rock.range} or domain", write)
 
 
 def curve(points: tuple[tuple[Decimal, Decimal], ...]) -> Curve:
@@ -199,7 +199,7 @@ def curve(points: tuple[tuple[Decimal, Decimal], ...]) -> Curve:
 
 
 CURVE = pairs(number(0), SHARE, "[grade, recovery]", "a grade occurs twice").then(curve)
-RECOVERY = Kind(
+RECOVERY = ValueKind(
     lambda section, name, value: (CURVE if isinstance(value, list) else SHARE).read(section, name, value),
     {"anyOf": [SHARE.schema, CURVE.schema]},
     SHARE.range,

@@ -9,7 +9,7 @@ from pathlib import Path
 from typing import Any, Optional, Union
 
 from .keys import (
-    Kind,
+    ValueKind,
     amount,
     array,
     choice,
@@ -96,7 +96,7 @@ class SlopeDomain:
     )
     pattern: Optional[str] = key(choice(*PATTERNS), "pattern of precedences", None, is_seldom=True, otherwise="")
     offsets: tuple[tuple[int, int, int], ...] = key(
-        Kind(read_offsets, array(array({"type": "integer"}, 3, 3))),
+        ValueKind(read_offsets, array(array({"type": "integer"}, 3, 3))),
         f"precedences of your own: blocks east, north (up to {MOST_STEPS}) and up (1 to {MOST_LEVELS})",
         (),
         otherwise="",
@@ -215,7 +215,7 @@ class ConstraintRules:
     exclude: Optional[str] = key(text, "column: blocks with a number above 0 are in no shell", None)
     as_mined: Optional[SurveyFile] = key(survey(), "survey file: tonnes above it are gone", None)
     original: Union[None, str, SurveyFile] = new(
-        Kind(read_ground, survey().schema, write=write_ground),
+        ValueKind(read_ground, survey().schema, write=write_ground),
         'original ground: survey file or `"blocks"`; requires `as_mined`',
         None,
         otherwise="that of `[table]`",

@@ -45,7 +45,7 @@ RENAMED = {
 
 
 @dataclass(frozen=True)
-class Kind:
+class ValueKind:
     """A kind of values.
 
     Attributes
@@ -84,7 +84,7 @@ class Kind:
     def options(self) -> tuple[str, ...]:
         return tuple(self.schema.get("enum", ()))
 
-    def then(self, make: Callable[[Any], Any], **others: Any) -> Kind:
+    def then(self, make: Callable[[Any], Any], **others: Any) -> ValueKind:
         """The kind whose values `make` turns into others. A ValueError of it says what is wrong with the key; `others` are fields of the kind."""
 
         def read(section: Section, key: str, value: Any) -> Any:
@@ -96,7 +96,7 @@ class Kind:
 
         return replace(self, read=read, **others)
 
-    def where(self, holds: Callable[[Any], Any], why: str, **others: Any) -> Kind:
+    def where(self, holds: Callable[[Any], Any], why: str, **others: Any) -> ValueKind:
         """The kind of those values alone for which `holds` is true. `why` is the error of others, with the value in place of {}."""
 
         def demanded(found: Any) -> Any:
@@ -183,20 +183,20 @@ def number(
     above: Optional[Real] = None,
     below: Optional[Real] = None,
     example: str = "",
-) -> Kind:
+) -> ValueKind:
     """A number in a range; errors end with the example."""
     span = Range(least, most, above, below)
     such = f", such as {example}" if example else ""
-    any_number = Kind(as_number, {"type": "number", **span.schema}, "" if span == Range(0) else span.words)
+    any_number = ValueKind(as_number, {"type": "number", **span.schema}, "" if span == Range(0) else span.words)
     return any_number.where(span.__contains__, f"found {{}}, expected {span.words}{such}")
 
 
-def amount(least: Optional[Real] = 0, most: Optional[Real] = None, **others: Any) -> Kind:
+def amount(least: Optional[Real] = 0, most: Optional[Real] = None, **others: Any) -> ValueKind:
     """A number with which is computed in floating point."""
     return number(None if "above" in others else least, most, **others).then(float)
 
 
-def whole(least: int, most: int) -> Kind:
+def whole(least: int, most: int) -> ValueKind:
     span = Range(least, most)
 
     def read(section: Section, key: str, value: Any) -> int:
@@ -205,10 +205,10 @@ def whole(least: int, most: int) -> Kind:
             raise section.wrong(key, f"found {shown(value)}, {expected}")
         return value
 
-    return Kind(read, {"type": "integer", **span.schema}, span.words)
+    return ValueKind(read, {"type": "integer", **span.schema}, span.words)
 
 
-coordinate = Kind(as_number, {"type": "number", "minimum": -FARTHEST, "maximum": FARTHEST}).where(
+coordinate = ValueKind(as_number, {"type": "number", "minimum": -FARTHEST, "maximum": FARTHEST}).where(
     lambda it: abs(it) <= FARTHEST, f"found {{}}, expected a coordinate in metres, at most {FARTHEST:,}"
 )
 
@@ -227,8 +227,8 @@ def read_truth(section: Section, key: str, value: Any) -> bool:
     return value
 
 
-truth = Kind(read_truth, {"type": "boolean"})
-text = Kind(read_text, TEXT)
+truth = ValueKind(read_truth, {"type": "boolean"})
+text = ValueKind(read_text, TEXT)
 line = text.where(str.isprintable, "must be one line of plain text")
 # Columns of tables are named by it.
 word = text.where(
@@ -239,14 +239,14 @@ word = text.where(
 )
 
 
-def choice(*options: str) -> Kind:
+def choice(*options: str) -> ValueKind:
     words = [f'`"{it}"`' for it in options]
     allowed = f"{', '.join(words[:-1])} or {words[-1]}"
     why = f'found "{{}}", expected one of {", ".join(options)}'
     return text.where(options.__contains__, why, schema={"enum": [*options]}, range=allowed)
 
 
-def exactly(words: str, why: str, meant: Any) -> Kind:
+def exactly(words: str, why: str, meant: Any) -> ValueKind:
     """One text, and the value that it stands for. `why` is the error of anything else, with this in place of {}."""
 
     def read(section: Section, key: str, value: Any) -> Any:
@@ -254,7 +254,7 @@ def exactly(words: str, why: str, meant: Any) -> Kind:
             raise section.wrong(key, why.replace("{}", shown(value)))
         return meant
 
-    return Kind(read, {"const": words}, write=lambda value, _: words)
+    return ValueKind(read, {"const": words}, write=lambda value, _: words)
 
 
 def array(item: Schema, least: int = 1, most: int = 0) -> dict[str, Any]:
@@ -262,7 +262,7 @@ def array(item: Schema, least: int = 1, most: int = 0) -> dict[str, Any]:
     return {"type": "array", "items": item} | {key: n for key, n in (("minItems", least), ("maxItems", most)) if n}
 
 
-def listed(item: Kind, of: str, most: int = 0) -> Kind:
+def listed(item: ValueKind, of: str, most: int = 0) -> ValueKind:
     """A list; `of` says in errors what it has, with an example."""
 
     def read(section: Section, key: str, value: Any) -> tuple[Any, ...]:
@@ -273,10 +273,10 @@ def listed(item: Kind, of: str, most: int = 0) -> Kind:
             raise section.wrong(key, f"found {len(found):,}, expected {most:,} at most")
         return found
 
-    return Kind(read, array(item.schema, 1, most), item.range)
+    return ValueKind(read, array(item.schema, 1, most), item.range)
 
 
-def one_or_more(item: Kind, of: str) -> Kind:
+def one_or_more(item: ValueKind, of: str) -> ValueKind:
     """A value, or a list of such; `of` says in errors what is expected in place of an empty list."""
 
     def read(section: Section, key: str, value: Any) -> tuple[Any, ...]:
@@ -284,10 +284,10 @@ def one_or_more(item: Kind, of: str) -> Kind:
             raise section.wrong(key, of)
         return tuple(item.read(section, key, it) for it in (value if isinstance(value, list) else [value]))
 
-    return Kind(read, {"anyOf": [item.schema, array(item.schema)]}, item.range)
+    return ValueKind(read, {"anyOf": [item.schema, array(item.schema)]}, item.range)
 
 
-def numbers(count: int, item: Kind, why: str = "") -> Kind:
+def numbers(count: int, item: ValueKind, why: str = "") -> ValueKind:
     """A list of `count` values, by default numbers; `why` is the error of anything else."""
 
     def read(section: Section, key: str, value: Any) -> tuple[Any, ...]:
@@ -295,10 +295,10 @@ def numbers(count: int, item: Kind, why: str = "") -> Kind:
             raise section.wrong(key, why or f"must be a list of {count} numbers")
         return tuple(item.read(section, key, it) for it in value)
 
-    return Kind(read, array(item.schema, count, count), item.range)
+    return ValueKind(read, array(item.schema, count, count), item.range)
 
 
-def pairs(first: Kind, second: Kind, of: str, twice: str = "", least: int = 1) -> Kind:
+def pairs(first: ValueKind, second: ValueKind, of: str, twice: str = "", *, least: int = 1) -> ValueKind:
     """A list of pairs; `of` names the two in errors. If `twice` is given, pairs rise by their first values; it is the error if one occurs twice."""
 
     def read(section: Section, key: str, value: Any) -> tuple[tuple[Any, Any], ...]:
@@ -314,16 +314,16 @@ def pairs(first: Kind, second: Kind, of: str, twice: str = "", least: int = 1) -
         return tuple(sorted(found)) if twice else found
 
     pair = {"type": "array", "items": [first.schema, second.schema], "minItems": 2, "maxItems": 2}
-    return Kind(read, array(pair, least))
+    return ValueKind(read, array(pair, least))
 
 
-def by_rock(item: Kind) -> Kind:
+def by_rock(item: ValueKind) -> ValueKind:
     """A value for all blocks, or by the code of their rock type."""
 
     def each(value: Any, make: Callable[[Any], Any]) -> Any:
         return {rock: make(it) for rock, it in value.items()} if isinstance(value, dict) else make(value)
 
-    return Kind(
+    return ValueKind(
         lambda section, key, value: each(value, partial(item.read, section, key)),
         {"anyOf": [item.schema, {"type": "object", "additionalProperties": item.schema}]},
         "; ".join(filter(None, [item.range, "by rock type"])),
@@ -331,7 +331,7 @@ def by_rock(item: Kind) -> Kind:
     )
 
 
-def by_name(item: Kind, empty: str = "", of_metals: bool = False) -> Kind:
+def by_name(item: ValueKind, empty: str = "", of_metals: bool = False) -> ValueKind:
     """A table by names that the project gives, or of its metals; `empty` is the error of one without any, if there must be one."""
 
     def read(section: Section, key: str, value: Any) -> dict[str, Any]:
@@ -347,7 +347,7 @@ def by_name(item: Kind, empty: str = "", of_metals: bool = False) -> Kind:
         return {name: item.write(it, folder) for name, it in value.items()}
 
     schema = {"type": "object", "additionalProperties": item.schema} | ({"minProperties": 1} if empty else {})
-    return Kind(read, schema, item.range, write, item.record)
+    return ValueKind(read, schema, item.range, write, item.record)
 
 
 def read_code(section: Section, key: str, value: Any, may_be_empty: bool = False) -> str:
@@ -358,12 +358,12 @@ def read_code(section: Section, key: str, value: Any, may_be_empty: bool = False
     return str(value)
 
 
-codes = one_or_more(Kind(read_code, CODE), "must be a code or a list of codes")
+codes = one_or_more(ValueKind(read_code, CODE), "must be a code or a list of codes")
 # A block without a resource class has the code "".
-codes_or_none = one_or_more(Kind(partial(read_code, may_be_empty=True), CODE), "must be a code or a list of codes")
+codes_or_none = one_or_more(ValueKind(partial(read_code, may_be_empty=True), CODE), "must be a code or a list of codes")
 
 
-def factor(least: float = 0.0) -> Kind:
+def factor(least: float = 0.0) -> ValueKind:
     def made(found: Decimal) -> float:
         if not 0 <= found <= GREATEST_FACTOR or found * PER_MILLE % 1:
             raise ValueError(no_factor(found))
@@ -372,10 +372,10 @@ def factor(least: float = 0.0) -> Kind:
         return of_decimal(found)
 
     schema = {"type": "number", "minimum": least, "maximum": 100}
-    return Kind(as_number, schema, f"{least} or more" if least else "").then(made)
+    return ValueKind(as_number, schema, f"{least} or more" if least else "").then(made)
 
 
-def factors(least: float = 0.0, most: int = 0) -> Kind:
+def factors(least: float = 0.0, most: int = 0) -> ValueKind:
     """Revenue factors that rise: a list, or `{ from, to, step }`."""
     one = factor(least)
     several = listed(one, "of revenue factors, or { from, to, step }")
@@ -390,10 +390,10 @@ def factors(least: float = 0.0, most: int = 0) -> Kind:
     ends = {"type": "object", "required": ["from", "to"], "additionalProperties": False}
     ends["properties"] = {name: factor().schema for name in ("from", "to", "step")}
     allowed = ", ".join(filter(None, [one.range, f"{most:,} at most" if most else ""]))
-    return Kind(read, {"anyOf": [several.schema, ends]}, allowed)
+    return ValueKind(read, {"anyOf": [several.schema, ends]}, allowed)
 
 
-def span_of(section: Section, key: str, one: Kind) -> list[float]:
+def span_of(section: Section, key: str, one: ValueKind) -> list[float]:
     """The revenue factors of `{ from, to, step }`, with ends of a kind."""
     inner = section.section(key)
     first, last = (one.read(inner, name, inner.get(name)) for name in ("from", "to"))
@@ -432,8 +432,8 @@ def path_of(section: Section, key: str, value: Any, is_folder: bool = False) -> 
     return path
 
 
-file = Kind(path_of, TEXT, write=place)
-folder = Kind(partial(path_of, is_folder=True), TEXT, write=place)
+file = ValueKind(path_of, TEXT, write=place)
+folder = ValueKind(partial(path_of, is_folder=True), TEXT, write=place)
 
 
 @dataclass(frozen=True)
@@ -442,7 +442,7 @@ class Key:
 
     Attributes
     ----------
-    kind : Kind
+    kind : ValueKind
     meaning : str
         What it is, without its unit and range.
     default : object
@@ -465,7 +465,7 @@ class Key:
         Whether forms show it only if it is given, or asked for.
     """
 
-    kind: Kind
+    kind: ValueKind
     meaning: str
     default: Any = MISSING
     unit: str = ""
@@ -487,7 +487,7 @@ class Key:
 
 
 @dataclass(frozen=True)
-class Part:
+class InlineRecord:
     """A record whose keys lie in the section of another."""
 
     record: type
@@ -497,11 +497,11 @@ class Part:
 class Rest:
     """The keys of a section that no other field has: names that the project gives."""
 
-    kind: Kind
+    kind: ValueKind
 
 
 def key(
-    kind: Kind, meaning: str, default: Any = MISSING, unit: str = "", *, in_python: Any = MISSING, **others: Any
+    kind: ValueKind, meaning: str, default: Any = MISSING, unit: str = "", *, in_python: Any = MISSING, **others: Any
 ) -> Any:
     """Declares a field of a record as a key, with `others` as of Key; `in_python` is the default of the field if the file must give it."""
     declared = Key(kind, meaning, default, unit, **others)
@@ -517,10 +517,10 @@ new = partial(key, since="0.2.0")
 
 def part(record: type) -> Any:
     """Declares a field as a record whose keys lie in the same section."""
-    return field(default_factory=record, metadata={DECLARED: Part(record)})
+    return field(default_factory=record, metadata={DECLARED: InlineRecord(record)})
 
 
-def rest(kind: Kind) -> Any:
+def rest(kind: ValueKind) -> Any:
     """Declares a field as a dict of all keys of the section that no other field has, with values of a kind."""
     return field(default_factory=dict, metadata={DECLARED: Rest(kind)})
 
@@ -536,12 +536,12 @@ def declared(record: type) -> tuple[tuple[str, Key], ...]:
     """The fields of a record, and of the records in it, with their keys."""
     found: list[tuple[str, Key]] = []
     for name, it in declarations(record):
-        found += declared(it.record) if isinstance(it, Part) else [(name, it)] if isinstance(it, Key) else []
+        found += declared(it.record) if isinstance(it, InlineRecord) else [(name, it)] if isinstance(it, Key) else []
     return tuple(found)
 
 
 @lru_cache(maxsize=None)
-def declarations(record: type) -> tuple[tuple[str, Union[Key, Part, Rest]], ...]:
+def declarations(record: type) -> tuple[tuple[str, Union[Key, InlineRecord, Rest]], ...]:
     """The fields of a record that are declared. Name and label of a key are those of its field unless it gives others."""
     found = []
     for it in fields(record):
@@ -567,7 +567,7 @@ def read(record: Callable[..., Record], section: Section, **others: Any) -> Reco
 def read_part(record: Callable[..., Record], section: Section, others: Mapping[str, Any]) -> Record:
     values = dict(others)
     for name, it in declarations(cast(type, record)):
-        if isinstance(it, Part):
+        if isinstance(it, InlineRecord):
             values[name] = read_part(it.record, section, {})
         elif isinstance(it, Rest):
             named = {key: value for key, value in section.data.items() if key not in section.asked}
@@ -596,7 +596,7 @@ def write(value: Any, folder: Path) -> dict[str, Any]:
     found: dict[str, Any] = {}
     for name, it in declarations(value.__class__):
         held = getattr(value, name)
-        if isinstance(it, Part):
+        if isinstance(it, InlineRecord):
             found |= write(held, folder)
         elif isinstance(it, Rest):
             found |= by_name(it.kind).write(held, folder)
@@ -615,28 +615,28 @@ def is_empty(value: Any) -> bool:
     return not isinstance(value, (bool, int, float, Decimal)) and not value
 
 
-def table(record: type) -> Kind:
-    return Kind(
+def table(record: type) -> ValueKind:
+    return ValueKind(
         lambda section, name, _: read(record, section.section(name)), schema(record), write=write, record=record
     )
 
 
-def tables(record: type) -> Kind:
+def tables(record: type) -> ValueKind:
     def read_all(section: Section, name: str, _: Any) -> tuple[Any, ...]:
         return tuple(read(record, it) for it in section.sections(name))
 
     def write_all(values: tuple[Any, ...], folder: Path) -> list[dict[str, Any]]:
         return [write(it, folder) for it in values]
 
-    return Kind(read_all, array(schema(record)), write=write_all, record=record)
+    return ValueKind(read_all, array(schema(record)), write=write_all, record=record)
 
 
-def inline(record: type) -> Kind:
+def inline(record: type) -> ValueKind:
     """A table that forms and the reference show as one value."""
     return replace(table(record), record=None)
 
 
-def either(plain: Kind, record: Any, *names: str) -> Kind:
+def either(plain: ValueKind, record: Any, *names: str) -> ValueKind:
     """A plain value, or a table with the keys of a record. If `names` are given, a plain value makes a record, and is the value of these fields;
     a record with nothing else than the first one is written as a plain value."""
 
@@ -653,7 +653,7 @@ def either(plain: Kind, record: Any, *names: str) -> Kind:
         found = write(value, folder)
         return found[first[0]] if first == [*found] else found
 
-    return Kind(read_one, {"anyOf": [plain.schema, schema(record)]}, write=write_one)
+    return ValueKind(read_one, {"anyOf": [plain.schema, schema(record)]}, write=write_one)
 
 
 def schema(record: type) -> dict[str, Any]:

@@ -7,7 +7,22 @@ from dataclasses import dataclass, replace
 from pathlib import Path
 from typing import Any, Optional
 
-from .keys import Kind, amount, by_name, choice, codes_or_none, inline, key, new, read, rest, schema, text, word, write
+from .keys import (
+    ValueKind,
+    amount,
+    by_name,
+    choice,
+    codes_or_none,
+    inline,
+    key,
+    new,
+    read,
+    rest,
+    schema,
+    text,
+    word,
+    write,
+)
 from .table import CLASS, CODES, Coded
 from .toml_text import Section
 
@@ -39,7 +54,7 @@ class ClassRules:
 
 
 @dataclass(frozen=True)
-class Limit:
+class NamedLimit:
     """The least and the most of something that has a name, both included; None: no limit.
 
     Of a stockpile these are tonnes of feed at the end of a period, and of a dump tonnes of waste in a year of it.
@@ -51,7 +66,7 @@ class Limit:
 
 
 @dataclass(frozen=True)
-class FeedGrade(Limit):
+class FeedGrade(NamedLimit):
     """A limit on the head grade of a process, or on the share of a code in its feed, in each year: the mean of the diluted feed.
 
     Attributes
@@ -82,11 +97,11 @@ class FeedGrade(Limit):
         return [word for word in self.key if word]
 
 
-def limit(record: type[Limit], example: str, most: float = 0) -> Kind:
+def limit(record: type[NamedLimit], example: str, most: float = 0) -> ValueKind:
     """Min, max or both of what has the name of the key; if `most` is given, they are shares of the feed."""
 
-    def read_limit(section: Section, name: str, _: Any) -> Limit:
-        found: Limit = read(record, section.section(name), name=name)
+    def read_limit(section: Section, name: str, _: Any) -> NamedLimit:
+        found: NamedLimit = read(record, section.section(name), name=name)
         sides = [it for it in (found.min, found.max) if it is not None]
         if not sides:
             raise section.wrong(name, f"expected min, max or both, such as {example}")
@@ -96,11 +111,11 @@ def limit(record: type[Limit], example: str, most: float = 0) -> Kind:
             raise section.wrong(name, f"found {max(sides):.10g}, expected a share of the feed, from 0 to 1")
         return found
 
-    return Kind(read_limit, schema(record) | {"minProperties": 1}, write=write)
+    return ValueKind(read_limit, schema(record) | {"minProperties": 1}, write=write)
 
 
 OF_GRADE, OF_CODE = limit(FeedGrade, "{ max = 140 }"), limit(FeedGrade, "{ max = 0.3 }", 1)
-OF_PLACE, ACCEPTED_GRADE = limit(Limit, "{ max = 2e6 }"), limit(Limit, "{ min = 0.1 }")
+OF_PLACE, ACCEPTED_GRADE = limit(NamedLimit, "{ max = 2e6 }"), limit(NamedLimit, "{ min = 0.1 }")
 LIMITS = by_name(OF_PLACE).then(
     lambda found: tuple(found.values()), write=lambda limits, folder: {it.name: write(it, folder) for it in limits}
 )
@@ -145,8 +160,8 @@ def write_by_process(limits: tuple[FeedGrade, ...], folder: Path) -> dict[str, A
 BY_CODE = {"type": "object", "properties": dict.fromkeys(CODES, by_name(OF_CODE).schema)}
 OF_PROCESS = BY_CODE | {"additionalProperties": OF_GRADE.schema}
 # `[processes.feed]` and `[schedule.feed]`: `as_ppm = { max = 140 }` limits a head grade, `rock_type = { OX = { max = 0.3 } }` the share of a code.
-FEED = Kind(lambda section, name, _: tuple(limits_of(section.section(name))), OF_PROCESS, write=write_feed)
-FEED_BY_PROCESS = Kind(
+FEED = ValueKind(lambda section, name, _: tuple(limits_of(section.section(name))), OF_PROCESS, write=write_feed)
+FEED_BY_PROCESS = ValueKind(
     read_by_process,
     BY_CODE | {"additionalProperties": {"anyOf": [OF_GRADE.schema, OF_PROCESS]}},
     write=write_by_process,
@@ -160,13 +175,13 @@ class Accepts(Coded):
     rock_type: tuple[str, ...] = key(codes_or_none, "accepted rock types", ())
     domain: tuple[str, ...] = key(codes_or_none, "accepted domains", ())
     resource_class: tuple[str, ...] = key(codes_or_none, "accepted classes", (), name=CLASS)
-    by_grade: dict[str, Limit] = rest(ACCEPTED_GRADE)
+    by_grade: dict[str, NamedLimit] = rest(ACCEPTED_GRADE)
 
     def __bool__(self) -> bool:
         return self != Accepts()
 
     @property
-    def grades(self) -> tuple[Limit, ...]:
+    def grades(self) -> tuple[NamedLimit, ...]:
         return tuple(self.by_grade.values())
 
 

@@ -21,7 +21,7 @@ from pitplan.errors import PlanError
 
 from .economics import MOST_YEARS
 from .keys import amount, by_name, key, number, whole
-from .material import FEED_BY_PROCESS, LIMITS, FeedGrade, Limit
+from .material import FEED_BY_PROCESS, LIMITS, FeedGrade, NamedLimit
 from .toml_text import Section
 
 Value = TypeVar("Value")
@@ -71,10 +71,12 @@ class Period:
     feed: tuple[FeedGrade, ...] = key(
         FEED_BY_PROCESS, "[limits of the feed](#limits-of-the-feed); with `[[processes]]` by process", (), otherwise=""
     )
-    stockpiles: tuple[Limit, ...] = key(
+    stockpiles: tuple[NamedLimit, ...] = key(
         LIMITS, "`{ low_grade = { min = .., max = .. } }`", (), "t of feed at the end", otherwise=""
     )
-    dumps: tuple[Limit, ...] = key(LIMITS, "`{ north = { min = .., max = .. } }`", (), "t of waste/year", otherwise="")
+    dumps: tuple[NamedLimit, ...] = key(
+        LIMITS, "`{ north = { min = .., max = .. } }`", (), "t of waste/year", otherwise=""
+    )
     prices: dict[str, Decimal] = key(
         by_name(number(0)), "by metal, in the unit of its price", {}, "{currency}/{per}", label="Price", otherwise=""
     )

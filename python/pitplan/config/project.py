@@ -15,7 +15,7 @@ from . import keys, toml_text
 from .agreement import demand, demand_calendar, faults_of
 from .economics import ALL, CashFlowRules, Economics, Metal, Process
 from .geometry import ConstraintRules, Haulage, Slopes
-from .keys import Key, Kind, amount, choice, inline, key, listed, new, one_or_more, tables, text
+from .keys import Key, ValueKind, amount, choice, inline, key, listed, new, one_or_more, tables, text
 from .material import ClassRules, Dump, FeedGrade
 from .overrides import LISTS, overridden
 from .periods import Calendar, Period, sections_of
@@ -23,7 +23,7 @@ from .schedule import ScheduleRules
 from .shells import PushbackRules, ShellRules
 from .studies import PricePaths, Scenarios, SensitivityRules
 from .table import GridRules, TableColumns
-from .toml_text import Section, Source, as_toml
+from .toml_text import ProjectSource, Section, as_toml
 
 MOST_LEVELS_SHOWN = 7
 FORMATS = ("pdf", "svg")
@@ -70,7 +70,7 @@ def write_shells(shells: ShellRules, folder: Path) -> dict[str, Any]:
     return keys.write(replace(shells, revenue_factors=given), folder)
 
 
-OF_OUTPUT = Kind(
+OF_OUTPUT = ValueKind(
     read_output, keys.schema(Output), write=lambda path, folder: {"folder": keys.place(path, folder)}, record=Output
 )
 OF_SHELLS = replace(keys.table(ShellRules), write=write_shells)
@@ -235,7 +235,7 @@ class Project:
 
 
 PERIODS = Key(
-    Kind(keys.path_of, {"anyOf": [keys.TEXT, keys.array(keys.schema(Period), 0)]}, record=Period),
+    ValueKind(keys.path_of, {"anyOf": [keys.TEXT, keys.array(keys.schema(Period), 0)]}, record=Period),
     "a [table of periods](#periods-in-a-table), in place of `[[periods]]`",
     None,
     name="periods",
@@ -337,7 +337,7 @@ def of_data(data: dict[str, Any], path: Path, source: Optional[str] = None, text
 
     Errors name `source`, by default the file, and the lines of its text, if it is given.
     """
-    of = Source(source or str(path), data, path.parent, text)
+    of = ProjectSource(source or str(path), data, path.parent, text)
     top = Section(of, "", data)
     calendar = read_calendar(top)
     project = keys.read(Project, top, path=path, folder=path.parent / OUTPUT, title=path.parent.name or "plan")

@@ -8,7 +8,22 @@ from pathlib import Path
 from typing import Any, Optional
 
 from . import keys
-from .keys import CODE, TEXT, Kind, array, by_name, codes, key, listed, new, number, one_or_more, table, tables, whole
+from .keys import (
+    CODE,
+    TEXT,
+    ValueKind,
+    array,
+    by_name,
+    codes,
+    key,
+    listed,
+    new,
+    number,
+    one_or_more,
+    table,
+    tables,
+    whole,
+)
 from .toml_text import Section
 
 NAMES = ("price", "mining_cost", "processing_cost", "selling_cost", "recovery", "slopes", "capacity", "haulage")
@@ -34,14 +49,14 @@ def read_parameter(section: Section, key: str, value: Any) -> str:
     raise section.wrong(key, f'found "{name}", expected one of {", ".join(NAMES)}; {of_one}; {paths}')
 
 
-PARAMETER = Kind(read_parameter, CODE)
+PARAMETER = ValueKind(read_parameter, CODE)
 MOST_VALUES, AXES = 30, 2
 EXAMPLE = 'such as parameter = "processes.mill.capacity" with values = [4e6, 6e6, 8e6]'
 # A key of a project by its path, or a parameter, and its value or the share by which it changes.
 Setting = tuple[str, Decimal]
 
 
-def rising(item: Kind) -> Kind:
+def rising(item: ValueKind) -> ValueKind:
     return listed(item, f"of 2 to {MOST_VALUES} different numbers that rise").where(
         lambda it: list(it) == sorted(set(it)) and 2 <= len(it) <= MOST_VALUES,
         f"expected 2 to {MOST_VALUES} different numbers that rise",
@@ -70,7 +85,7 @@ class HillAxis:
         name="changes",
     )
     also: dict[str, tuple[Decimal, ...]] = key(
-        by_name(Kind(read_along, array({"type": "number"}))),
+        by_name(ValueKind(read_along, array({"type": "number"}))),
         "keys that change along: as many values each",
         {},
     )
@@ -189,7 +204,7 @@ class Scenarios:
         otherwise="",
     )
     prices: tuple[dict[str, Decimal], ...] = key(
-        Kind(
+        ValueKind(
             read_decks,
             {"type": "array", "items": DECK, "minItems": 1},
             write=lambda decks, _: [{**it} for it in decks if it] or None,

@@ -14,7 +14,7 @@ from pitplan.core.expressions import Expression, ExpressionError, parsed
 from . import keys
 from .keys import (
     CODE,
-    Kind,
+    ValueKind,
     amount,
     array,
     as_number,
@@ -83,8 +83,10 @@ def expression_of(written: str) -> Expression:
 
 
 NULL_CODES = 'expected a list of null codes, such as [-99, "-", "NA"]'
-NULLS = one_or_more(Kind(read_null, {"type": ["string", "number"]}), f"found [], {NULL_CODES}")
-NEW_NAMES = by_name(Kind(read_new_name, CODE), 'has no codes: write them, such as { 1 = "measured", 2 = "indicated" }')
+NULLS = one_or_more(ValueKind(read_null, {"type": ["string", "number"]}), f"found [], {NULL_CODES}")
+NEW_NAMES = by_name(
+    ValueKind(read_new_name, CODE), 'has no codes: write them, such as { 1 = "measured", 2 = "indicated" }'
+)
 EXPRESSION = text.then(expression_of, write=lambda it, _: it.text)
 
 
@@ -241,7 +243,7 @@ class AreaFile(SurveyFile):
     height: Optional[str] = None
 
 
-def survey(record: type[SurveyFile] = SurveyFile) -> Kind:
+def survey(record: type[SurveyFile] = SurveyFile) -> ValueKind:
     """`KEY = "file"`, or `{ file, layer, height }`."""
     known = either(keys.file, record, "path")
 
@@ -250,7 +252,7 @@ def survey(record: type[SurveyFile] = SurveyFile) -> Kind:
             raise section.wrong("layer", f'must be in the table of its file: {key} = {{ file = "..", layer = ".." }}')
         return known.read(section, key, value)
 
-    return Kind(read, known.schema, write=known.write)
+    return ValueKind(read, known.schema, write=known.write)
 
 
 def encoding_of(written: str) -> str:
@@ -283,6 +285,8 @@ class MissingRock(Coded):
     resource_class: str = key(text, "its class", "", name=CLASS)
 
 
+# The sides of a block along its grid's east and north, and its height, in metres.
+BlockSize = tuple[float, float, float]
 POINT, SIZE = numbers(3, amount(None)), numbers(3, amount(above=0))
 
 
@@ -295,7 +299,7 @@ class Reblock:
     """
 
     counts: Optional[tuple[int, int, int]] = None
-    size: Optional[tuple[float, float, float]] = key(SIZE, "size of a block", unit="m", in_python=None)
+    size: Optional[BlockSize] = key(SIZE, "size of a block", unit="m", in_python=None)
     corner: Optional[tuple[float, float, float]] = key(POINT, "corner of a block", unit="m", in_python=None)
 
     @property
@@ -315,7 +319,7 @@ def read_counts(section: Section, name: str, value: Any) -> Reblock:
     return Reblock((east, north, up))
 
 
-COUNTS = Kind(read_counts, {"anyOf": [{"const": PARENTS}, array({"type": "integer", "minimum": 1}, 3, 3)]})
+COUNTS = ValueKind(read_counts, {"anyOf": [{"const": PARENTS}, array({"type": "integer", "minimum": 1}, 3, 3)]})
 REBLOCK = either(COUNTS, Reblock)
 
 
@@ -373,7 +377,7 @@ class TableColumns(Coded):
         REFUSE,
     )
     reblock: Optional[Reblock] = key(
-        Kind(REBLOCK.read, REBLOCK.schema, write=write_reblock),
+        ValueKind(REBLOCK.read, REBLOCK.schema, write=write_reblock),
         '`[2, 2, 1]` blocks east, north and up; `{ size = [..], corner = [..] }`, m; or `"parents"`, of the largest cell\'s size',
         None,
     )
@@ -392,7 +396,7 @@ class TableColumns(Coded):
 class GridRules:
     """The grid of the blocks; None: as found from the centroids."""
 
-    size: Optional[tuple[float, float, float]] = key(
+    size: Optional[BlockSize] = key(
         SIZE, "of a block along the axes of the grid", None, "m", otherwise="from the centroids"
     )
     tolerance: float = key(amount(), "largest distance of a centroid from the grid", 0.01, "m")

@@ -30,7 +30,7 @@ TOKEN = re.compile(
 
 
 @dataclass(frozen=True)
-class Entry:
+class TomlEntry:
     """A header of a section, or a key with its value.
 
     Attributes
@@ -53,9 +53,9 @@ class Entry:
         return self.start == self.end
 
 
-def entries(text: str) -> list[Entry]:
+def entries(text: str) -> list[TomlEntry]:
     """Returns the headers and keys of a text in their order, as far as it is TOML."""
-    found: list[Entry] = []
+    found: list[TomlEntry] = []
     counts: dict[str, int] = {}
     section, place, counted, line = "", 0, 0, 1
     while place < len(text):
@@ -63,14 +63,14 @@ def entries(text: str) -> list[Entry]:
         header, assigned = HEADER.match(text, place), ASSIGNED.match(text, place)
         if header:
             section = section_of(header["key"], header["opened"] == "[[", counts)
-            found.append(Entry(section, line))
+            found.append(TomlEntry(section, line))
             place = header.end()
         elif assigned:
             key = ".".join(parts_of(assigned["key"]))
             place = end_of_value(text, assigned.end())
             value = text[assigned.end() : place].rstrip()
             name = f"{section}.{key}" if section else key
-            found.append(Entry(name, line, assigned.end(), assigned.end() + len(value)))
+            found.append(TomlEntry(name, line, assigned.end(), assigned.end() + len(value)))
         place = (text.find("\n", place) + 1) or len(text)
     return found
 
@@ -151,7 +151,7 @@ class Absurd:
 
 
 @dataclass(frozen=True)
-class Source:
+class ProjectSource:
     """The sections of a project and where they come from.
 
     Attributes
@@ -245,7 +245,7 @@ class Section:
 
     Parameters
     ----------
-    source : Source or str
+    source : ProjectSource or str
         The project that it is of, or its name in errors.
     name : str
         As errors have it: `metals 2`; empty for the top of the file.
@@ -253,8 +253,8 @@ class Section:
         Its keys and values.
     """
 
-    def __init__(self, source: Union[Source, str], name: str, data: Any) -> None:
-        self.source = Source(source) if isinstance(source, str) else source
+    def __init__(self, source: Union[ProjectSource, str], name: str, data: Any) -> None:
+        self.source = ProjectSource(source) if isinstance(source, str) else source
         if not isinstance(data, dict):
             raise self.source.error(f"[{name}] must be a section of its own", name)
         self.name, self.data = name, data

@@ -29,7 +29,7 @@ def write(path: Path, table: pd.DataFrame) -> None:
     bounds = np.linspace(0, len(table), shares + 1).astype(int).tolist()
     parts = [path, *(path.with_name(f"{path.name}.{number}") for number in range(1, shares))]
     try:
-        run_all([partial(write_part, part, table, rows) for part, rows in zip(parts, zip(bounds, bounds[1:]))])
+        run_all([partial(write_part, part, table, rows) for part, rows in zip(parts, map(range, bounds, bounds[1:]))])
         with open(path, "ab") as file:
             for part in parts[1:]:
                 with open(part, "rb") as more:
@@ -39,14 +39,13 @@ def write(path: Path, table: pd.DataFrame) -> None:
             part.unlink(missing_ok=True)
 
 
-def write_part(path: Path, table: pd.DataFrame, rows: tuple[int, int]) -> None:
-    """Writes rows from one to before another, the first ones below the heading."""
-    begin, end = rows
+def write_part(path: Path, table: pd.DataFrame, rows: range) -> None:
+    """Writes some rows, the first ones below the heading."""
     with open(path, "w", encoding="utf-8", newline="") as file:
-        if begin == 0:
+        if rows.start == 0:
             table.iloc[:0].to_csv(file, index=False)
-        for start in range(begin, end, ROWS):
-            write_rows(file, table.iloc[start : min(start + ROWS, end)])
+        for start in range(rows.start, rows.stop, ROWS):
+            write_rows(file, table.iloc[start : min(start + ROWS, rows.stop)])
 
 
 def write_rows(file: TextIO, rows: pd.DataFrame) -> None:

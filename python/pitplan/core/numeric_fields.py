@@ -20,7 +20,7 @@ NO_NUMBERS = (bool, np.bool_, complex, np.complexfloating)
 WRITTEN_AS = "True and False are not numbers: write 1 and 0"
 
 
-class Source(str):
+class TableSource(str):
     """The name of a table in errors, with the row of the file of each of its rows.
 
     Attributes
@@ -36,29 +36,28 @@ class Source(str):
     kept: Optional[np.ndarray] = None
 
     @classmethod
-    def of(cls, name: str, rows: tuple[int, int], kept: Optional[np.ndarray] = None) -> Source:
+    def of(cls, name: str, header_row: int, first_row: int, kept: Optional[np.ndarray] = None) -> TableSource:
         """Returns the source of a file whose names and first block are in these rows."""
         source = cls(name)
-        source.header_row, source.first_row = rows
-        source.kept = kept
+        source.header_row, source.first_row, source.kept = header_row, first_row, kept
         return source
 
-    def at(self, kept: np.ndarray) -> Source:
+    def at(self, kept: np.ndarray) -> TableSource:
         """Returns the source of some of the rows, given by their numbers."""
         there = kept if self.kept is None else self.kept[kept]
-        return Source.of(str(self), (self.header_row, self.first_row), there)
+        return TableSource.of(str(self), self.header_row, self.first_row, there)
 
 
 def row_of(source: str, row: int) -> int:
     """Returns the row in the file of a block, given its index from 0."""
-    if not isinstance(source, Source):
+    if not isinstance(source, TableSource):
         return row + HEADER_ROWS
     return source.first_row + (row if source.kept is None else int(source.kept[row]))
 
 
 def header_row_of(source: str) -> int:
     """Returns the row of the names."""
-    return source.header_row if isinstance(source, Source) else 1
+    return source.header_row if isinstance(source, TableSource) else 1
 
 
 def at_row(source: str, row: int, column: str, why: str) -> PlanError:

@@ -637,13 +637,13 @@ def read_parts(file: Path, form: TableFormat, options: Mapping[str, Any]) -> Opt
             return None
         head, bounds = cut(file, form)
         with ThreadPoolExecutor(min(cores(), MOST_THREADS)) as threads:
-            return list(threads.map(lambda bound: part_of(file, bound, head, form, options), bounds))
+            return list(threads.map(lambda bound: part_of(file, bound, head, form, options=options), bounds))
     except (NotPlain, ValueError, Warning, *UNREADABLE):
         # One thread finds what is wrong, with its row.
         return None
 
 
-def cut(file: Path, form: TableFormat) -> tuple[bytes, list[tuple[int, int]]]:
+def cut(file: Path, form: TableFormat) -> tuple[bytes, list[range]]:
     """Returns the lines before the first row, and where parts of whole lines begin and end."""
     with open(file, "rb") as data:
         head = b"".join(islice(data, form.first_row - 1))
@@ -655,16 +655,14 @@ def cut(file: Path, form: TableFormat) -> tuple[bytes, list[tuple[int, int]]]:
     demand_plain(head.replace(b"\r\n", b"\n").replace(b" ", b"_"), form)
     if b"\r" in head.replace(b"\r\n", b"\n"):
         raise NotPlain
-    return head, list(zip(places, places[1:]))
+    return head, list(map(range, places, places[1:]))
 
 
-def part_of(
-    file: Path, bound: tuple[int, int], head: bytes, form: TableFormat, options: Mapping[str, Any]
-) -> pd.DataFrame:
+def part_of(file: Path, bound: range, head: bytes, form: TableFormat, *, options: Mapping[str, Any]) -> pd.DataFrame:
     """Returns the rows between two places of a file. Raises NotPlain."""
     with open(file, "rb") as data:
-        data.seek(bound[0])
-        rows = data.read(bound[1] - bound[0])
+        data.seek(bound.start)
+        rows = data.read(len(bound))
     demand_plain(rows, form)
     if has_long_number(rows):
         raise NotPlain

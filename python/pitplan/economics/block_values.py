@@ -30,7 +30,7 @@ from pitplan.core.revenue_factors import BASE_PRICE
 from pitplan.errors import PlanError
 
 from .smelter_terms import charge, net, payable_share
-from .weighing import HIGH_GRADES, Feed, Hauled, Rows, Way, accepted_by
+from .weighing import HIGH_GRADES, Feed, Hauled, ValuedRows, Way, accepted_by
 
 # Several processes: the one that each block is sent to at each revenue factor, as nodes that never count a block
 # twice.
@@ -150,7 +150,7 @@ def next_way(more: np.ndarray, dearer: np.ndarray) -> np.ndarray:
     return best
 
 
-def grade_notes(rows: Rows) -> list[str]:
+def grade_notes(rows: ValuedRows) -> list[str]:
     """Returns warnings about grades with an unusually high mean for their unit."""
     notes = []
     for metal in rows.project.metals:
@@ -163,7 +163,7 @@ def grade_notes(rows: Rows) -> list[str]:
     return notes
 
 
-def notes_of(rows: Rows, feed: Feed) -> tuple[str, ...]:
+def notes_of(rows: ValuedRows, feed: Feed) -> tuple[str, ...]:
     """Returns warnings about grades, and notes on rock types, mill feed and recoveries."""
     solid, project = np.array(rows.tonnes.whole > 0, dtype=bool), rows.project
     notes = [
@@ -218,7 +218,7 @@ def of_processes(metal: Metal) -> str:
     return f" of {', '.join(terms.processes)}" if terms is not None and isinstance(terms.processes, tuple) else ""
 
 
-def factor_notes(rows: Rows) -> list[str]:
+def factor_notes(rows: ValuedRows) -> list[str]:
     """Returns the range and the mean by tonnes of cost adjustment factors."""
     money, tonnes, notes = rows.project.economics, rows.tonnes.floats(), []
     solid = tonnes > 0
@@ -232,7 +232,7 @@ def factor_notes(rows: Rows) -> list[str]:
     return notes
 
 
-def haulage_notes(rows: Rows) -> list[str]:
+def haulage_notes(rows: ValuedRows) -> list[str]:
     """Returns the range of haul distances, and which costs include haulage."""
     if rows.roads is None:
         return []
@@ -244,7 +244,7 @@ def haulage_notes(rows: Rows) -> list[str]:
     ]
 
 
-def recovery_notes(rows: Rows, feed: Feed) -> list[str]:
+def recovery_notes(rows: ValuedRows, feed: Feed) -> list[str]:
     """Returns notes on recovery curves and constant tails grades."""
     notes = []
     for metal in rows.project.metals:
@@ -257,7 +257,7 @@ def recovery_notes(rows: Rows, feed: Feed) -> list[str]:
     return notes
 
 
-def curve_note(rows: Rows, feed: Feed, metal: Metal, rock: str) -> str:
+def curve_note(rows: ValuedRows, feed: Feed, metal: Metal, rock: str) -> str:
     """Returns a note on a recovery curve, of a rock type or of all, with the number of blocks beyond its grades."""
     curve = metal.recovery[rock] if isinstance(metal.recovery, dict) else metal.recovery
     assert isinstance(curve, Curve)
@@ -427,7 +427,7 @@ def values_of(frame: pd.DataFrame, grid: Grid, project: Project, source: str = "
     PlanError
         If a rock type has no cost, an amount is 10^11 or more, or there are too many nodes.
     """
-    rows = Rows(frame, grid, project, source, Exact.of_floats(frame[project.table.tonnes].to_numpy()))
+    rows = ValuedRows(frame, grid, project, source, Exact.of_floats(frame[project.table.tonnes].to_numpy()))
     feed = rows.feed()
     weighed = [replace(rows, project=way).weighed(feed) for way in project.by_process]
     names = [process.name for process in project.processes] or [""]
@@ -455,13 +455,13 @@ def values_of(frame: pd.DataFrame, grid: Grid, project: Project, source: str = "
     return values
 
 
-def accepted(ways: tuple[Way, ...], rows: Rows) -> tuple[Way, ...]:
+def accepted(ways: tuple[Way, ...], rows: ValuedRows) -> tuple[Way, ...]:
     """Returns the amounts of processes without those of blocks that they do not accept."""
     masks = [rows.grid.spread(accepted_by(it.accepts, rows.frame, rows.project)) for it in rows.project.processes]
     return tuple(way.within(mask) for way, mask in zip(ways, masks)) if masks else ways
 
 
-def split_by_class(ways: tuple[Way, ...], rows: Rows) -> tuple[tuple[Way, ...], tuple[Way, ...]]:
+def split_by_class(ways: tuple[Way, ...], rows: ValuedRows) -> tuple[tuple[Way, ...], tuple[Way, ...]]:
     """Returns the amounts of blocks that may be ore, and those of blocks whose resource class is treated as waste; none of these without classes."""
     is_waste = resource_classes.waste_of(rows.frame, rows.project)
     if is_waste is None:
@@ -475,7 +475,7 @@ def greatest_gains(frame: pd.DataFrame, grid: Grid, project: Project, source: st
     PlanError as `values_of` does.
     """
     factor = max(project.shells.revenue_factors[-1], BASE_PRICE)
-    rows = Rows(frame, grid, project, source, Exact.of_floats(frame[project.table.tonnes].to_numpy()))
+    rows = ValuedRows(frame, grid, project, source, Exact.of_floats(frame[project.table.tonnes].to_numpy()))
     feed, found = rows.feed(), np.zeros(len(frame), dtype=bool)
     masks = [accepted_by(it.accepts, frame, project) for it in project.processes] or [np.ones(len(frame), dtype=bool)]
     for way, mask in zip(project.by_process, masks):

@@ -16,7 +16,7 @@ from pitplan.core.decimals import Exact
 from .block_values import Values
 from .period_costs import PROCESSING_COST, SELLING_COST, SMELTED, of_project
 from .smelter_terms import PENALTIES, multiplied, net
-from .weighing import HAULAGE, MILLIONTHS, Rows, Way
+from .weighing import HAULAGE, MILLIONTHS, ValuedRows, Way
 
 PROCESSING, ROYALTY = "processing", "royalty"
 # Amounts of cells by line.
@@ -46,7 +46,7 @@ class CostLines:
 
 def cost_lines(frame: pd.DataFrame, grid: Grid, project: Project, values: Values) -> CostLines:
     """Returns the costs by line of the blocks of a checked table with these values."""
-    rows = Rows(frame, grid, project, "table", Exact.of_floats(frame[project.table.tonnes].to_numpy()))
+    rows = ValuedRows(frame, grid, project, "table", Exact.of_floats(frame[project.table.tonnes].to_numpy()))
     tonnes = rows.tonnes.floats()
     mining = {name: grid.spread(tonnes * rate.floats()) for name, rate in rows.mining_rates().items()}
     rounding = sum(mining.values()) - values.mining / 10**MILLIONTHS
@@ -71,7 +71,7 @@ def multiplied_amounts(
     smelted = {name: smelted_of(project, values, name) for name in asked if name.startswith(SMELTED)}
     if not {PROCESSING_COST, SELLING_COST} & set(asked):
         return smelted
-    rows = Rows(frame, grid, project, "table", Exact.of_floats(frame[project.table.tonnes].to_numpy()))
+    rows = ValuedRows(frame, grid, project, "table", Exact.of_floats(frame[project.table.tonnes].to_numpy()))
     found: dict[str, list[NDArray[np.float64]]] = {PROCESSING_COST: [], SELLING_COST: []}
     for alone, way in zip(project.by_process, values.by_process):
         lines, sold = of_process(replace(rows, project=alone), values, way), np.zeros(len(way.revenue))
@@ -92,7 +92,7 @@ def smelted_of(project: Project, values: Values, name: str) -> NDArray[np.float6
     return np.stack(found)
 
 
-def of_process(rows: Rows, values: Values, way: Way) -> Lines:
+def of_process(rows: ValuedRows, values: Values, way: Way) -> Lines:
     """Returns the costs of the only process of the rows' project by line, without selling and the other charges of smelters."""
     needed, money = np.zeros(len(rows.frame), dtype=bool), rows.project.economics
     rates = {PROCESSING: rows.processing_rate(needed), ROYALTY: rows.every(money.royalty_per_tonne)}

@@ -245,7 +245,7 @@ class Feed:
 
 
 @dataclass(frozen=True)
-class Rows:
+class ValuedRows:
     """The rows of a table while they are valued, with the exact tonnes of each."""
 
     frame: pd.DataFrame

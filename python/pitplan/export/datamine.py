@@ -37,7 +37,7 @@ SHORT = {
 
 
 @dataclass(frozen=True)
-class Field:
+class DatamineField:
     """A field: its name, its words of a text (0: a number), and its values by record, or one for all."""
 
     name: str
@@ -98,7 +98,7 @@ def write_dm(path: Path, folder: Folder, shape: Shape) -> list[str]:
     return notes
 
 
-def prototype(folder: Folder) -> tuple[list[Field], list[Field]]:
+def prototype(folder: Folder) -> tuple[list[DatamineField], list[DatamineField]]:
     """Returns the implicit fields of the grid, and IJK and centroids of each block."""
     grid, ids = folder.grid, folder.blocks["id"].to_numpy()
     (levels, rows, columns), (west, _, south, _, floor, _) = grid.shape, grid.extent()
@@ -106,12 +106,15 @@ def prototype(folder: Folder) -> tuple[list[Field], list[Field]]:
     place = (column * rows + row) * levels + (levels - 1 - level)
     said = dict(zip(("XINC", "YINC", "ZINC"), grid.size)) | {"XMORIG": west, "YMORIG": south, "ZMORIG": floor}
     said |= {"NX": columns, "NY": rows, "NZ": levels}
-    fixed = [Field(name, 0, np.array(float(value))) for name, value in said.items()]
+    fixed = [DatamineField(name, 0, np.array(float(value))) for name, value in said.items()]
     centres = zip(("XC", "YC", "ZC"), grid.centres(ids))
-    return fixed, [Field("IJK", 0, place.astype(float)), *(Field(name, 0, axis) for name, axis in centres)]
+    return fixed, [
+        DatamineField("IJK", 0, place.astype(float)),
+        *(DatamineField(name, 0, axis) for name, axis in centres),
+    ]
 
 
-def columns_of(blocks: pd.DataFrame, taken: set[str], left: set[str]) -> tuple[list[Field], list[str]]:
+def columns_of(blocks: pd.DataFrame, taken: set[str], left: set[str]) -> tuple[list[DatamineField], list[str]]:
     """Returns the columns as fields, and notes on names that were changed."""
     fields, renamed = [], []
     for name in blocks.columns:
@@ -122,11 +125,11 @@ def columns_of(blocks: pd.DataFrame, taken: set[str], left: set[str]) -> tuple[l
         renamed += [f"{name} is {short}"] if short != name.upper() else []
         column = blocks[name]
         if pd.api.types.is_numeric_dtype(column):
-            fields.append(Field(short, 0, column.astype(float).fillna(ABSENT).to_numpy()))
+            fields.append(DatamineField(short, 0, column.astype(float).fillna(ABSENT).to_numpy()))
         else:
             texts = column.astype(str).to_numpy(dtype=object)
             parts = -(-max(map(len, texts)) // CHARACTERS) or 1
-            fields.append(Field(short, parts, texts))
+            fields.append(DatamineField(short, parts, texts))
     return fields, [f"names have at most {LETTERS} letters: {', '.join(renamed)}"] if renamed else []
 
 
@@ -139,9 +142,9 @@ def free(name: str, taken: set[str]) -> str:
     return found
 
 
-def fitting(fields: list[Field], fixed: int) -> tuple[list[Field], list[str]]:
+def fitting(fields: list[DatamineField], fixed: int) -> tuple[list[DatamineField], list[str]]:
     """Returns the fields that one page can define next to a number of implicit ones, and the names of the others."""
-    kept: list[Field] = []
+    kept: list[DatamineField] = []
     left = []
     for field in fields:
         if fixed + sum(it.count for it in kept) + field.count <= MOST_FIELDS:
@@ -151,7 +154,7 @@ def fitting(fields: list[Field], fixed: int) -> tuple[list[Field], list[str]]:
     return kept, left
 
 
-def definition(fields: list[Field], records: int, length: int) -> np.ndarray:
+def definition(fields: list[DatamineField], records: int, length: int) -> np.ndarray:
     """Returns the first page, as words."""
     page, per_page = np.zeros(PAGE, dtype="<u8"), DATA // length
     pages = -(-records // per_page)

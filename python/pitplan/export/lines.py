@@ -30,7 +30,7 @@ TOE, CREST = "toe", "crest"
 
 
 @dataclass(frozen=True)
-class Line:
+class ClosedLine:
     """A closed line with the mined side on its left.
 
     Attributes
@@ -50,13 +50,13 @@ class Line:
     points: np.ndarray
 
 
-def lines_of(folder: Folder, shape: Shape) -> Iterator[Line]:
+def lines_of(folder: Folder, shape: Shape) -> Iterator[ClosedLine]:
     """Yields the lines of all pits of a shape: by stage, then by bench from the top, toes before crests. Raises PlanError as `stages_of`."""
     for stage in stages_of(folder, shape):
         yield from lines_of_stage(stage, folder.grid)
 
 
-def lines_of_stage(stage: Stage, grid: Grid) -> Iterator[Line]:
+def lines_of_stage(stage: Stage, grid: Grid) -> Iterator[ClosedLine]:
     levels = grid.shape[0]
     for level in np.flatnonzero(stage.mined.any(axis=(1, 2))):
         outlines, floor = rings(stage.mined[level]), levels - 1 - int(level)
@@ -64,7 +64,7 @@ def lines_of_stage(stage: Stage, grid: Grid) -> Iterator[Line]:
         for kind, height in ((TOE, floor), (CREST, floor + 1)):
             for ring in outlines:
                 corners = np.column_stack([np.array(ring), np.full(len(ring), height)])
-                yield Line(stage, kind, bench, places_of(grid, corners))
+                yield ClosedLine(stage, kind, bench, places_of(grid, corners))
 
 
 def write_dxf(path: Path, folder: Folder, shape: Shape) -> list[str]:
@@ -171,7 +171,7 @@ def options(gdal: Any, given: dict[str, str]) -> Iterator[None]:
             gdal.SetConfigOption(name, value)
 
 
-def closed(line: Line) -> list[list[float]]:
+def closed(line: ClosedLine) -> list[list[float]]:
     """Returns the points of a line with the first one repeated at the end."""
     points: list[list[float]] = line.points.tolist()
     return [*points, points[0]]

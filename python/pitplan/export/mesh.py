@@ -48,7 +48,7 @@ class Heights:
 
 
 @dataclass(frozen=True)
-class Surface:
+class TriangleMesh:
     """A mesh of triangles that face upwards or into the pit.
 
     Attributes
@@ -95,7 +95,7 @@ def heights_of(rock: np.ndarray, stage: Stage, grid: Grid) -> Heights:
     return Heights(before, after)
 
 
-def stepped(heights: Heights) -> Surface:
+def stepped(heights: Heights) -> TriangleMesh:
     """Returns the faces of the blocks; walls are divided by benches."""
     high = heights.after
     rows, columns = np.nonzero(high != NONE)
@@ -108,7 +108,7 @@ def stepped(heights: Heights) -> Surface:
     corners, at = np.unique(quads.reshape(-1, 3), axis=0, return_inverse=True)
     at = at.reshape(-1, 4)
     faces = np.stack([at[:, [0, 1, 2]], at[:, [0, 2, 3]]], axis=1).reshape(-1, 3)
-    return Surface(corners.astype(float), faces, np.repeat(np.concatenate([bench for _, _, bench in found]), 2))
+    return TriangleMesh(corners.astype(float), faces, np.repeat(np.concatenate([bench for _, _, bench in found]), 2))
 
 
 def domains(heights: Heights, axis: int, step: int) -> tuple[np.ndarray, np.ndarray, np.ndarray]:
@@ -142,7 +142,7 @@ def domains(heights: Heights, axis: int, step: int) -> tuple[np.ndarray, np.ndar
     return base, np.array(corners if step > 0 else corners[::-1]), bench
 
 
-def smoothed(surface: Surface) -> Surface:
+def smoothed(surface: TriangleMesh) -> TriangleMesh:
     """Returns the mesh smoothed by Taubin's method (1995), which nearly preserves volumes. Corners move by at most MOST along each axis; those at
     the rim of the mesh, which are the sides of the model, stay.
     """
@@ -166,14 +166,14 @@ def sides_of(faces: np.ndarray) -> np.ndarray:
     return np.concatenate([first[:, [0, 1]], first[:, [1, 2]], second[:, [1, 2]], second[:, [2, 0]]])
 
 
-def volume_under(surface: Surface) -> float:
+def volume_under(surface: TriangleMesh) -> float:
     """Returns the volume between a mesh and the floor of the model, in cells. Vertical faces add none."""
     a, b, c = (surface.corners[surface.faces[:, k]] for k in range(3))
     area = ((b - a)[:, 0] * (c - a)[:, 1] - (b - a)[:, 1] * (c - a)[:, 0]) / 2
     return float((area * (a + b + c)[:, 2] / 3).sum())
 
 
-def of_stage(rock: np.ndarray, stage: Stage, grid: Grid, smooth: bool) -> tuple[Surface, str]:
+def of_stage(rock: np.ndarray, stage: Stage, grid: Grid, smooth: bool) -> tuple[TriangleMesh, str]:
     """Returns the mesh of a stage, and a sentence on the volume between it and the original ground and on that of the mined cells.
 
     Parameters
@@ -271,13 +271,13 @@ def write_stl(path: Path, folder: Folder, shape: Shape) -> list[str]:
         If the pit is empty, or the volume of a surface differs from that of its blocks.
     """
     vtk = load("vtk", PACKAGE, "export --to stl")
-    return write_each(path, folder, shape, "stl", lambda: ascii_writer(vtk))
+    return write_each(path, folder, shape, "stl", writer_of=lambda: ascii_writer(vtk))
 
 
 def write_obj(path: Path, folder: Folder, shape: Shape) -> list[str]:
     """Writes the same as Wavefront OBJ."""
     vtk = load("vtk", PACKAGE, "export --to obj")
-    return write_each(path, folder, shape, "obj", vtk.vtkOBJWriter)
+    return write_each(path, folder, shape, "obj", writer_of=vtk.vtkOBJWriter)
 
 
 def ascii_writer(vtk: Any) -> Any:
@@ -286,7 +286,7 @@ def ascii_writer(vtk: Any) -> Any:
     return writer
 
 
-def write_each(path: Path, folder: Folder, shape: Shape, kind: str, writer_of: Any) -> list[str]:
+def write_each(path: Path, folder: Folder, shape: Shape, kind: str, *, writer_of: Any) -> list[str]:
     """Writes a file per stage; returns a sentence on each. The pit of a stage in which nothing is mined has no file."""
     said = []
     for stage in stages_of(folder, shape):

@@ -15,7 +15,7 @@ from pitplan.config import project_writer
 from pitplan.config.periods import PERIOD, YEAR
 from pitplan.config.project import Project
 from pitplan.core.atomic_files import hash_of
-from pitplan.core.numeric_fields import Source
+from pitplan.core.numeric_fields import TableSource
 from pitplan.core.text_tables import Fields, TableFormat, demand_text, names_in_header, read_columns, read_header
 from pitplan.errors import PlanError
 from pitplan.plan import shown_name
@@ -41,7 +41,7 @@ def write(path: Path, folder: Folder) -> None:
     frame, form = as_text(project.table.file, project)
     cells = np.full(len(frame), -1)
     table = reader.read(project)
-    kept = table.source.kept if isinstance(table.source, Source) else None
+    kept = table.source.kept if isinstance(table.source, TableSource) else None
     cells[slice(None) if kept is None else kept] = cells_of(table.frame, project, folder.grid)
     blocks = folder.blocks.set_index("id")
     for name in FOUND:

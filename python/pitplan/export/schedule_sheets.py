@@ -33,7 +33,7 @@ INPUT = "0000FF"
 
 
 @dataclass(frozen=True)
-class Line:
+class SheetLine:
     """A row of the sheet.
 
     Attributes
@@ -71,14 +71,14 @@ class PeriodSheet:
     name : str
     heads : tuple of str
         Lines of text above.
-    lines : list of Line
+    lines : list of SheetLine
         The first has the periods.
     periods : int
     """
 
     name: str
     heads: tuple[str, ...]
-    lines: list[Line]
+    lines: list[SheetLine]
     periods: int
 
     def write(self, book: Any) -> None:
@@ -96,7 +96,7 @@ class PeriodSheet:
         sheet.page_setup.orientation, sheet.page_setup.fitToHeight = "landscape", 0
         sheet.sheet_properties.pageSetUpPr.fitToPage = True
 
-    def write_line(self, sheet: Any, line: Line, fonts: Any) -> None:
+    def write_line(self, sheet: Any, line: SheetLine, fonts: Any) -> None:
         row = self.row(line.key)
         put(sheet.cell(row, LABEL), line.label)
         put(sheet.cell(row, UNIT), line.unit)
@@ -193,9 +193,9 @@ class CashFlowSheet:
     def has(self, column: str) -> bool:
         return column in self.table
 
-    def given(self, column: str) -> Line:
+    def given(self, column: str) -> SheetLine:
         """Returns the line of a column of money."""
-        return Line(column, self.heading(column), self.currency, self.table[column].to_numpy(), total=SUM)
+        return SheetLine(column, self.heading(column), self.currency, self.table[column].to_numpy(), total=SUM)
 
     def heading(self, column: str) -> str:
         """Returns how a column is shown, with the name of its metal or process."""
@@ -204,35 +204,35 @@ class CashFlowSheet:
         name = column.removeprefix(found.name.rstrip("ABCDEFGHIJKLMNOPQRSTUVWXYZ"))
         return found.heading.replace("METAL", name).replace("PROCESS", name)
 
-    def physicals(self) -> Iterator[Line]:
+    def physicals(self) -> Iterator[SheetLine]:
         """Yields the periods, tonnes, grades, metals and prices."""
         ends = self.project.shells.calendar.ends(len(self.table)).tolist()
-        yield Line("end", "end of period", "years", ends, total="life of mine", form="General", bold=True)
-        yield Line("start", "start of period", "years", formula="=[end<]", form="General")
+        yield SheetLine("end", "end of period", "years", ends, total="life of mine", form="General", bold=True)
+        yield SheetLine("start", "start of period", "years", formula="=[end<]", form="General")
         yield from section("Physicals")
         for column, label in (("total_tonnes", "total material"), ("waste_tonnes", "waste")):
-            yield Line(column, label, "t", self.table[column].to_numpy(), total=SUM)
+            yield SheetLine(column, label, "t", self.table[column].to_numpy(), total=SUM)
         ore = "([total_tonnes]-[waste_tonnes])"
         ratio = f'=IF({ore}>0,[waste_tonnes]/{ore},"")'
-        yield Line("strip", "strip ratio", "t/t", formula=ratio, total=SAME, form=PLAIN)
-        yield Line("feed_tonnes", "mill feed", "t", self.table["feed_tonnes"].to_numpy(), total=SUM)
+        yield SheetLine("strip", "strip ratio", "t/t", formula=ratio, total=SAME, form=PLAIN)
+        yield SheetLine("feed_tonnes", "mill feed", "t", self.table["feed_tonnes"].to_numpy(), total=SUM)
         for metal in self.project.metals:
             yield from self.metal(metal)
 
-    def metal(self, metal: Metal) -> Iterator[Line]:
+    def metal(self, metal: Metal) -> Iterator[SheetLine]:
         """Yields head grade, contained and recovered metal, and price."""
         contained, name = f"contained_{metal.name}", metal.name
         values = self.table[contained].to_numpy()
-        yield Line(contained, f"{name} in the mill feed", metal.quantity, values, total=SUM, form=PLAIN)
+        yield SheetLine(contained, f"{name} in the mill feed", metal.quantity, values, total=SUM, form=PLAIN)
         grade = f'=IF([feed_tonnes]>0,[{contained}]/[feed_tonnes]/{GRADE_UNITS[metal.unit]},"")'
-        yield Line(f"head_{name}", f"head grade {name}", metal.sign, formula=grade, total=SAME, form=GRADES)
+        yield SheetLine(f"head_{name}", f"head grade {name}", metal.sign, formula=grade, total=SAME, form=GRADES)
         recovered = self.table[f"recovered_{name}"].to_numpy()
-        yield Line(f"recovered_{name}", f"recovered {name}", metal.quantity, recovered, total=SUM, form=PLAIN)
+        yield SheetLine(f"recovered_{name}", f"recovered {name}", metal.quantity, recovered, total=SUM, form=PLAIN)
         yield from self.sold(metal)
         price = self.table[f"price_{name}"].to_numpy()
-        yield Line(f"price_{name}", f"price of {name}", f"{self.currency}/{metal.price_unit}", price, form=PLAIN)
+        yield SheetLine(f"price_{name}", f"price of {name}", f"{self.currency}/{metal.price_unit}", price, form=PLAIN)
 
-    def sold(self, metal: Metal) -> Iterator[Line]:
+    def sold(self, metal: Metal) -> Iterator[SheetLine]:
         """Yields the payable metal and the concentrate of smelter terms."""
         for kind, label, unit in (
             ("payable", "payable", metal.quantity),
@@ -241,7 +241,7 @@ class CashFlowSheet:
             column = f"{kind}_{metal.name}"
             if self.has(column):
                 values = self.table[column].to_numpy()
-                yield Line(column, f"{label} {metal.name}", unit, values, total=SUM, form=PLAIN)
+                yield SheetLine(column, f"{label} {metal.name}", unit, values, total=SUM, form=PLAIN)
 
     @property
     def charges(self) -> list[str]:
@@ -249,7 +249,7 @@ class CashFlowSheet:
         columns = list(self.table)
         return columns[columns.index("royalty") + 1 : columns.index("mining_cost_ore")]
 
-    def revenue(self) -> Iterator[Line]:
+    def revenue(self) -> Iterator[SheetLine]:
         metals = [metal.name for metal in self.project.metals]
         yield from section("Revenue")
         yield from map(self.revenue_of, self.project.metals)
@@ -259,22 +259,22 @@ class CashFlowSheet:
         yield from (shared.get(column) or self.given(column) for column in self.charges)
         yield self.sum("net", "net revenue", f"=[gross]-SUM([royalty]:[{self.charges[-1]}])")
 
-    def royalty(self) -> Iterator[Line]:
+    def royalty(self) -> Iterator[SheetLine]:
         """Yields the rates of the royalty, and the royalty as their product with revenue and mill feed."""
         money, parts = self.project.economics, []
         if money.royalty:
-            yield Line("royalty_rate", "royalty rate", "share of revenue", total=float(money.royalty), form=RATES)
+            yield SheetLine("royalty_rate", "royalty rate", "share of revenue", total=float(money.royalty), form=RATES)
             parts.append("[royalty_rate!]*[gross]")
         if money.royalty_per_tonne:
             a_tonne = f"{self.currency}/t of feed"
-            yield Line(
+            yield SheetLine(
                 "royalty_a_tonne", "royalty per tonne", a_tonne, total=float(money.royalty_per_tonne), form=PLAIN
             )
             parts.append("[royalty_a_tonne!]*[feed_tonnes]")
         formula = f"={'+'.join(parts) or 0}"
-        yield Line("royalty", self.heading("royalty"), self.currency, formula=formula, total=SUM)
+        yield SheetLine("royalty", self.heading("royalty"), self.currency, formula=formula, total=SUM)
 
-    def participation(self, metal: Metal) -> Iterator[Line]:
+    def participation(self, metal: Metal) -> Iterator[SheetLine]:
         """Yields the price participation of a smelter as a formula, if a line has the metal that it applies to."""
         column, terms = f"participation_{metal.name}", metal.smelter
         if terms is None or terms.price_participation is None:
@@ -287,14 +287,14 @@ class CashFlowSheet:
         above = above if rule.applies == BOTH else f"MAX(0,{above})"
         if quantity:
             formula = f"={rule.share}*{above}*{units_of(metal)}*{quantity}"
-            yield Line(column, self.heading(column), self.currency, formula=formula, total=SUM)
+            yield SheetLine(column, self.heading(column), self.currency, formula=formula, total=SUM)
 
-    def revenue_of(self, metal: Metal) -> Line:
+    def revenue_of(self, metal: Metal) -> SheetLine:
         """Returns the revenue of a metal as the product of its quantity and its price."""
         quantity = f"{'payable' if metal.smelter else 'recovered'}_{metal.name}"
         column = f"revenue_{metal.name}"
         formula = f"=[{quantity}]*{units_of(metal)}*[price_{metal.name}]"
-        return Line(column, self.heading(column), self.currency, formula=formula, total=SUM)
+        return SheetLine(column, self.heading(column), self.currency, formula=formula, total=SUM)
 
     @property
     def cost_columns(self) -> list[str]:
@@ -303,7 +303,7 @@ class CashFlowSheet:
         last = columns.index("rounding" if self.has("rounding") else "operating_cash_flow")
         return columns[columns.index("mining_cost_ore") : last]
 
-    def costs(self) -> Iterator[Line]:
+    def costs(self) -> Iterator[SheetLine]:
         columns = self.cost_columns
         yield from section("Operating costs")
         yield from map(self.given, columns)
@@ -322,7 +322,7 @@ class CashFlowSheet:
         """The reference to the capex of a period."""
         return "[capex]" if self.has("capex") else "0"
 
-    def free(self) -> Iterator[Line]:
+    def free(self) -> Iterator[SheetLine]:
         """Yields closure cost and tax, and the free cash flow."""
         closure, tax = ("closure_cost", "tax")
         if self.has(closure):
@@ -331,25 +331,25 @@ class CashFlowSheet:
         if self.has(tax):
             yield from self.taxes(of_closure)
         yield self.sum("free", "free cash flow", f"=[cash]{of_closure}{'-[tax]' if self.has(tax) else ''}")
-        yield Line("cumulative", "cumulative free cash flow", self.currency, formula="=[cumulative<]+[free]")
+        yield SheetLine("cumulative", "cumulative free cash flow", self.currency, formula="=[cumulative<]+[free]")
         low = f"([cumulative<]-{self.capex})"
         within = f'=IF(AND({low}<0,[cumulative]>=0),[start]-([end]-[start])*{low}/([cumulative]-{low}),"")'
         negative = '=IF(COUNT([payback:])>0,MIN([payback:]),IF(MIN([cumulative:])<0,"",0))'
-        yield Line("payback", "payback", "years", formula=within, total=negative, form=YEARS)
+        yield SheetLine("payback", "payback", "years", formula=within, total=negative, form=YEARS)
 
-    def taxes(self, of_closure: str) -> Iterator[Line]:
+    def taxes(self, of_closure: str) -> Iterator[SheetLine]:
         rate = float(self.project.cash_flow.tax_rate)
-        yield Line("tax_rate", "tax rate", "share", total=rate, form=RATES)
+        yield SheetLine("tax_rate", "tax rate", "share", total=rate, form=RATES)
         yield self.given("depreciation")
         income = f"=[operating]-[depreciation]{of_closure}"
-        yield Line("income", "income before losses", self.currency, formula=income, total=SUM)
+        yield SheetLine("income", "income before losses", self.currency, formula=income, total=SUM)
         losses = "=MAX(0,[losses<]-[income])"
-        yield Line("losses", "losses carried forward", self.currency, formula=losses)
+        yield SheetLine("losses", "losses carried forward", self.currency, formula=losses)
         taxable = "=MAX(0,[income]-[losses<])"
-        yield Line("taxable", "taxable income", self.currency, formula=taxable, total=SUM)
-        yield Line("tax", "tax", self.currency, formula="=[tax_rate!]*[taxable]", total=SUM)
+        yield SheetLine("taxable", "taxable income", self.currency, formula=taxable, total=SUM)
+        yield SheetLine("tax", "tax", self.currency, formula="=[tax_rate!]*[taxable]", total=SUM)
 
-    def unit_costs(self) -> Iterator[Line]:
+    def unit_costs(self) -> Iterator[SheetLine]:
         """Yields costs per tonne and per unit of the first metal."""
         first = self.project.metals[0]
         mining = [name for name in self.cost_columns if name.startswith(("mining_cost", "haulage_cost"))]
@@ -363,9 +363,9 @@ class CashFlowSheet:
             ("c1_cost", first.price_unit, f"([costs]{selling}{others})", units),
         ):
             formula = f'=IF({per}>0,{cost}/{per},"")'
-            yield Line(key, self.heading(key), f"{self.currency}/{unit}", formula=formula, total=SAME, form=PLAIN)
+            yield SheetLine(key, self.heading(key), f"{self.currency}/{unit}", formula=formula, total=SAME, form=PLAIN)
 
-    def discounting(self) -> Iterator[Line]:
+    def discounting(self) -> Iterator[SheetLine]:
         """Yields factors and discounted cash flows at each rate, and at the internal rates of return."""
         flows = {"cash": "discounted cash flow; total: NPV", "free": "discounted free cash flow; total: NPV after tax"}
         for number, rate in enumerate(self.valuation["discount_rate"], 1):
@@ -375,13 +375,13 @@ class CashFlowSheet:
             if not np.isnan(rate):
                 yield from self.at_rate(f"Internal rate of return{label}", rate, {key: flows[key]})
 
-    def at_rate(self, label: str, rate: float, flows: dict[str, str]) -> Iterator[Line]:
+    def at_rate(self, label: str, rate: float, flows: dict[str, str]) -> Iterator[SheetLine]:
         """Yields the discounted flows of some lines, with their labels."""
         yield from section(label)
-        yield Line(f"{label} rate", "rate", "per year", total=rate, form=RATES)
-        yield Line(f"{label} factor", "discount factor", "-", formula=self.factor(f"{label} rate"), form=FACTORS)
+        yield SheetLine(f"{label} rate", "rate", "per year", total=rate, form=RATES)
+        yield SheetLine(f"{label} factor", "discount factor", "-", formula=self.factor(f"{label} rate"), form=FACTORS)
         start = f"=(1+[{label} rate!])^-[start]"
-        yield Line(f"{label} first", "discount factor of capex", "-", formula=start, form=FACTORS)
+        yield SheetLine(f"{label} first", "discount factor of capex", "-", formula=start, form=FACTORS)
         for name, title in flows.items():
             present = f"=([{name}]+{self.capex})*[{label} factor]-{self.capex}*[{label} first]"
             yield self.sum(f"{label} {name}", title, present)
@@ -392,15 +392,15 @@ class CashFlowSheet:
         formula = FACTOR_OF[how] if (lengths <= 1).all() else f"IF([end]-[start]<=1,{FACTOR_OF[how]},{OF_YEARS[how]})"
         return "=" + formula.format(rate=rate)
 
-    def sum(self, key: str, label: str, formula: str) -> Line:
+    def sum(self, key: str, label: str, formula: str) -> SheetLine:
         """Returns a line of money by a formula, in bold."""
-        return Line(key, label, self.currency, formula=formula, total=SUM, bold=True)
+        return SheetLine(key, label, self.currency, formula=formula, total=SUM, bold=True)
 
 
-def section(title: str) -> Iterator[Line]:
+def section(title: str) -> Iterator[SheetLine]:
     """Yields an empty line and a title."""
-    yield Line(f"before {title}", "")
-    yield Line(f"section {title}", title, bold=True)
+    yield SheetLine(f"before {title}", "")
+    yield SheetLine(f"section {title}", title, bold=True)
 
 
 def units_of(metal: Metal) -> str:

@@ -15,7 +15,7 @@ from matplotlib.figure import Figure
 from matplotlib.patches import Patch
 from numpy.typing import NDArray
 
-from pitplan.blockmodel.guesses import Model, least_gap, size_of, turned_grid
+from pitplan.blockmodel.guesses import GuessedModel, least_gap, size_of, turned_grid
 from pitplan.config.economics import GRADE_SIGNS
 from pitplan.core.tolerances import SIDE_ERROR
 from pitplan.plan import Plan
@@ -34,7 +34,7 @@ PALE = 0.7
 
 
 @dataclass(frozen=True)
-class Kind:
+class CellCodes:
     """Codes of cells.
 
     Attributes
@@ -54,14 +54,14 @@ class Kind:
     colours: dict[str, str]
 
 
-def kinds_of(plan: Plan) -> list[Kind]:
+def kinds_of(plan: Plan) -> list[CellCodes]:
     """Returns rock types and resource classes, each if the table has them."""
     table = plan.project.table
     columns = {"Rock type": table.rock_type, "Resource class": table.resource_class}
     return [kind_of(plan, title, column) for title, column in columns.items() if column]
 
 
-def kind_of(plan: Plan, title: str, column: str) -> Kind:
+def kind_of(plan: Plan, title: str, column: str) -> CellCodes:
     """Returns the codes of a column. Of more codes than colours the rarest are together."""
     tonnes = plan.values.tonnes[plan.grid.rows]
     place, found = pd.factorize(plan.table[column], use_na_sentinel=False)
@@ -79,12 +79,12 @@ def kind_of(plan: Plan, title: str, column: str) -> Kind:
     place = {code: at for at, code in enumerate(colours)}
     of_codes = np.array([place.get(code, len(colours) - 1) for code in codes], dtype=np.int16)
     none = "unclassified" if is_class else "none"
-    return Kind(
+    return CellCodes(
         title, none, plan.grid.cube(plan.grid.spread(np.where(tonnes > 0, of_codes[number], -1), fill=-1)), colours
     )
 
 
-def write_sections(scene: Scene, kinds: list[Kind], path: Path) -> None:
+def write_sections(scene: Scene, kinds: list[CellCodes], path: Path) -> None:
     with matplotlib.rc_context(STYLE):
         west, east, _, _, bottom, top = scene.grid.extent()
         figure, axes = panels(east - west, top - bottom, 2 * len(kinds))
@@ -92,13 +92,13 @@ def write_sections(scene: Scene, kinds: list[Kind], path: Path) -> None:
         finish(figure, path)
 
 
-def plot_sections(scene: Scene, kinds: list[Kind], axes: Any) -> list[Axes]:
+def plot_sections(scene: Scene, kinds: list[CellCodes], axes: Any) -> list[Axes]:
     """Draws a section from west to east and one from south to north for each kind of codes.
 
     Parameters
     ----------
     scene : Scene
-    kinds : list of Kind
+    kinds : list of CellCodes
     axes : array or list of Axes
         Two for each kind: those of the section from west to east first.
 
@@ -120,7 +120,7 @@ def plot_sections(scene: Scene, kinds: list[Kind], axes: Any) -> list[Axes]:
     return found
 
 
-def draw_kind(ax: Axes, scene: Scene, kind: Kind, cut: Cut) -> set[int]:
+def draw_kind(ax: Axes, scene: Scene, kind: CellCodes, cut: Cut) -> set[int]:
     """Draws the codes of a section; returns the numbers of those that it shows."""
     plane, number = scene.plane(cut), kind.number[cut.index]
     draw_ground(ax, plane)
@@ -131,7 +131,7 @@ def draw_kind(ax: Axes, scene: Scene, kind: Kind, cut: Cut) -> set[int]:
     return set(np.unique(number[number >= 0]).tolist())
 
 
-def name_codes(ax: Axes, kind: Kind, used: set[int]) -> None:
+def name_codes(ax: Axes, kind: CellCodes, used: set[int]) -> None:
     """Adds a legend of the codes in use below axes."""
     names = [(name, colour) for number, (name, colour) in enumerate(kind.colours.items()) if number in used]
     patches = [Patch(color=colour, alpha=PALE, label=name or kind.none) for name, colour in names]
@@ -155,7 +155,7 @@ class Cube:
     names: tuple[str, str]
 
 
-def write_block_model(model: Model, path: Path) -> None:
+def write_block_model(model: GuessedModel, path: Path) -> None:
     """Writes the figure."""
     shown = histograms_of(model)
     with matplotlib.rc_context(STYLE):
@@ -168,7 +168,7 @@ def write_block_model(model: Model, path: Path) -> None:
         finish(figure, path)
 
 
-def histograms_of(model: Model) -> list[tuple[str, str]]:
+def histograms_of(model: GuessedModel) -> list[tuple[str, str]]:
     """Returns the columns of the histograms, and their units."""
     grades = [(metal.column, GRADE_SIGNS[metal.unit]) for metal in model.columns.metals]
     weights = [
@@ -191,7 +191,7 @@ def plot_histogram(axis: Axes, values: np.ndarray, label: str) -> None:
     axis.set_title(f"{len(some):,} above 0; {zeros:,} are 0, {nulls:,} null")
 
 
-def plot_maps(model: Model, plan: Axes, section: Axes) -> None:
+def plot_maps(model: GuessedModel, plan: Axes, section: Axes) -> None:
     """Draws the first metal in the level and in the section from west to east that hold most of it."""
     metal = model.columns.metals[0]
     cube = cube_of(model, metal.column)
@@ -214,7 +214,7 @@ def plot_maps(model: Model, plan: Axes, section: Axes) -> None:
     bar.set_label(f"{metal.column}, {GRADE_SIGNS[metal.unit]}; grey: blocks without a value")
 
 
-def cube_of(model: Model, column: str) -> Cube:
+def cube_of(model: GuessedModel, column: str) -> Cube:
     """Returns the means of a column by cells of the box; cells of several sizes lie in blocks of the largest."""
     turned = turned_grid(model)
     values = model.frame[column].to_numpy(dtype=np.float64)
@@ -236,7 +236,7 @@ def cube_of(model: Model, column: str) -> Cube:
     return Cube(mean, there.reshape(shape), extent, names)
 
 
-def along(model: Model, axis: str) -> tuple[np.ndarray, float, float]:
+def along(model: GuessedModel, axis: str) -> tuple[np.ndarray, float, float]:
     """Returns the block of each row along an axis, from 0; the edge of the first, and the size of a block, in metres."""
     values = model.frame[model.columns.centres[axis].column].to_numpy(dtype=np.float64)
     if axis in model.columns.sizes:

@@ -158,7 +158,7 @@ LINE = {"color": COLOUR, "linewidth": 1.4}
 
 
 @dataclass(frozen=True)
-class Topography:
+class ColumnHeights:
     """Heights over the columns of a grid.
 
     Attributes
@@ -177,7 +177,7 @@ class Topography:
         return "topography" if self.is_surveyed else "top of the blocks"
 
 
-def topography_of(plan: Plan) -> Topography:
+def topography_of(plan: Plan) -> ColumnHeights:
     """Returns the original topography of a project, otherwise the tops of the blocks with tonnes."""
     project, grid = plan.project, plan.grid
     file = project.table.topography or (project.constraints.topography if project.constraints else None)
@@ -186,13 +186,13 @@ def topography_of(plan: Plan) -> Topography:
         box = (grid.shape, grid.origin, grid.size, grid.azimuth)
         found = surveyed(file, file.state, box)[1]
         height = np.where(found.covered > SUM_ERROR, floor + found.height * grid.size[2], np.nan)
-        return Topography(height.reshape(shape), True)
+        return ColumnHeights(height.reshape(shape), True)
     solid = grid.cube(plan.values.tonnes > 0)
     height = np.where(solid.any(axis=0), top - solid.argmax(axis=0) * grid.size[2], np.nan)
-    return Topography(height, False)
+    return ColumnHeights(height, False)
 
 
-def draw_line(ax: Axes, topography: Topography, cut: Cut) -> None:
+def draw_line(ax: Axes, topography: ColumnHeights, cut: Cut) -> None:
     """Draws the topography along a row or a column of the grid; `cut` selects its heights. The axes keep their limits."""
     heights = topography.height[cut]
     left, right = ax.get_xlim()
@@ -204,7 +204,7 @@ def draw_line(ax: Axes, topography: Topography, cut: Cut) -> None:
     ax.set_xlim(left, right)
 
 
-def name_lines(ax: Axes, topography: Topography) -> None:
+def name_lines(ax: Axes, topography: ColumnHeights) -> None:
     """Adds a legend of the lines of a section to axes."""
     lines = [Line2D([], [], **LINE, label=topography.label), Line2D([], [], color=PIT, linewidth=1.3, label="pit")]
     ax.legend(

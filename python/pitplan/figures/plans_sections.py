@@ -26,7 +26,7 @@ from pitplan.core.cell_outlines import edges
 from pitplan.core.revenue_factors import factor_text
 from pitplan.pits.shells import Shells
 
-from .map_marks import Topography, contours, floor_of, name_lines, topography_of
+from .map_marks import ColumnHeights, contours, floor_of, name_lines, topography_of
 from .scene import BlockScene, Cut, Extent
 from .style import GROUND, MAP, MOST_TICKS, STYLE, finish, list_of, panels, write_maps
 
@@ -68,7 +68,7 @@ class Scene(BlockScene):
         Revenue factor of the selected shell.
     rules : FigureRules
         Which levels and sections are drawn.
-    topography : Topography, optional
+    topography : ColumnHeights, optional
         The line of sections; None: none.
     """
 
@@ -79,7 +79,7 @@ class Scene(BlockScene):
     metal: Metal
     selected: float
     rules: FigureRules = FigureRules()
-    topography: Optional[Topography] = None
+    topography: Optional[ColumnHeights] = None
 
     @cached_property
     def mined(self) -> np.ndarray:

@@ -19,7 +19,7 @@ from pitplan.config.project import FigureRules
 from pitplan.core.cell_outlines import edges
 from pitplan.pushbacks.nested import Pushbacks
 
-from .map_marks import Topography, contours, floor_of, name_lines, topography_of
+from .map_marks import ColumnHeights, contours, floor_of, name_lines, topography_of
 from .scene import BlockScene, Cut, Extent
 from .style import GROUND, MAP, MOST_TICKS, STYLE, finish, list_of, write_maps
 
@@ -43,7 +43,7 @@ class PushbackScene(BlockScene):
         The number of pushbacks.
     rules : FigureRules
         Which levels and sections are drawn.
-    topography : Topography, optional
+    topography : ColumnHeights, optional
         The line of sections; None: none.
     """
 
@@ -52,7 +52,7 @@ class PushbackScene(BlockScene):
     solid: np.ndarray
     count: int
     rules: FigureRules = FigureRules()
-    topography: Optional[Topography] = None
+    topography: Optional[ColumnHeights] = None
 
     @cached_property
     def mined(self) -> np.ndarray:

@@ -24,7 +24,7 @@ from pitplan.core.revenue_factors import factor_text
 from pitplan.core.tolerances import SUM_ERROR
 from pitplan.studies.scenarios.pit_probability import QUANTILES, Likely
 
-from .scene import BlockScene, Cut, levels_of
+from .scene import BlockScene, Cut, Extent, levels_of
 from .style import GROUND, MAP, STYLE, finish, list_of, write_maps
 
 STEPS = np.linspace(0, 1, 11)
@@ -113,7 +113,7 @@ def plot_sections(likely: Likely, axes: Any) -> list[Axes]:
     return found
 
 
-def draw(axis: Axes, share: np.ndarray, solid: np.ndarray, extent: tuple[float, float, float, float]) -> None:
+def draw(axis: Axes, share: np.ndarray, solid: np.ndarray, extent: Extent) -> None:
     """Draws probabilities above 0, and the outlines of 10 %, 50 % and 90 %."""
     axis.imshow(np.where(solid, 1.0, np.nan), extent=extent, cmap=ListedColormap([GROUND]), **MAP)
     shown = np.ma.masked_where(share <= 0, share)

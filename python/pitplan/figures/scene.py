@@ -12,7 +12,7 @@ from matplotlib.axes import Axes
 from pitplan.blockmodel.grid import Grid, metres
 from pitplan.config.project import FigureRules
 
-from .map_marks import Topography, axes_of_map, draw_line, mark_map, mark_section_cells, section_titles
+from .map_marks import ColumnHeights, axes_of_map, draw_line, mark_map, mark_section_cells, section_titles
 from .style import name_axes
 
 Extent = tuple[float, float, float, float]
@@ -48,7 +48,7 @@ class BlockScene(ABC):
 
     grid: Grid
     rules: FigureRules
-    topography: Optional[Topography] = None
+    topography: Optional[ColumnHeights] = None
 
     @property
     @abstractmethod

@@ -257,7 +257,7 @@ class Years:
 
 
 @dataclass(frozen=True)
-class Course:
+class PieceSequence:
     """Pieces that are mined one after the other.
 
     Attributes
@@ -331,10 +331,12 @@ def mean_discount(start: np.ndarray, end: np.ndarray, rate: Rate) -> np.ndarray:
     return np.exp(-force * start) * mean
 
 
-def course_of(amounts: np.ndarray, wait: Wait) -> Course:
+def course_of(amounts: np.ndarray, wait: Wait) -> PieceSequence:
     """Returns the course of pieces from the start of year 1."""
     years = amounts @ wait.uses
-    return Course(amounts, np.concatenate([np.zeros((1, years.shape[1])), np.cumsum(years, axis=0)]), wait.shares)
+    return PieceSequence(
+        amounts, np.concatenate([np.zeros((1, years.shape[1])), np.cumsum(years, axis=0)]), wait.shares
+    )
 
 
 def year_discounts(settings: ShellRules, count: int, rate: Optional[Rate] = None) -> np.ndarray:

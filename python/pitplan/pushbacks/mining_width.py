@@ -44,7 +44,7 @@ NAMED = 5
 
 
 @dataclass(frozen=True)
-class Ground:
+class MinableArea:
     """What may be mined, and how wide; arrays of shape (levels from the top, rows, columns).
 
     Attributes
@@ -75,7 +75,7 @@ class Ground:
         return int(self.worth[pit].sum())
 
 
-def ground_of(plan: Plan, rules: PushbackRules) -> Ground:
+def ground_of(plan: Plan, rules: PushbackRules) -> MinableArea:
     grid, last = plan.grid, plan.project.shells.revenue_factors[-1]
     closed = closure.users_of(grid, plan.domains, unknown(plan))
     if plan.settled is not None:
@@ -85,7 +85,7 @@ def ground_of(plan: Plan, rules: PushbackRules) -> Ground:
         None if wide is None else rectangle(wide, sides) for wide in (rules.min_mining_width, rules.min_bottom_width)
     )
     tonnes, may, worth = (grid.cube(cells) for cells in (plan.values.tonnes, ~closed, plan.values.greatest_value(last)))
-    return Ground(plan, tonnes, free_of(plan), may, worth, width, bottom)
+    return MinableArea(plan, tonnes, free_of(plan), may, worth, width, bottom)
 
 
 def unknown(plan: Plan) -> np.ndarray:
@@ -128,7 +128,7 @@ def widened(pushback: np.ndarray, plan: Plan, rules: PushbackRules) -> tuple[np.
     return result.ravel(), notes_of(cube, result, ground, rules)
 
 
-def wide_pits(pits: list[np.ndarray], ground: Ground) -> list[np.ndarray]:
+def wide_pits(pits: list[np.ndarray], ground: MinableArea) -> list[np.ndarray]:
     """Returns the pits made wide enough, each within the next: the last by what it leaves, the others by what they leave to the next pushback."""
     outer = best(pits[-1], ground)
     found = [outer]
@@ -138,7 +138,7 @@ def wide_pits(pits: list[np.ndarray], ground: Ground) -> list[np.ndarray]:
     return found
 
 
-def best(pit: np.ndarray, ground: Ground) -> np.ndarray:
+def best(pit: np.ndarray, ground: MinableArea) -> np.ndarray:
     """Returns the last pit made wide enough: the most valuable of itself, of it grown, and of it grown only in the pieces where that gains."""
     alone, more = lean(pit, ground), lean(grown(pit, ground), ground)
     pieces, count = ndimage.label(alone ^ more, TOUCHING)
@@ -147,7 +147,7 @@ def best(pit: np.ndarray, ground: Ground) -> np.ndarray:
     return max((alone, more, some), key=ground.worth_of)
 
 
-def lean(pit: np.ndarray, ground: Ground) -> np.ndarray:
+def lean(pit: np.ndarray, ground: MinableArea) -> np.ndarray:
     """Returns the wide part of a last pit, without waste on which only the removed part depended, if that gains."""
     nothing = np.zeros_like(pit)
     whole = shrunk(pit, nothing, ground)
@@ -156,7 +156,7 @@ def lean(pit: np.ndarray, ground: Ground) -> np.ndarray:
     return max((whole, less), key=ground.worth_of)
 
 
-def advanced(inner: np.ndarray, outer: np.ndarray, ground: Ground) -> np.ndarray:
+def advanced(inner: np.ndarray, outer: np.ndarray, ground: MinableArea) -> np.ndarray:
     """Returns the inner pit with the small narrow pieces of the pushback between the two, and their predecessors."""
     between = outer & ~inner
     narrow = [pushback & ~opened(pushback, free, ground.width) for pushback, free in zip(between, ground.free)]
@@ -168,7 +168,7 @@ def advanced(inner: np.ndarray, outer: np.ndarray, ground: Ground) -> np.ndarray
     return with_precedences(inner | small[pieces], ground)
 
 
-def shrunk(inner: np.ndarray, outer: np.ndarray, ground: Ground) -> np.ndarray:
+def shrunk(inner: np.ndarray, outer: np.ndarray, ground: MinableArea) -> np.ndarray:
     """Returns the part of the inner pit that is wide enough, and leaves enough room for a pushback between it and the outer one, if any.
 
     Levels are processed from the top: successors of what is removed above are removed too.
@@ -181,7 +181,7 @@ def shrunk(inner: np.ndarray, outer: np.ndarray, ground: Ground) -> np.ndarray:
     return found
 
 
-def shrunk_level(pit: np.ndarray, outer: np.ndarray, level: int, ground: Ground) -> np.ndarray:
+def shrunk_level(pit: np.ndarray, outer: np.ndarray, level: int, ground: MinableArea) -> np.ndarray:
     """Returns what remains of a level of the inner pit. It shrinks until nothing is too narrow; must-mine blocks and air stay."""
     free = ground.free[level]
     while True:
@@ -205,7 +205,7 @@ def opened(mask: np.ndarray, free: np.ndarray, shape: Optional[Rectangle]) -> np
     return ndimage.binary_dilation(ndimage.binary_dilation(whole, east), north)
 
 
-def grown(pit: np.ndarray, ground: Ground) -> np.ndarray:
+def grown(pit: np.ndarray, ground: MinableArea) -> np.ndarray:
     """Returns the pit with the rectangle around each of its narrow blocks that mines least, and all predecessors."""
     found, plan = pit.copy(), ground.plan
     for level in range(len(found) - 1, -1, -1):
@@ -234,7 +234,7 @@ def grow(mask: np.ndarray, may: np.ndarray, shape: Optional[Rectangle], free: np
             mask[least] |= ~free[least]
 
 
-def with_precedences(pit: np.ndarray, ground: Ground) -> np.ndarray:
+def with_precedences(pit: np.ndarray, ground: MinableArea) -> np.ndarray:
     """Returns the pit with all predecessors."""
     return ground.plan.grid.cube(closure.used_blocks(ground.plan.grid, ground.plan.domains, pit.ravel()))
 
@@ -257,7 +257,7 @@ def is_wide(mask: np.ndarray, free: np.ndarray, shape: Rectangle) -> bool:
     return not (mask & ~free & ~opened(mask, free, shape)).any()
 
 
-def notes_of(before: np.ndarray, after: np.ndarray, ground: Ground, rules: PushbackRules) -> list[str]:
+def notes_of(before: np.ndarray, after: np.ndarray, ground: MinableArea, rules: PushbackRules) -> list[str]:
     """Returns notes on the material that the widths moved, and on the pieces that are not mined."""
     rock, tonnes = ground.tonnes > 0, ground.tonnes
     asked = [
@@ -282,7 +282,7 @@ def notes_of(before: np.ndarray, after: np.ndarray, ground: Ground, rules: Pushb
     return notes + left_pieces((before > 0) & (after == 0) & rock, tonnes, ground)
 
 
-def left_pieces(left: np.ndarray, tonnes: np.ndarray, ground: Ground) -> list[str]:
+def left_pieces(left: np.ndarray, tonnes: np.ndarray, ground: MinableArea) -> list[str]:
     """Returns the pieces too small to mine, the heaviest first: blocks, tonnes and centre of each."""
     pieces, count = ndimage.label(left)
     found = []

@@ -6,7 +6,7 @@ from collections.abc import Iterator
 from dataclasses import dataclass
 from itertools import groupby
 from pathlib import Path
-from typing import Any, Optional
+from typing import Any, NamedTuple, Optional
 
 import pandas as pd
 from jinja2 import Environment, FileSystemLoader, select_autoescape
@@ -16,7 +16,18 @@ from pitplan.config.periods import PERIOD, YEAR
 from pitplan.config.project import Project
 from pitplan.core.magnitude import scaled
 from pitplan.core.revenue_factors import factor_text
-from pitplan.results.column_types import GRADE, METAL, METRES, MONEY, SHARE, TEXT, TONNES, WHOLE_YEARS, Column, Table
+from pitplan.results.column_types import (
+    GRADE,
+    METAL,
+    METRES,
+    MONEY,
+    SHARE,
+    TEXT,
+    TONNES,
+    WHOLE_YEARS,
+    Column,
+    TableDeclaration,
+)
 from pitplan.results.columns import METHODS, PUSHBACKS, SENSITIVITY, SHELLS, YEARLY
 from pitplan.results.rounding import spoken
 
@@ -27,11 +38,21 @@ TEMPLATES = Environment(
     lstrip_blocks=True,
 )
 TEMPLATES.filters["rf"] = factor_text
-# Column, heading with unit, by what to divide, and decimals.
-Columns = list[tuple[str, str, float, int]]
 # The columns of no file: a case in words, and by how much its NPV differs from that of the base case.
 CASE, NPV_CHANGE = "case", "npv_change"
 COMPUTED = {CASE: Column(CASE, TEXT, "", "case"), NPV_CHANGE: Column(NPV_CHANGE, MONEY, "", "change")}
+
+
+class ShownColumn(NamedTuple):
+    """A column as it is shown: its name, its heading with the unit, by what its numbers are divided, and their decimals."""
+
+    name: str
+    heading: str
+    divisor: float = 1.0
+    decimals: int = 0
+
+
+Columns = list[ShownColumn]
 
 
 @dataclass(frozen=True)
@@ -40,7 +61,7 @@ class Display:
 
     Attributes
     ----------
-    table : Table
+    table : TableDeclaration
         Whose columns these are.
     names : tuple of str
         Those that are shown, in order, if a table has them. METAL and PROCESS stand for each metal and process.
@@ -48,7 +69,7 @@ class Display:
         Those whose largest amount sets the unit of all money.
     """
 
-    table: Table
+    table: TableDeclaration
     names: tuple[str, ...]
     money: tuple[str, ...]
 
@@ -67,12 +88,12 @@ class Display:
         return found
 
     def of(self, table: pd.DataFrame, project: Project) -> Columns:
-        """What is shown of a table: column, heading with unit, by what to divide, and decimals."""
+        """The columns that are shown of a table."""
         # Ore loss and dilution make the mill feed another amount than the ore in situ.
         is_diluted = IN_SITU in self.names and bool((table["feed_tonnes"] != table[IN_SITU]).any())
         money = scaled(float(table[[it for it in self.money if it in table]].abs().max().max()))
         units = Units(money, scaled(float(table[self.tonnes].max())), project.economics.currency)
-        metals, found = {it.name: it for it in project.metals}, list[tuple[str, str, float, int]]()
+        metals, found = {it.name: it for it in project.metals}, Columns()
         for name, subject in named(self.names, project):
             if name in table and (is_diluted or name != IN_SITU):
                 column = self.column(name)
@@ -80,7 +101,7 @@ class Display:
                 heading = heading.replace("METAL", subject).replace("PROCESS", subject)
                 size, unit = units.of(table[name], column, metals.get(subject))
                 places = column.shown_places if column.unit is not WHOLE_YEARS or is_whole(table[name]) else 2
-                found.append((name, heading if unit is None else f"{heading}, {unit}", size, places))
+                found.append(ShownColumn(name, heading if unit is None else f"{heading}, {unit}", size, places))
         return found
 
 
@@ -172,17 +193,17 @@ def metal_unit(most: float, metal: Metal) -> tuple[float, str]:
 
 def cells_of(table: pd.DataFrame, columns: Columns) -> list[list[str]]:
     """Returns the cells of a table as texts, with a dash for nan."""
-    texts = [[cell_of(value, column) for value in table[column[0]].tolist()] for column in columns]
+    texts = [[cell_of(value, column) for value in table[column.name].tolist()] for column in columns]
     return [list(row) for row in zip(*texts)]
 
 
-def cell_of(value: Any, column: tuple[str, str, float, int]) -> str:
+def cell_of(value: Any, column: ShownColumn) -> str:
     """Returns a cell of a column as a text, with a dash for nan."""
-    name, _, size, places = column
+    name = column.name
     if name in ("method", "case"):
         return str(value)
     if name == "pushback":
         return str(int(value))
     if name == "revenue_factor":
         return factor_text(value)
-    return "–" if value != value else f"{value / size:,.{places}f}"
+    return "–" if value != value else f"{value / column.divisor:,.{column.decimals}f}"

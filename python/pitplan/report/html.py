@@ -29,7 +29,7 @@ from planaudit import NOT_VERIFIED
 from . import columns as report, statements, table_one
 from .assumptions import selected_shell, topics
 from .columns import TEMPLATES, Columns
-from .statements import BY_BLOCK, Written, of_hill, of_prices, physicals, picture, read_table, risks
+from .statements import BY_BLOCK, WrittenTable, of_hill, of_prices, physicals, picture, read_table, risks
 
 # The methods of schedules of pushbacks in words.
 METHODS = {name: methods.NAMES[name] for name in (methods.RULE, methods.LP, methods.MILP)}
@@ -38,7 +38,7 @@ MOST_COLUMNS = 13
 
 
 @dataclass(frozen=True)
-class Sensitivity:
+class SensitivityFolder:
     """The folder and record of a sensitivity of the same inputs."""
 
     folder: Path
@@ -47,7 +47,7 @@ class Sensitivity:
 
 def sensitivity_beside(
     project: Project, inputs: dict[str, str], folder: Optional[Path]
-) -> tuple[Optional[Sensitivity], str]:
+) -> tuple[Optional[SensitivityFolder], str]:
     """Returns the sensitivity to show, and if none exists the reason, or "" if none was run.
 
     Parameters
@@ -79,7 +79,7 @@ def sensitivity_beside(
         if folder is not None:
             raise PlanError(f"{why}: run pitplan sensitivity again")
         return None, f"{why}, and is left out here"
-    return Sensitivity(place, record), ""
+    return SensitivityFolder(place, record), ""
 
 
 def differing(first: dict[str, str], second: dict[str, str]) -> list[str]:
@@ -143,7 +143,9 @@ def write(path: Path, folder: Path, project: Project, sensitivity: Optional[Path
     path.write_text(page, encoding="utf-8")
 
 
-def in_words(folder: Path, project: Project, record: dict[str, Any], found: Optional[Sensitivity]) -> dict[str, Any]:
+def in_words(
+    folder: Path, project: Project, record: dict[str, Any], found: Optional[SensitivityFolder]
+) -> dict[str, Any]:
     """Returns the parts of the page that are text: assumptions, how the shell was selected, risks, and Table 1."""
     selected = record["shells"]["selected"]
     shells = read_table(folder, names.SHELLS).frame.set_index("revenue_factor")
@@ -206,19 +208,19 @@ def of_answer(folder: Path, project: Project, record: dict[str, Any]) -> dict[st
         & ((years.frame["revenue_factor"] == chosen) | (years.frame["case"] == BY_BLOCK))
     ]
     mined = mined.drop(columns="case") if mined["case"].nunique() == 1 else mined
-    found["years"] = parts_of(Written(years.file, mined), report.OF_YEARS.of, project) if len(mined) else []
+    found["years"] = parts_of(WrittenTable(years.file, mined), report.OF_YEARS.of, project) if len(mined) else []
     return found | {"figures": figures}
 
 
 def physicals_of(folder: Path, project: Project, shown: str) -> list[dict[str, Any]]:
     """Returns the tables of tonnes, grades and metal of a schedule by period."""
     years = read_table(folder, names.YEARS)
-    mine = Written(years.file, years.frame[years.frame["case"] == shown])
+    mine = WrittenTable(years.file, years.frame[years.frame["case"] == shown])
     return list(physicals(statements.only(read_table(folder, names.CASH_FLOW), shown), mine, project))
 
 
 def parts_of(
-    table: Written,
+    table: WrittenTable,
     columns_of: Callable[[pd.DataFrame, Project], Columns],
     project: Project,
     marks: Optional[pd.Series] = None,
@@ -240,12 +242,12 @@ def parts_of(
     return parts
 
 
-def part_of(table: Written, columns: Columns, marks: Optional[pd.Series]) -> dict[str, Any]:
+def part_of(table: WrittenTable, columns: Columns, marks: Optional[pd.Series]) -> dict[str, Any]:
     rows = []
     frame = table.frame
     spoken = {name: frame[name].replace(METHODS) for name in ("method", "case") if name in frame}
     for at, texts in zip(frame.index, report.cells_of(frame.assign(**spoken), columns)):
-        cells = [{"text": text, "source": table.source(at, column[0])} for text, column in zip(texts, columns)]
+        cells = [{"text": text, "source": table.source(at, column.name)} for text, column in zip(texts, columns)]
         rows.append({"mark": "" if marks is None else marks[at], "cells": cells})
     return {"file": table.file, "headings": [heading for _, heading, _, _ in columns], "rows": rows}
 
@@ -254,14 +256,14 @@ def part_of(table: Written, columns: Columns, marks: Optional[pd.Series]) -> dic
 FINER = ", over finer shells than those of the pit-by-pit analysis"
 
 
-def of_sensitivity(found: Sensitivity, project: Project) -> dict[str, Any]:
+def of_sensitivity(found: SensitivityFolder, project: Project) -> dict[str, Any]:
     """Returns table and tornado of a sensitivity: the base case, and the cases with one parameter changed."""
     table = read_table(found.folder, SENSITIVITY)
     alone = table.frame[table.frame["second_parameter"].isna()].fillna({"parameter": "", "second_parameter": ""})
     named = alone.assign(case=report.cases_in_words(alone))
     record = found.record
     return {
-        "parts": parts_of(Written(table.file, named), report.OF_CASES.of, project),
+        "parts": parts_of(WrittenTable(table.file, named), report.OF_CASES.of, project),
         "tornado": picture(found.folder / names.TORNADO) if (found.folder / names.TORNADO).is_file() else "",
         "revenue_factor": record["revenue_factor"],
         "verified": record["verified"],

@@ -38,7 +38,7 @@ class Figure:
 
 
 @dataclass(frozen=True)
-class Written:
+class WrittenTable:
     """A written table: the name of its file, and its rows, with an index from 0."""
 
     file: str
@@ -47,15 +47,15 @@ class Written:
     def source(self, row: int, column: str) -> str:
         return f"{self.file} row {row + 2} column {NAMED.get((self.file, column), column)}"
 
-    def figure(self, name: str, row: int, column: tuple[str, str, float, int]) -> Figure:
+    def figure(self, name: str, row: int, column: report.ShownColumn) -> Figure:
         """Returns a key result with its unit, which follows the comma in the heading of its column."""
-        text = report.cell_of(self.frame.at[row, column[0]], column)
-        unit = column[1].partition(", ")[2]
-        return Figure(name, text if text == "–" else f"{text} {unit}".strip(), self.source(row, column[0]))
+        text = report.cell_of(self.frame.at[row, column.name], column)
+        unit = column.heading.partition(", ")[2]
+        return Figure(name, text if text == "–" else f"{text} {unit}".strip(), self.source(row, column.name))
 
 
-def read_table(folder: Path, name: str) -> Written:
-    return Written(name, pd.read_csv(folder / name, keep_default_na=True))
+def read_table(folder: Path, name: str) -> WrittenTable:
+    return WrittenTable(name, pd.read_csv(folder / name, keep_default_na=True))
 
 
 def picture(path: Path) -> str:
@@ -91,16 +91,16 @@ def schedule_statements(folder: Path, project: Project, record: dict[str, Any], 
     }
 
 
-def only(table: Written, method: str) -> Written:
+def only(table: WrittenTable, method: str) -> WrittenTable:
     """Returns the rows of a method."""
-    return Written(table.file, table.frame[table.frame["method"] == method])
+    return WrittenTable(table.file, table.frame[table.frame["method"] == method])
 
 
 def cell(text: str, source: str) -> dict[str, str]:
     return {"text": text, "source": source}
 
 
-def cash_flow(lines: Written, project: Project, size: float) -> Iterator[Part]:
+def cash_flow(lines: WrittenTable, project: Project, size: float) -> Iterator[Part]:
     """Yields tables with a row per line and a column per period, MOST_PERIODS in each; the first has the sums of all periods. Lines that are 0 in
     the decimals of the page are left out."""
     frame, word = lines.frame, project.shells.calendar.word
@@ -136,7 +136,7 @@ def heading(name: str) -> str:
     return found.heading.replace("METAL", subject).replace("PROCESS", subject)
 
 
-def valuation(table: Written, size: float) -> Part:
+def valuation(table: WrittenTable, size: float) -> Part:
     """Returns NPV, IRR and payback at each rate, before and after closure cost and tax."""
     kinds = {
         "discount_rate": ("discount rate, %", 0.01, 1),
@@ -168,7 +168,7 @@ def number(value: float, size: float, places: int) -> str:
 class Reserves:
     """Mill feed by resource class, as sums of rows of inventory.csv of a method."""
 
-    inventory: Written
+    inventory: WrittenTable
     project: Project
 
     @property
@@ -193,19 +193,26 @@ class Reserves:
             # All ore has a row of its own, also without any.
             if category == "ore" or len(classes) > 1 or (len(mine) and not classes):
                 rows.append(self.row(mine, f"all {label}" if category == "ore" else label, category, None))
-        return {"file": self.inventory.file, "headings": ["class", *(head for head, *_ in self.columns)], "rows": rows}
+        return {
+            "file": self.inventory.file,
+            "headings": ["class", *(column.heading for column in self.columns)],
+            "rows": rows,
+        }
 
     @property
-    def columns(self) -> list[tuple[str, str, float, int]]:
-        """Heading, column of the inventory, size and decimals; of a grade the contained metal."""
+    def columns(self) -> report.Columns:
+        """The columns of the inventory that are shown; of a grade the contained metal."""
         fed = self.inventory.frame[self.inventory.frame["category"].isin(list(CATEGORIES))]
         size, sign = scaled(float(fed["total_tonnes"].sum()))
-        found = [(f"in situ, {sign}t", "total_tonnes", size, 2), (f"mill feed, {sign}t", "feed_tonnes", size, 2)]
+        found = [
+            report.ShownColumn("total_tonnes", f"in situ, {sign}t", size, 2),
+            report.ShownColumn("feed_tonnes", f"mill feed, {sign}t", size, 2),
+        ]
         for metal in self.project.metals:
-            found.append((f"{metal.name}, {metal.sign}", f"head_grade_{metal.name}", 1.0, 3))
+            found.append(report.ShownColumn(f"head_grade_{metal.name}", f"{metal.name}, {metal.sign}", 1.0, 3))
             for kind in ("contained", "recovered", *(["payable"] if metal.smelter else [])):
                 unit, name = metal_unit(float(fed[f"{kind}_{metal.name}"].sum()), metal), f"{kind}_{metal.name}"
-                found.append((f"{kind} {metal.name}, {unit[1]}", name, unit[0], 2))
+                found.append(report.ShownColumn(name, f"{kind} {metal.name}, {unit[1]}", unit[0], 2))
         return found
 
     def row(self, some: pd.DataFrame, label: str, category: str, name: Optional[str]) -> Part:
@@ -216,7 +223,7 @@ class Reserves:
             it.name: float(GRADE_UNITS[it.unit]) for it in self.project.metals
         }
         cells = [cell(label, "")]
-        for _, column, size, places in self.columns:
+        for column, _, size, places in self.columns:
             if column.startswith("head_grade_"):
                 metal = column.removeprefix("head_grade_")
                 content = float(some[f"contained_{metal}"].sum()) / units[metal]
@@ -231,14 +238,14 @@ class Reserves:
 
 
 @dataclass(frozen=True)
-class Row:
+class StatementRow:
     """A row of the table.
 
     Attributes
     ----------
     label : str
         With its unit.
-    table : Written
+    table : WrittenTable
         The rows of a method in cash_flow.csv or years.csv.
     column : str
     size : float
@@ -251,7 +258,7 @@ class Row:
     """
 
     label: str
-    table: Written
+    table: WrittenTable
     column: str
     size: float
     places: int
@@ -278,25 +285,25 @@ class Row:
         ]
 
 
-def rows_of(lines: Written, years: Written, project: Project) -> Iterator[Row]:
+def rows_of(lines: WrittenTable, years: WrittenTable, project: Project) -> Iterator[StatementRow]:
     """Yields the rows; `lines` are those of cash_flow.csv, `years` those of years.csv with the feed of each process."""
     size, sign = scaled(float(lines.frame["total_tonnes"].max()))
-    yield Row(f"total material, {sign}t", lines, "total_tonnes", size, 2)
-    yield Row(f"waste, {sign}t", lines, "waste_tonnes", size, 2)
-    yield Row("strip ratio", lines, "strip_ratio", 1.0, 2, ("waste_tonnes", "total_tonnes", "waste_tonnes"))
-    yield Row(f"mill feed, {sign}t", lines, "feed_tonnes", size, 2)
+    yield StatementRow(f"total material, {sign}t", lines, "total_tonnes", size, 2)
+    yield StatementRow(f"waste, {sign}t", lines, "waste_tonnes", size, 2)
+    yield StatementRow("strip ratio", lines, "strip_ratio", 1.0, 2, ("waste_tonnes", "total_tonnes", "waste_tonnes"))
+    yield StatementRow(f"mill feed, {sign}t", lines, "feed_tonnes", size, 2)
     for process in project.processes:
-        yield Row(f"feed of {process.name}, {sign}t", years, f"feed_tonnes_{process.name}", size, 2)
+        yield StatementRow(f"feed of {process.name}, {sign}t", years, f"feed_tonnes_{process.name}", size, 2)
     for metal in project.metals:
         head, content = f"head grade {metal.name}, {metal.sign}", (f"contained_{metal.name}", "feed_tonnes")
-        yield Row(head, lines, f"head_grade_{metal.name}", 1.0, 3, content, float(GRADE_UNITS[metal.unit]))
+        yield StatementRow(head, lines, f"head_grade_{metal.name}", 1.0, 3, content, float(GRADE_UNITS[metal.unit]))
         for kind in ("recovered", *(["payable"] if metal.smelter else [])):
             column = f"{kind}_{metal.name}"
             unit, of_metal = metal_unit(float(lines.frame[column].max()), metal)
-            yield Row(f"{kind} {metal.name}, {of_metal}", lines, column, unit, 2)
+            yield StatementRow(f"{kind} {metal.name}, {of_metal}", lines, column, unit, 2)
 
 
-def physicals(lines: Written, years: Written, project: Project) -> Iterator[Part]:
+def physicals(lines: WrittenTable, years: WrittenTable, project: Project) -> Iterator[Part]:
     """Yields tables with MOST_PERIODS periods each; the first has all periods together."""
     word, rows = project.shells.calendar.word, list(rows_of(lines, years, project))
     for first in range(0, len(lines.frame), MOST_PERIODS):
@@ -309,10 +316,10 @@ def physicals(lines: Written, years: Written, project: Project) -> Iterator[Part
 BY_BLOCK = "block"
 
 
-def of_shell(shells: Written, chosen: float, project: Project) -> list[Figure]:
+def of_shell(shells: WrittenTable, chosen: float, project: Project) -> list[Figure]:
     """Returns the key results of a pit without a schedule."""
     row = int(shells.frame.index[shells.frame["revenue_factor"] == chosen][0])
-    columns = {column[0]: column for column in report.OF_SHELLS.of(shells.frame.loc[[row]], project)}
+    columns = {column.name: column for column in report.OF_SHELLS.of(shells.frame.loc[[row]], project)}
     names = {
         "npv_best": "Net present value, best case",
         "npv_worst": "Net present value, worst case",
@@ -324,24 +331,22 @@ def of_shell(shells: Written, chosen: float, project: Project) -> list[Figure]:
     }
     found = [shells.figure(name, row, columns[column]) for column, name in names.items() if column in columns]
     found += [*grades(shells, chosen, project), *recovered(shells, row, columns, project)]
-    return [*found, shells.figure("Life, best case", row, ("years", "life, years", 1.0, 1))]
+    return [*found, shells.figure("Life, best case", row, report.ShownColumn("years", "life, years", 1.0, 1))]
 
 
-def grades(shells: Written, factor: float, project: Project) -> list[Figure]:
+def grades(shells: WrittenTable, factor: float, project: Project) -> list[Figure]:
     row = int(shells.frame.index[shells.frame["revenue_factor"] == factor][0])
     return [
         shells.figure(
             f"{metal.name.capitalize()} head grade of the pit at revenue factor {factor_text(factor)}",
             row,
-            (f"head_grade_{metal.name}", f"grade, {metal.sign}", 1.0, 3),
+            report.ShownColumn(f"head_grade_{metal.name}", f"grade, {metal.sign}", 1.0, 3),
         )
         for metal in project.metals
     ]
 
 
-def recovered(
-    table: Written, row: int, columns: dict[str, tuple[str, str, float, int]], project: Project
-) -> list[Figure]:
+def recovered(table: WrittenTable, row: int, columns: dict[str, report.ShownColumn], project: Project) -> list[Figure]:
     return [
         table.figure(f"{metal.name.capitalize()} recovered", row, columns[f"recovered_{metal.name}"])
         for metal in project.metals
@@ -354,7 +359,7 @@ def schedule_results(folder: Path, project: Project, shown: str) -> list[Figure]
     row = int(ways.frame.index[ways.frame["method"] == shown][0])
     only_one = ways.frame.loc[[row]]
     display = report.OF_BLOCKS if shown == BY_BLOCK else report.OF_METHODS
-    columns = {column[0]: column for column in display.of(only_one, project)}
+    columns = {column.name: column for column in display.of(only_one, project)}
     bound = "Upper bound, any schedule by block" if shown == BY_BLOCK else "Upper bound, these pushbacks"
     labels = {"npv": "Net present value", "upper_bound": bound}
     tonnes = {"tonnes": "Total material", "feed_tonnes": "Mill feed"}
@@ -367,11 +372,11 @@ def schedule_results(folder: Path, project: Project, shown: str) -> list[Figure]
         *(ways.figure(label, row, columns[name]) for name, label in tonnes.items()),
         *(of_feed(lines, project) if len(lines.frame) else ()),
         *recovered(ways, row, columns, project),
-        ways.figure("Life", row, ("years", "life, years", 1.0, columns["years"][3])),
+        ways.figure("Life", row, report.ShownColumn("years", "life, years", 1.0, columns["years"].decimals)),
     ]
 
 
-def of_money(lines: Written, values: Written, project: Project) -> list[Figure]:
+def of_money(lines: WrittenTable, values: WrittenTable, project: Project) -> list[Figure]:
     """Returns NPV after tax if there is closure cost or tax, the internal rate of return, payback and capital.
 
     If nothing has to be paid back there is no rate of return, and a payback of 0 years would say nothing: both are left out.
@@ -396,7 +401,7 @@ def of_money(lines: Written, values: Written, project: Project) -> list[Figure]:
     return found
 
 
-def of_feed(lines: Written, project: Project) -> list[Figure]:
+def of_feed(lines: WrittenTable, project: Project) -> list[Figure]:
     """Returns strip ratio and head grades of a schedule, over all periods."""
     total, waste, feed = (float(lines.frame[it].sum()) for it in ("total_tonnes", "waste_tonnes", "feed_tonnes"))
     ratio = number(waste / (total - waste) if total > waste else float("nan"), 1.0, 2)

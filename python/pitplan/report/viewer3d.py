@@ -46,7 +46,7 @@ def kinds_of(folder: Folder, encode: Encode) -> list[dict[str, Any]]:
     solid = (folder.blocks[folder.record["tonnes"]] > 0).to_numpy()
     found = {name: folder.blocks[name].astype(str).to_numpy() for name in folder.record["codes"]}
     found[DESTINATION] = destinations_of(folder)
-    return [kind_of(folder, name, np.where(solid, codes, ""), solid, encode) for name, codes in found.items()]
+    return [kind_of(folder, name, np.where(solid, codes, ""), solid, encode=encode) for name, codes in found.items()]
 
 
 def destinations_of(folder: Folder) -> NDArray[Any]:
@@ -57,7 +57,9 @@ def destinations_of(folder: Folder) -> NDArray[Any]:
     return np.where(blocks["revenue"] > blocks["processing_cost"], ORE, WASTE)
 
 
-def kind_of(folder: Folder, name: str, codes: NDArray[Any], solid: NDArray[np.bool_], encode: Encode) -> dict[str, Any]:
+def kind_of(
+    folder: Folder, name: str, codes: NDArray[Any], solid: NDArray[np.bool_], *, encode: Encode
+) -> dict[str, Any]:
     """Returns a category; codes beyond the palette are together."""
     labels, counts = np.unique(codes[solid].astype(str), return_counts=True)
     order = labels[np.argsort(-counts, kind="stable")].tolist()

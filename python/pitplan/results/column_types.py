@@ -84,7 +84,7 @@ class Column:
 
 
 @dataclass(frozen=True)
-class Table:
+class TableDeclaration:
     """A written table: its file, what a row is, its columns in order, and if its numbers are not rounded to decimals, to how many
     significant digits (0: they are written in full)."""
 

@@ -31,7 +31,7 @@ from .column_types import (
     WHOLE_YEARS,
     YEARS,
     Column,
-    Table,
+    TableDeclaration,
     Unit,
 )
 
@@ -115,7 +115,7 @@ SCHEDULED = (
 RUN = Column("run", TEXT, "the folder of the run")
 PLAIN_HEAD_GRADE = Column("head_grade_METAL", GRADE, "head grade of the mill feed; empty without feed")
 CHANGE = Column("AMOUNT_change", AMOUNT, "by how much an amount of this row differs from that of the first run")
-RESULTS = Table(
+RESULTS = TableDeclaration(
     "results.csv",
     "of `pitplan compare`: a row per run, the selected shell or the shown method",
     (
@@ -133,7 +133,7 @@ RESULTS = Table(
         RECOVERED,
     ),
 )
-INPUTS = Table(
+INPUTS = TableDeclaration(
     "inputs.csv",
     "of `pitplan compare`: a row per run after the first and key whose value differs",
     (
@@ -151,7 +151,7 @@ INPUTS = Table(
         Column("value", TEXT, "value in this run"),
     ),
 )
-PERIODS = Table(
+PERIODS = TableDeclaration(
     "periods.csv",
     "of `pitplan compare`: a row per run and period",
     (
@@ -162,7 +162,7 @@ PERIODS = Table(
         CHANGE,
     ),
 )
-BRIDGE = Table(
+BRIDGE = TableDeclaration(
     "bridge.csv",
     "of `pitplan compare`: a row per run and changed input, which are applied in turn",
     (
@@ -188,7 +188,7 @@ BIN = Column(
     COUNT,
     "value bin of ore: by process, from the poorest; 0: no ore; below 0, with `[[dumps]]`: no ore, of another set of dumps that accept it",
 )
-MATERIAL_FLOWS = Table(
+MATERIAL_FLOWS = TableDeclaration(
     "flows.csv",
     "of a schedule of pushbacks: a row per method, year, lot of a bench, source and destination",
     (
@@ -211,7 +211,7 @@ MATERIAL_FLOWS = Table(
         ),
     ),
 )
-INVENTORY = Table(
+INVENTORY = TableDeclaration(
     "inventory.csv",
     "of a schedule: a row per method, year, pushback, bench, rock type, resource class, source and destination",
     (
@@ -231,7 +231,7 @@ INVENTORY = Table(
         *(CONTAINED, RECOVERED, PAYABLE),
     ),
 )
-GRADE_TONNAGE = Table(
+GRADE_TONNAGE = TableDeclaration(
     "grade_tonnage.csv",
     "of shells, pushbacks and schedules: a row per part, resource class, metal and cut-off grade of that metal",
     (
@@ -268,7 +268,7 @@ REALISED_CUTOFF = Column(
     "lowest net value per tonne of feed that the process takes; empty without feed",
     "realised cut-off",
 )
-FEEDS = Table(
+FEEDS = TableDeclaration(
     "feed.csv",
     "of a schedule of pushbacks: a row per method, year and process",
     (
@@ -280,7 +280,7 @@ FEEDS = Table(
         *(CUTOFF, REALISED_CUTOFF),
     ),
 )
-STOCKPILES = Table(
+STOCKPILES = TableDeclaration(
     "stockpiles.csv",
     "with `[[schedule.stockpiles]]`: a row per method, stockpile and year, in tonnes of feed",
     (
@@ -297,7 +297,7 @@ STOCKPILES = Table(
         ),
     ),
 )
-DUMPS = Table(
+DUMPS = TableDeclaration(
     "dumps.csv",
     "with `[[dumps]]`: a row per method, dump and year, in tonnes of waste",
     (
@@ -309,7 +309,7 @@ DUMPS = Table(
         Column("room_tonnes", TONNES, "what its capacity leaves then; empty without a capacity", "room"),
     ),
 )
-CUTOFFS = Table(
+CUTOFFS = TableDeclaration(
     "cutoffs.csv",
     "of a schedule of pushbacks: a row per method, year, process and rock type that it takes",
     (
@@ -342,7 +342,7 @@ CUTOFFS = Table(
     ),
 )
 LIMITED = Unit("that of the amount", 6, 2)
-LIMITS = Table(
+LIMITS = TableDeclaration(
     "limits.csv",
     "of a schedule of pushbacks: a row per method, year and limit",
     (
@@ -476,13 +476,13 @@ RESULT_LINES = (
         "C1 cost",
     ),
 )
-CASH_FLOW = Table(
+CASH_FLOW = TableDeclaration(
     "cash_flow.csv",
     "of a schedule: a row per method and year; costs and tax are positive",
     (METHOD, YEAR, *PHYSICALS, *LINES, *RESULT_LINES, DISCOUNTS),
 )
 OF_PATHS = "of the NPVs of all paths"
-PRICE_PATHS = Table(
+PRICE_PATHS = TableDeclaration(
     "price_paths.csv",
     "of the shown schedule with `[price_paths]`: a row per path and year",
     (
@@ -494,7 +494,7 @@ PRICE_PATHS = Table(
         DISCOUNTS,
     ),
 )
-PRICE_QUANTILES = Table(
+PRICE_QUANTILES = TableDeclaration(
     "price_path_quantiles.csv",
     "of the shown schedule with `[price_paths]`: one row",
     (
@@ -515,7 +515,7 @@ PRICE_QUANTILES = Table(
     ),
 )
 AFTER = "after closure cost and tax"
-VALUATION = Table(
+VALUATION = TableDeclaration(
     "valuation.csv",
     "of a schedule: a row per method and discount rate",
     (
@@ -542,8 +542,8 @@ VALUATION = Table(
 )
 
 
-SHELLS = Table("shells.csv", "a row per revenue factor", (RF, *PIT, *EARNED, OUTLINES, DISCOUNTS))
-PITS = Table(
+SHELLS = TableDeclaration("shells.csv", "a row per revenue factor", (RF, *PIT, *EARNED, OUTLINES, DISCOUNTS))
+PITS = TableDeclaration(
     "pits.csv",
     "a row with the constraints and one without",
     (
@@ -552,7 +552,7 @@ PITS = Table(
         DISCOUNTS,
     ),
 )
-YEARLY = Table(
+YEARLY = TableDeclaration(
     "years.csv",
     "a row per case, revenue factor and year",
     (
@@ -578,7 +578,7 @@ YEARLY = Table(
         DISCOUNTS,
     ),
 )
-PUSHBACKS = Table(
+PUSHBACKS = TableDeclaration(
     "pushbacks.csv",
     "a row per pushback: what it adds to those before",
     (
@@ -604,7 +604,7 @@ PUSHBACKS = Table(
         Column("min_width", METRES, "the widest square that holds for all blocks", "minimum width"),
     ),
 )
-SCHEDULE = Table(
+SCHEDULE = TableDeclaration(
     "schedule.csv",
     "a row per method, bench and year in which a share of it is mined, and per year in which ore is reclaimed",
     (METHOD, YEAR, replace(PUSHBACK, holds="from 1; 0: ore that is reclaimed from stockpiles"), OF_BENCH)
@@ -618,8 +618,10 @@ NPV_AT_MEAN_GRADE = replace(
     heading="NPV at mean-grade reclaim",
     when="with `[[schedule.stockpiles]]`",
 )
-METHODS = Table("methods.csv", "a row per method", (METHOD, NPV, BOUND, GAP, NPV_AT_MEAN_GRADE, *SCHEDULED, DISCOUNTS))
-MULTIPLIERS = Table(
+METHODS = TableDeclaration(
+    "methods.csv", "a row per method", (METHOD, NPV, BOUND, GAP, NPV_AT_MEAN_GRADE, *SCHEDULED, DISCOUNTS)
+)
+MULTIPLIERS = TableDeclaration(
     "bound.csv",
     "of a schedule: a row per limit and year; the upper bound follows from these",
     (
@@ -634,7 +636,7 @@ MULTIPLIERS = Table(
     ),
     digits=0,
 )
-SENSITIVITY = Table(
+SENSITIVITY = TableDeclaration(
     "sensitivity.csv",
     "a row per case; the first is the base case",
     (
@@ -656,7 +658,7 @@ SENSITIVITY = Table(
         DISCOUNTS,
     ),
 )
-HILL = Table(
+HILL = TableDeclaration(
     "hill_of_value.csv",
     "with `[[sensitivity.hill]]`: a row per two values",
     (
@@ -667,7 +669,9 @@ HILL = Table(
         *SENSITIVITY.columns[4:],
     ),
 )
-SCENARIOS = Table("scenarios.csv", "a row per scenario and revenue factor", (*HEADS, RF, *PIT, CASH, EXACT), digits=10)
+SCENARIOS = TableDeclaration(
+    "scenarios.csv", "a row per scenario and revenue factor", (*HEADS, RF, *PIT, CASH, EXACT), digits=10
+)
 SPREAD = (
     Column("AMOUNT_mean", AMOUNT, "its mean"),
     Column("AMOUNT_least", AMOUNT, "its minimum"),
@@ -675,13 +679,13 @@ SPREAD = (
     Column("AMOUNT_greatest", AMOUNT, "its maximum"),
 )
 REALISATIONS = Column("realisations", COUNT, "how many have a result")
-QUANTILES = Table(
+QUANTILES = TableDeclaration(
     "quantiles.csv",
     "of pits: a row per price deck and revenue factor, over the realisations; AMOUNT is blocks, tonnes, metal and value in `scenarios.csv`",
     (HEADS[-1], RF, REALISATIONS, *SPREAD),
     digits=10,
 )
-SCHEDULES = Table(
+SCHEDULES = TableDeclaration(
     "schedules.csv",
     "a row per scenario: its own schedule, and the common schedule in it",
     (
@@ -697,7 +701,7 @@ SCHEDULES = Table(
     ),
     digits=12,
 )
-COMMON_YEARS = Table(
+COMMON_YEARS = TableDeclaration(
     "common_schedule_years.csv",
     "a row per scenario and year of the common schedule",
     (
@@ -712,19 +716,19 @@ COMMON_YEARS = Table(
     ),
     digits=12,
 )
-BLOCK_QUANTILES = Table(
+BLOCK_QUANTILES = TableDeclaration(
     "quantiles.csv",
     "by block: a row per price deck, over the realisations; AMOUNT is `npv`, `upper_bound` and `common_npv`",
     (HEADS[-1], REALISATIONS, *SPREAD, DISCOUNTS),
     digits=12,
 )
-PROBABILITY = Table(
+PROBABILITY = TableDeclaration(
     "probability.csv",
     "a row per block, with your columns and these",
     (Column("probability_FACTOR", SHARE, "share of the scenarios whose shell at the revenue factor holds the block"),),
     digits=6,
 )
-COMMON = Table(
+COMMON = TableDeclaration(
     "common_schedule.csv",
     "a row per block, with your columns and these",
     (
@@ -735,7 +739,7 @@ COMMON = Table(
 )
 FIRST = replace(RF, holds="the least one whose shell holds the block; 0: none")
 PROCESSED = Column("process_revenue_factor", FACTOR, "the least one at which it is processed; 0: none")
-BLOCK_TABLE = Table(
+BLOCK_TABLE = TableDeclaration(
     "blocks.csv",
     "a row per block, with your columns and these",
     (
@@ -760,7 +764,17 @@ BLOCK_TABLE = Table(
     ),
     digits=0,
 )
-TABLES: tuple[Table, ...] = (BLOCK_TABLE, SHELLS, YEARLY, PITS, PUSHBACKS, SCHEDULE, METHODS, SENSITIVITY, HILL)
+TABLES: tuple[TableDeclaration, ...] = (
+    BLOCK_TABLE,
+    SHELLS,
+    YEARLY,
+    PITS,
+    PUSHBACKS,
+    SCHEDULE,
+    METHODS,
+    SENSITIVITY,
+    HILL,
+)
 TABLES += (MATERIAL_FLOWS, FEEDS, CUTOFFS, STOCKPILES, DUMPS, LIMITS, CASH_FLOW, VALUATION, INVENTORY, GRADE_TONNAGE)
 TABLES += (MULTIPLIERS, PROBABILITY, SCENARIOS, QUANTILES, COMMON, COMMON_YEARS, SCHEDULES, BLOCK_QUANTILES)
 TABLES += (PRICE_PATHS, PRICE_QUANTILES, *COMPARISON)

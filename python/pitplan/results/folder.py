@@ -25,7 +25,7 @@ from .names import RECORD, TABLE
 # Records (.json) as they are read back: each part is of the kind that its readers take for granted, or the
 # record is refused.
 #
-# A kind is a `Kind`; or a list of one kind, for a list of any length; or a tuple of kinds, for a list of that length;
+# A kind is a `Expectation`; or a list of one kind, for a list of any length; or a tuple of kinds, for a list of that length;
 # or a dictionary of kinds by key, for a table that has every key that is not `Lacking`. The key "*" means each key.
 
 # Cells that a grid may have along an axis and in all.
@@ -34,7 +34,7 @@ HASH = re.compile("[0-9a-f]{64}")
 
 
 @dataclass(frozen=True)
-class Kind:
+class Expectation:
     """What is expected of a value, in words, and whether it holds."""
 
     expected: str
@@ -52,8 +52,8 @@ def is_number(value: Any) -> bool:
     return isinstance(value, (int, float)) and not isinstance(value, bool) and abs(value) <= FARTHEST
 
 
-def whole(least: int, most: int) -> Kind:
-    return Kind(
+def whole(least: int, most: int) -> Expectation:
+    return Expectation(
         f"a whole number from {least:,} to {most:,}", lambda value: type(value) is int and least <= value <= most
     )
 
@@ -62,16 +62,16 @@ def is_plain_path(value: Any) -> bool:
     return isinstance(value, str) and "\0" not in value and not {"", ".", ".."} & {*value.split("/")}
 
 
-TEXT = Kind("a text", lambda value: isinstance(value, str))
-PATH = Kind("the path of a file", lambda value: isinstance(value, str) and value != "" and "\0" not in value)
-FILE = Kind("the path of a file within the folder", is_plain_path)
-NUMBER = Kind("a number", lambda value: is_number(value) and math.isfinite(value))
-LENGTH = Kind("a length in metres above 0", lambda value: is_number(value) and value > 0)
-TRUTH = Kind("true or false", lambda value: isinstance(value, bool))
-SHA256 = Kind("a SHA-256", lambda value: isinstance(value, str) and HASH.fullmatch(value) is not None)
-FACTOR = Kind("a revenue factor from 0 to 100 with at most three decimals", is_factor)
+TEXT = Expectation("a text", lambda value: isinstance(value, str))
+PATH = Expectation("the path of a file", lambda value: isinstance(value, str) and value != "" and "\0" not in value)
+FILE = Expectation("the path of a file within the folder", is_plain_path)
+NUMBER = Expectation("a number", lambda value: is_number(value) and math.isfinite(value))
+LENGTH = Expectation("a length in metres above 0", lambda value: is_number(value) and value > 0)
+TRUTH = Expectation("true or false", lambda value: isinstance(value, bool))
+SHA256 = Expectation("a SHA-256", lambda value: isinstance(value, str) and HASH.fullmatch(value) is not None)
+FACTOR = Expectation("a revenue factor from 0 to 100 with at most three decimals", is_factor)
 ALONG = whole(1, MOST_ALONG)
-RISING = Kind(
+RISING = Expectation(
     "revenue factors, each greater than the one before",
     lambda value: isinstance(value, list)
     and len(value) > 0
@@ -85,7 +85,7 @@ GRID = {
     "azimuth": Lacking(NUMBER),
 }
 SOLVER = {
-    "by": Kind("library or program", lambda value: value in ("library", "program")),
+    "by": Expectation("library or program", lambda value: value in ("library", "program")),
     "version": TEXT,
     "sha256": SHA256,
     "proved": Lacking(TRUTH),
@@ -137,7 +137,7 @@ class Reader:
 
     def demand(self, value: Any, kind: Any, where: str) -> None:
         """Raises PlanError where a part is of another kind."""
-        if isinstance(kind, Kind):
+        if isinstance(kind, Expectation):
             if not kind.holds(value):
                 raise self.wrong(where, f"found {cut(json.dumps(value, ensure_ascii=False))}, expected {kind.expected}")
         elif isinstance(kind, dict):

@@ -182,7 +182,7 @@ def running(flows: np.ndarray) -> np.ndarray:
 
 
 @dataclass(frozen=True)
-class Sequence:
+class BenchSequence:
     """How benches are mined one after the other.
 
     order  the benches that are mined, each behind those that it waits for
@@ -213,7 +213,7 @@ class Mining:
         some = takes > 0
         return float(min(1 - self.done[bench], depth, *(left[some] / takes[some])))
 
-    def year(self, sequence: Sequence, pending: list[int], number: int) -> np.ndarray:
+    def year(self, sequence: BenchSequence, pending: list[int], number: int) -> np.ndarray:
         """Mines one year, numbered from 1, of what is pending; gives the share of each bench."""
         pace = (
             np.inf if sequence.pace is None else max(0.0, sequence.pace[number - 1] - self.benches.of(ROCK) @ self.done)
@@ -237,7 +237,7 @@ class Mining:
         return shares
 
 
-def mine_in_order(problem: Problem, sequence: Sequence, years: Optional[int] = None) -> np.ndarray:
+def mine_in_order(problem: Problem, sequence: BenchSequence, years: Optional[int] = None) -> np.ndarray:
     """The share of each bench that is mined in each year: an array of benches and years, up to the year when all is mined or the last that
     is allowed.
 
@@ -255,10 +255,10 @@ def mine_in_order(problem: Problem, sequence: Sequence, years: Optional[int] = N
     return np.column_stack(found) if found else np.zeros((len(problem.benches), 0))
 
 
-def by_lead(benches: PushbackBenches, lead: int) -> Sequence:
+def by_lead(benches: PushbackBenches, lead: int) -> BenchSequence:
     """All benches, each pushback `lead` benches behind the one before. No lead is the whole pit bench by bench; one of all levels is pushback
     by pushback."""
-    return Sequence(np.lexsort((benches.pushback, benches.level + lead * (benches.pushback - 1))))
+    return BenchSequence(np.lexsort((benches.pushback, benches.level + lead * (benches.pushback - 1))))
 
 
 def leads(benches: PushbackBenches) -> range:

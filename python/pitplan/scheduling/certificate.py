@@ -62,7 +62,7 @@ class Term:
 
 
 @dataclass(frozen=True)
-class Row:
+class CertificateLimit:
     """A limit of the texts.
 
     Attributes
@@ -139,7 +139,7 @@ class Certificate:
         What blocks are worth, before discounting.
     discounts : int array, shape (periods,)
         Discount factors, in millionths.
-    rows : tuple of Row
+    rows : tuple of CertificateLimit
         The limits.
     predecessors : Predecessors
     shares : Shares
@@ -150,7 +150,7 @@ class Certificate:
     destinations: int
     values: tuple[Term, ...]
     discounts: NDArray[np.int64]
-    rows: tuple[Row, ...]
+    rows: tuple[CertificateLimit, ...]
     predecessors: Predecessors
     shares: Shares
     unit: int = 1
@@ -280,7 +280,7 @@ class StatedLimit:
     terms: tuple[Term, ...]
     is_least: bool = False
 
-    def row(self, shares: Shares) -> Row:
+    def row(self, shares: Shares) -> CertificateLimit:
         """Returns the limit of the texts. The capacity of a minimum is not below what the schedule uses by more than rounding.
 
         Raises
@@ -300,7 +300,7 @@ class StatedLimit:
         if (np.abs(capacity) > MOST_CAPACITY).any() or (price * UNIT > MOST_PRICE).any():
             raise PlanError(f"{WHOLE}: a limit or a price of {limit.name} is out of range")
         capacity = np.maximum(capacity.astype(np.int64), used)
-        return Row(tuple(terms), capacity, np.rint(price * UNIT).astype(np.int64))
+        return CertificateLimit(tuple(terms), capacity, np.rint(price * UNIT).astype(np.int64))
 
     def kept(self, shares: Shares) -> Shares:
         """Returns shares that use less of the limit in each year in which they exceed it: a millionth of each block goes to waste, of those that use most
@@ -329,7 +329,7 @@ class StatedLimit:
         return found
 
 
-def rows_of(limits: Sequence[StatedLimit], shares: Shares) -> tuple[tuple[Row, ...], Shares]:
+def rows_of(limits: Sequence[StatedLimit], shares: Shares) -> tuple[tuple[CertificateLimit, ...], Shares]:
     """Returns the limits of the texts, and shares that keep them: rounded down where the schedule is above one by rounding.
 
     Raises
@@ -390,7 +390,7 @@ def demand_size(certificate: Certificate, columns: int) -> None:
 # ---- texts
 
 
-class Columns:
+class AmountColumns:
     """The columns of amounts, each once."""
 
     def __init__(self) -> None:
@@ -424,7 +424,7 @@ def counted(counts: Mapping[str, int]) -> list[str]:
 
 def problem_text(certificate: Certificate) -> str:
     """Returns the text of the problem. Raises PlanError if it is too large for the program."""
-    columns = Columns()
+    columns = AmountColumns()
     values = [f"VALUE {it.destination} {columns.place(it.amounts)} {it.lag}" for it in certificate.values]
     uses = [
         f"USE {it.destination} {r} {columns.place(it.amounts)} {it.lag}"

@@ -151,22 +151,21 @@ def grade_limits(project: Project) -> list[GradeLimit]:
     return [
         found
         for limit in project.feed_grades
-        for side, sign, base in ((MAX, 1.0, limit.max), (MIN, -1.0, limit.min))
-        for found in of_side(project, (limit, names.index(limit.process)), (side, sign), base)
+        for side, base in ((MAX, limit.max), (MIN, limit.min))
+        for found in of_side(project, limit, names.index(limit.process), side=side, base=base)
     ]
 
 
 def of_side(
-    project: Project, of: tuple[FeedGrade, int], side: tuple[str, float], base: Optional[float]
+    project: Project, limit: FeedGrade, process: int, *, side: str, base: Optional[float]
 ) -> Iterator[GradeLimit]:
-    """Yields the limits of a grade on one side, with the given name and sign, in the periods with each value."""
-    (limit, process), (word, sign) = of, side
+    """Yields the limits of a grade on one side, MAX or MIN, in the periods with each value."""
 
     def of_period(period: Period) -> Optional[float]:
         mine = [it for it in period.feed if it.key == limit.key]
-        return getattr(mine[0], word) if mine else None
+        return getattr(mine[0], side) if mine else None
 
-    shown, table = GRADE + "_".join([*limit.words, word]), project.table
+    shown, table = GRADE + "_".join([*limit.words, side]), project.table
     of_codes = {ROCK_TYPE: table.rock_type, DOMAIN: table.domain, CLASS: table.resource_class}
     column = limit.column if limit.code is None else str(of_codes[limit.column])
     by_period = [base if own is None else own for own in map(of_period, project.shells.calendar.listed)] or [base]
@@ -174,4 +173,4 @@ def of_side(
     for grade in grades:
         name = shown if set(by_period) == {grade} else f"{shown}{AT}{grade:.10g}"
         applies = tuple(it == grade for it in by_period)
-        yield GradeLimit(name, shown, process, column, sign, float(grade), applies, limit.code)
+        yield GradeLimit(name, shown, process, column, 1.0 if side == MAX else -1.0, float(grade), applies, limit.code)

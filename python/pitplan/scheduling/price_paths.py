@@ -32,7 +32,7 @@ STEP = 10**6
 Paths = NDArray[np.float64]
 
 
-def prices_of(path: PricePath, start: float, times: NDArray[np.float64], seed: tuple[int, int], count: int) -> Paths:
+def prices_of(path: PricePath, start: float, times: NDArray[np.float64], seed: tuple[int, int], *, count: int) -> Paths:
     """Returns the prices of paths at some times.
 
     Parameters
@@ -106,7 +106,7 @@ class PriceScenarios:
         for number, metal in enumerate(self.project.metals):
             if metal.name in self.rules.metals:
                 path, seed = self.rules.metals[metal.name], (self.rules.seed, number)
-                found[metal.name] = prices_of(path, float(metal.price), self.times, seed, self.rules.count)
+                found[metal.name] = prices_of(path, float(metal.price), self.times, seed, count=self.rules.count)
         return found
 
     @cached_property

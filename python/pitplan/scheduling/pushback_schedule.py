@@ -45,7 +45,7 @@ from .flow.conflicts import Conflict
 from .flow.flows import Flows
 from .flow.mixed_reclaim import loss_by_mixing
 from .flow.model import FlowModel
-from .flow.opening import Lots
+from .flow.opening import OpeningLots
 from .flow.programme import FlowOptimum, FlowProgramme
 from .flow.tables import stockpile_table
 from .limits import Prices, all_limits_of, periods_of
@@ -106,7 +106,7 @@ class PushbackSchedule(Schedule):
         No schedule of these pushbacks has a higher NPV, wherever each block goes.
     prices : dict
         The prices of limits from which it follows.
-    lots : Lots, optional
+    lots : OpeningLots, optional
         What lies on stockpiles at the start; None: nothing.
     milp_upper_bound : float, optional
         What the integer programme had shown by its end that no schedule of these parcels exceeds; None if it was not solved.
@@ -124,7 +124,7 @@ class PushbackSchedule(Schedule):
     milp_upper_bound: Optional[float] = None
     interrupted: bool = False
     prices: Prices = field(default_factory=dict)
-    lots: Optional[Lots] = None
+    lots: Optional[OpeningLots] = None
 
     def __repr__(self) -> str:
         """The methods with their NPVs."""

@@ -232,12 +232,12 @@ def listed(grid: Grid, domains: SlopeDomains, ids: np.ndarray, steps: StepList) 
     clipped = int(np.count_nonzero((beside & below_top)[:, steps.always]))
     there = below_top & ~beside
     if not steps.always.all():
-        there &= ~led_on(grid, domains, ids, steps, there)
+        there &= ~led_on(grid, domains, ids, steps, there=there)
         return packed(there, (z * grid.shape[1] + y) * grid.shape[2] + x), clipped
     return np.where(there, (z * grid.shape[1] + y) * grid.shape[2] + x, ABSENT), clipped
 
 
-def led_on(grid: Grid, domains: SlopeDomains, ids: np.ndarray, steps: StepList, there: np.ndarray) -> np.ndarray:
+def led_on(grid: Grid, domains: SlopeDomains, ids: np.ndarray, steps: StepList, *, there: np.ndarray) -> np.ndarray:
     """Returns whether the slopes of an intermediate block imply a step, which then needs no arc; bool, shape (blocks, steps)."""
     east, north, up = steps.via.T
     way = ids[:, None] + (north - up * grid.shape[1]) * grid.shape[2] + east

@@ -14,6 +14,7 @@ import numpy as np
 from scipy.spatial import ConvexHull, QhullError
 
 from pitplan.config.geometry import DIP, MOST_LEVELS, WALL, SlopeDomain, Slopes
+from pitplan.config.table import BlockSize
 from pitplan.core.tolerances import SLOPE_ERROR, STRICT_SUM_ERROR, SUM_ERROR
 from pitplan.errors import PlanError
 
@@ -206,12 +207,12 @@ def cotangents(angles: Angles, azimuths: np.ndarray) -> np.ndarray:
     return np.interp(np.asarray(azimuths) % 360.0, given, flatness, period=360.0)
 
 
-def cone(angles: Angles, size: tuple[float, float, float], levels: int, widened: float = 1.0) -> np.ndarray:
+def cone(angles: Angles, size: BlockSize, levels: int, widened: float = 1.0) -> np.ndarray:
     """Returns the template of the cone of given angles, up to a number of levels."""
     return within(angles, size, np.arange(levels + 1), widened)
 
 
-def within(angles: Angles, size: tuple[float, float, float], ups: np.ndarray, widened: float = 1.0) -> np.ndarray:
+def within(angles: Angles, size: BlockSize, ups: np.ndarray, widened: float = 1.0) -> np.ndarray:
     """Returns the cells of a cone at given levels, shape (levels, rows, columns), with the block in the middle."""
     dx, dy, dz = size
     reach = int(ups.max()) * dz * widened * float(cotangents(angles, AZIMUTHS).max())
@@ -231,7 +232,7 @@ def offsets_of(cone: np.ndarray) -> tuple[Offset, ...]:
     return tuple((int(east), int(north), int(up)) for east, north, up in steps_of(least(cone)))
 
 
-def wall_angles(offsets: tuple[Offset, ...], size: tuple[float, float, float]) -> np.ndarray:
+def wall_angles(offsets: tuple[Offset, ...], size: BlockSize) -> np.ndarray:
     """Returns the angles in degrees, at each whole azimuth, of high slopes by these steps: those of their convex hull."""
     dx, dy, dz = size
     return angles_of({(x * dx / (up * dz), y * dy / (up * dz)) for x, y, up in offsets})
@@ -261,7 +262,7 @@ def sides_of(points: np.ndarray) -> np.ndarray:
         return round_it
 
 
-def rim_of(cells: np.ndarray, up: int, size: tuple[float, float, float]) -> set[Point]:
+def rim_of(cells: np.ndarray, up: int, size: BlockSize) -> set[Point]:
     """Returns the first and last cell of each row of a level of a cone, in metres east and north per metre up."""
     dx, dy, dz = size
     rows = np.flatnonzero(cells.any(axis=1))
@@ -271,7 +272,7 @@ def rim_of(cells: np.ndarray, up: int, size: tuple[float, float, float]) -> set[
     return {*zip(east[0].tolist(), north.tolist()), *zip(east[1].tolist(), north.tolist())}
 
 
-def angles_of_cone(cone: np.ndarray, size: tuple[float, float, float]) -> np.ndarray:
+def angles_of_cone(cone: np.ndarray, size: BlockSize) -> np.ndarray:
     """Returns the angles in degrees, at each whole azimuth, of high slopes by the steps of a cone."""
     return angles_of(set().union(*(rim_of(cone[up], up, size) for up in range(1, len(cone)))))
 
@@ -285,9 +286,7 @@ def from_grid_north(domain: SlopeDomain, azimuth: float) -> SlopeDomain:
     return domain.with_angles(tuple(sorted(turned)))
 
 
-def pattern_of(
-    asked_domain: SlopeDomain, size: tuple[float, float, float], slopes: Slopes, azimuth: float = 0.0
-) -> Pattern:
+def pattern_of(asked_domain: SlopeDomain, size: BlockSize, slopes: Slopes, azimuth: float = 0.0) -> Pattern:
     """Returns the precedences of one entry of `[[slopes.domains]]` with their slope errors, on a grid whose north has an azimuth.
 
     Parameters
@@ -340,7 +339,7 @@ def pattern_of(
     )
 
 
-def levels_of(domain: SlopeDomain, size: tuple[float, float, float], asked: np.ndarray) -> int:
+def levels_of(domain: SlopeDomain, size: BlockSize, asked: np.ndarray) -> int:
     """Returns the least number of benches, up to MOST_LEVELS, with which no slope error exceeds STEEPER degrees."""
     points: set[Point] = set()
     for levels in range(1, MOST_LEVELS + 1):
@@ -350,7 +349,7 @@ def levels_of(domain: SlopeDomain, size: tuple[float, float, float], asked: np.n
     return MOST_LEVELS
 
 
-def within_most_chosen(domain: SlopeDomain, size: tuple[float, float, float], levels: int) -> int:
+def within_most_chosen(domain: SlopeDomain, size: BlockSize, levels: int) -> int:
     """Returns the greatest number of benches, up to `levels`, over which a block has at most MOST_CHOSEN precedences; at least 1.
 
     Those to a bench do not depend on the benches above it, so they are counted from the lowest bench up.
@@ -359,7 +358,7 @@ def within_most_chosen(domain: SlopeDomain, size: tuple[float, float, float], le
     return levels if len(ups) <= MOST_CHOSEN else max(1, ups[MOST_CHOSEN] - 1)
 
 
-def widening(domain: SlopeDomain, size: tuple[float, float, float], levels: int, asked: np.ndarray) -> float:
+def widening(domain: SlopeDomain, size: BlockSize, levels: int, asked: np.ndarray) -> float:
     """Returns the least factor, to a thousandth, by which the cone is widened so that no slope is steeper than required.
 
     One factor for all azimuths is simple to state and to check, but makes slopes flatter than necessary at some of them.

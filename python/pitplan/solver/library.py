@@ -16,7 +16,7 @@ from pitplan.core.atomic_files import hash_of
 from pitplan.core.libraries import LIBRARY, is_of
 from pitplan.core.revenue_factors import per_mille
 from pitplan.errors import ProgramError
-from pitplan.precedences import Rows
+from pitplan.precedences import PrecedenceRows
 
 from .program import Solution, ended
 
@@ -60,14 +60,14 @@ def identity() -> dict[str, str]:
     return {"version": f"libpitshell {pitshell.__version__}", "sha256": hash_of(pitshell.LIBRARY)}
 
 
-def shells(nodes: tuple[np.ndarray, np.ndarray], rows: Rows, factors: tuple[float, ...]) -> Solution:
+def shells(nodes: tuple[np.ndarray, np.ndarray], rows: PrecedenceRows, factors: tuple[float, ...]) -> Solution:
     """Returns the nested shells.
 
     Parameters
     ----------
     nodes : pair of int64 arrays, shape (nodes,)
         Revenue and cost of each node in millionths.
-    rows : Rows
+    rows : PrecedenceRows
         The precedences.
     factors : tuple of float
         Revenue factors, rising.
@@ -88,14 +88,14 @@ def shells(nodes: tuple[np.ndarray, np.ndarray], rows: Rows, factors: tuple[floa
     )
 
 
-def pit(values: np.ndarray, rows: Rows, fixed: np.ndarray, factor: float) -> Solution:
+def pit(values: np.ndarray, rows: PrecedenceRows, fixed: np.ndarray, factor: float) -> Solution:
     """Returns the pit of one revenue factor.
 
     Parameters
     ----------
     values : int64 array, shape (nodes,)
         Value of each node in billionths.
-    rows : Rows
+    rows : PrecedenceRows
         The precedences.
     fixed : uint8 array, shape (nodes,)
         1: must-mine, 2: excluded, 0: neither.

@@ -25,7 +25,7 @@ from pitplan.core.revenue_factors import PER_MILLE, factor_text, per_mille
 from pitplan.economics.block_values import Values
 from pitplan.errors import PlanError
 from pitplan.plan import Plan
-from pitplan.precedences import MOST_PAIRS, Pairs, Precedences, Rows, rows_of
+from pitplan.precedences import MOST_PAIRS, Pairs, PrecedenceRows, Precedences, rows_of
 from pitplan.solver import mine_files
 
 from . import library, program
@@ -82,11 +82,11 @@ class MineInArrays:
 
     plan: Plan
     solver: Solver
-    rows: Rows
+    rows: PrecedenceRows
     pairs: Pairs
 
     @cached_property
-    def rows_of_rest(self) -> Rows:
+    def rows_of_rest(self) -> PrecedenceRows:
         return self.rows if self.plan.settled is None else counted_rows(self.plan.precedences_of_rest, self.plan)[0]
 
     def shells(self, factors: tuple[float, ...]) -> Solution:
@@ -114,7 +114,7 @@ def ready(plan: Plan, solver: Solver, folder: Path) -> Mine:
     return MineInFiles(plan, solver, mine_files.write(plan, folder), folder)
 
 
-def counted_rows(precedences: Precedences, plan: Plan) -> tuple[Rows, Pairs]:
+def counted_rows(precedences: Precedences, plan: Plan) -> tuple[PrecedenceRows, Pairs]:
     rows, pairs = rows_of(precedences, MOST_PAIRS)
     plan.demand_few(pairs)
     return rows, pairs

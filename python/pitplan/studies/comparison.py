@@ -33,7 +33,7 @@ MADE_BY = {SHELLS: "pitplan shells", SCHEDULE: "pitplan schedule", BLOCK: "pitpl
 
 
 @dataclass(frozen=True)
-class Run:
+class ComparedRun:
     """A run.
 
     Attributes
@@ -119,7 +119,7 @@ class Run:
                 raise PlanError(f"{path}: {why}: run {self.folder} again, or compare with --no-bridge")
 
 
-def read_runs(folders: Sequence[Path]) -> list[Run]:
+def read_runs(folders: Sequence[Path]) -> list[ComparedRun]:
     """Reads runs of one kind; the first one is the base.
 
     Raises
@@ -133,7 +133,7 @@ def read_runs(folders: Sequence[Path]) -> list[Run]:
             record = read_record(folder)
             if "shells" not in record or "pushbacks" in record and "schedule" not in record:
                 raise PlanError(f"{folder}: found no shells or schedule, expected {EXPECTED}")
-            found.append(Run(name, folder, record, project_writer.as_run(folder, record["project"])))
+            found.append(ComparedRun(name, folder, record, project_writer.as_run(folder, record["project"])))
         except OSError as error:
             raise PlanError(f"{error.filename}: cannot be read: expected {EXPECTED}") from error
     base = found[0]
@@ -167,7 +167,7 @@ NAME = "name"
 
 
 @dataclass(frozen=True)
-class Change:
+class KeyChange:
     """A key whose values differ.
 
     Attributes
@@ -236,7 +236,7 @@ def text_of(value: Any) -> str:
     return "" if value is None else shown(value)
 
 
-def data_of(run: Run, base: Run, folder: Path) -> Data:
+def data_of(run: ComparedRun, base: ComparedRun, folder: Path) -> Data:
     """Returns the sections of a run's project as parsed TOML, with paths relative to a folder. A file with the content of one of the base has
     the path of that one."""
     alike = {digest: place(base.project.path.parent / name, folder) for name, digest in base.record["inputs"].items()}
@@ -259,14 +259,14 @@ def project_of(data: Data, folder: Path, path: Path) -> Project:
     return of_data(data, folder / "project.toml", str(path))
 
 
-def common_folder(runs: Sequence[Run]) -> Path:
+def common_folder(runs: Sequence[ComparedRun]) -> Path:
     """Returns a folder from which the inputs of all projects can be named."""
     return Path(os.path.commonpath([str(run.project.path.resolve().parent) for run in runs]))
 
 
-def changes(base: Data, other: Data) -> list[Change]:
+def changes(base: Data, other: Data) -> list[KeyChange]:
     """Returns the keys whose values differ, in the order of sections, those of the base first."""
-    found: list[Change] = []
+    found: list[KeyChange] = []
     for section in dict.fromkeys([*base, *other]):
         one, two = base.get(section), other.get(section)
         if one == two:
@@ -274,9 +274,9 @@ def changes(base: Data, other: Data) -> list[Change]:
         if one is not None and two is not None and is_named(one) and is_named(two):
             found += of_entries(section, one, two)
         elif isinstance(one, dict) and isinstance(two, dict):
-            found += [Change((section, key), a, b) for key, a, b in of_keys(one, two)]
+            found += [KeyChange((section, key), a, b) for key, a, b in of_keys(one, two)]
         else:
-            found.append(Change((section,), one, two))
+            found.append(KeyChange((section,), one, two))
     return found
 
 
@@ -285,17 +285,17 @@ def is_named(value: Any) -> bool:
     return isinstance(value, list) and bool(value) and all(isinstance(it, dict) and NAME in it for it in value)
 
 
-def of_entries(section: str, one: list[Data], two: list[Data]) -> Iterator[Change]:
+def of_entries(section: str, one: list[Data], two: list[Data]) -> Iterator[KeyChange]:
     """Yields the differences of two lists of named sections; if only their order differs, the lists."""
     base, other = ({str(it[NAME]): it for it in entries} for entries in (one, two))
     if base == other:
-        yield Change((section,), one, two)
+        yield KeyChange((section,), one, two)
         return
     for name in dict.fromkeys([*base, *other]):
         if name in base and name in other:
-            yield from (Change((section, name, key), a, b) for key, a, b in of_keys(base[name], other[name]))
+            yield from (KeyChange((section, name, key), a, b) for key, a, b in of_keys(base[name], other[name]))
         else:
-            yield Change((section, name), base.get(name), other.get(name))
+            yield KeyChange((section, name), base.get(name), other.get(name))
 
 
 def of_keys(one: Data, two: Data) -> Iterator[tuple[str, Any, Any]]:
@@ -309,7 +309,7 @@ Npv = Callable[[Project], float]
 
 
 @dataclass(frozen=True)
-class Step:
+class BridgeStep:
     """A step of the bridge.
 
     Attributes
@@ -327,7 +327,7 @@ class Step:
     change: float
 
 
-def bridge(base: Run, other: Run, npv: Npv, progress: Progress = silent) -> list[Step]:
+def bridge(base: ComparedRun, other: ComparedRun, npv: Npv, progress: Progress = silent) -> list[BridgeStep]:
     """Returns the steps from a run to another. The NPVs at both ends are those of the runs; `npv` makes the run of a step.
 
     The order is that of the sections of a project. Another order divides the difference in another way, since inputs act together.
@@ -355,7 +355,7 @@ class Trial:
     npv: Npv
     progress: Progress
 
-    def with_changes(self, asked: list[Change]) -> float:
+    def with_changes(self, asked: list[KeyChange]) -> float:
         """Applies changes and returns the NPV. Raises PlanError, with nothing applied, if the project is not valid or has no plan."""
         data = self.data
         for change in asked:
@@ -365,10 +365,10 @@ class Trial:
         return found
 
 
-def steps_of(base: Run, other: Run, asked: list[Change], trial: Trial) -> list[Step]:
+def steps_of(base: ComparedRun, other: ComparedRun, asked: list[KeyChange], trial: Trial) -> list[BridgeStep]:
     """Returns the steps. What is not valid alone is joined with the next change; the last step ends at the other run."""
-    found: list[Step] = []
-    pending: list[Change] = []
+    found: list[BridgeStep] = []
+    pending: list[KeyChange] = []
     npv = base.npv
     for number, change in enumerate(asked, 1):
         pending.append(change)
@@ -382,7 +382,7 @@ def steps_of(base: Run, other: Run, asked: list[Change], trial: Trial) -> list[S
                     continue
         else:
             then = other.npv
-        found.append(Step(tuple(it.key for it in pending), then, then - npv))
+        found.append(BridgeStep(tuple(it.key for it in pending), then, then - npv))
         npv, pending = then, []
     return found
 
@@ -397,7 +397,7 @@ RESULTS = (
 )
 
 
-def inputs(runs: Sequence[Run]) -> pd.DataFrame:
+def inputs(runs: Sequence[ComparedRun]) -> pd.DataFrame:
     """Returns one row per run after the first and key whose value differs. Columns: run, key, base and value as in a project.toml."""
     base, rows = runs[0], []
     folder = common_folder(runs)
@@ -409,7 +409,7 @@ def inputs(runs: Sequence[Run]) -> pd.DataFrame:
     return pd.DataFrame(rows, columns=["run", "key", "base", "value"])
 
 
-def files(base: Run, run: Run) -> list[tuple[str, str, str]]:
+def files(base: ComparedRun, run: ComparedRun) -> list[tuple[str, str, str]]:
     """Returns the input files of one name and other content: the name, and both hashes. The projects themselves are compared by key."""
     one, two = ({str(path.resolve()): name for name, path in it.project.named_inputs.items()} for it in (base, run))
     found = []
@@ -420,7 +420,7 @@ def files(base: Run, run: Run) -> list[tuple[str, str, str]]:
     return found
 
 
-def results(runs: Sequence[Run]) -> pd.DataFrame:
+def results(runs: Sequence[ComparedRun]) -> pd.DataFrame:
     """Returns one row per run: NPVs and the amounts of the selected shell or the shown method, and `npv_change` from the first run."""
     rows = []
     for run in runs:
@@ -435,7 +435,7 @@ def is_of_metal(name: str) -> bool:
     return name.startswith(("head_grade_", "recovered_"))
 
 
-def periods(runs: Sequence[Run]) -> pd.DataFrame:
+def periods(runs: Sequence[ComparedRun]) -> pd.DataFrame:
     """Returns one row per run and period: tonnes, head grades of schedules, metal and cash flows, each with `_change` from the first run.
 
     A period in which a run does nothing has zeros if another run has it. Changes are empty if the periods of some run end at other times.
@@ -453,13 +453,13 @@ def periods(runs: Sequence[Run]) -> pd.DataFrame:
     return found.rename(columns={"year": PERIOD}) if any(run.word == PERIOD for run in runs) else found
 
 
-def has_periods_of(run: Run, base: Run, count: int) -> bool:
+def has_periods_of(run: ComparedRun, base: ComparedRun, count: int) -> bool:
     """Returns whether the periods of two runs end at the same times."""
     ends = [it.project.shells.calendar.ends(count) for it in (run, base)]
     return bool((ends[0] == ends[1]).all())
 
 
-def of_run(run: Run, count: int) -> pd.DataFrame:
+def of_run(run: ComparedRun, count: int) -> pd.DataFrame:
     index = pd.RangeIndex(1, count + 1, name="year")
     years = run.years.set_index("year")
     metals = [name for name in years if str(name).startswith("recovered_")]
@@ -470,7 +470,7 @@ def of_run(run: Run, count: int) -> pd.DataFrame:
     return table.reset_index()
 
 
-def head_grades(run: Run, index: pd.RangeIndex) -> dict[str, pd.Series]:
+def head_grades(run: ComparedRun, index: pd.RangeIndex) -> dict[str, pd.Series]:
     """Returns the mean head grade of all feed by metal and period; nan without feed."""
     if run.feed is None:
         return {}
@@ -482,7 +482,7 @@ def head_grades(run: Run, index: pd.RangeIndex) -> dict[str, pd.Series]:
     return found
 
 
-def bridges(base: Run, found: dict[str, list[Step]]) -> pd.DataFrame:
+def bridges(base: ComparedRun, found: dict[str, list[BridgeStep]]) -> pd.DataFrame:
     """Returns one row per run and step. Columns: run, step from 0 (the first run), key (several with commas), npv, and npv_change."""
     rows = []
     for name, steps in found.items():

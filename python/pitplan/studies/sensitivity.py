@@ -356,7 +356,7 @@ def cases_of(rules: SensitivityRules) -> list[Case]:
 
 
 @dataclass(frozen=True)
-class Asked:
+class SensitivityInput:
     """The common input of all cases: project, with the revenue factors up to the selected one, table, solver, and the base case once it is
     solved."""
 
@@ -374,7 +374,7 @@ def demand_whole(plan: Plan) -> None:
 
 
 def answer_all(
-    missing: dict[Case, Path], asked: Asked, where: dask_pool.Where | None, progress: Progress = silent
+    missing: dict[Case, Path], asked: SensitivityInput, where: dask_pool.Where | None, progress: Progress = silent
 ) -> None:
     """Solves these cases, as many at the same time as there are processors or where Dask solves, and writes each result to its path."""
     if where is not None and missing:
@@ -416,7 +416,7 @@ def solve(project: Project, folder: Path, where: dask_pool.Where | None, progres
     demand_whole(plan)
     factor = Shells.solved(plan).selected
     lower = tuple(it for it in project.shells.revenue_factors if it <= factor)
-    asked = Asked(with_factors(project, lower), table, found_by)
+    asked = SensitivityInput(with_factors(project, lower), table, found_by)
     rules = rules_of(project)
     begun = {
         "project": project.to_toml(),
@@ -444,12 +444,12 @@ def solve(project: Project, folder: Path, where: dask_pool.Where | None, progres
     )
 
 
-def answer(case: Case, asked: Asked, path: Path) -> None:
+def answer(case: Case, asked: SensitivityInput, path: Path) -> None:
     """Solves a case and writes its result."""
     write(path, find(case, asked))
 
 
-def over_dask(missing: dict[Case, Path], asked: Asked, where: dask_pool.Where, progress: Progress) -> None:
+def over_dask(missing: dict[Case, Path], asked: SensitivityInput, where: dask_pool.Where, progress: Progress) -> None:
     """Solves each case as a Dask task, which is repeated if its worker is lost. Raises PlanError as the case does."""
     distributed = load("distributed", dask_pool.PACKAGE, "sensitivity --on local or a Dask scheduler")
     with progress.step(f"solving {len(missing):,} cases"), dask_pool.client_of(distributed, where) as client:
@@ -462,7 +462,7 @@ def over_dask(missing: dict[Case, Path], asked: Asked, where: dask_pool.Where, p
             task.result()
 
 
-def find(case: Case, asked: Asked) -> Found:
+def find(case: Case, asked: SensitivityInput) -> Found:
     """Returns the pit of a case, and the values of the base case's pit in it. Raises ProgramError if the solver here is another one."""
     solver.demand_same(asked.solver)
     rules = rules_of(asked.project)

@@ -14,6 +14,8 @@ from pitplan.errors import PlanError
 
 from .layers import Layer
 
+# Least x and greatest, least y and greatest, in metres.
+MapBox = tuple[float, float, float, float]
 PACKAGE = "python3-gdal"
 # The driver of each ending.
 MAPS = {".gpkg": "GPKG", ".shp": "ESRI Shapefile", ".geojson": "GeoJSON", ".json": "GeoJSON"}
@@ -115,7 +117,7 @@ def places_of(geometry: Any, height: Optional[float]) -> np.ndarray:
     return places[:, :3] if places.shape[1] > 2 and height is None else np.column_stack([places[:, :2], z])
 
 
-def raster(path: Path, around: tuple[float, float, float, float]) -> tuple[np.ndarray, np.ndarray]:
+def raster(path: Path, around: MapBox) -> tuple[np.ndarray, np.ndarray]:
     """The middles x, y, z of a raster's cells with a height, shape (some, 3), and the triangles between them, three numbers of middles
     each: a square of four is cut from its first corner, the north-west, to the opposite. Both are of the part round a box, of least and
     greatest x and least and greatest y in metres.
@@ -149,9 +151,7 @@ def at(place: tuple[float, ...], column: Any, row: Any) -> tuple[Any, Any]:
     return place[0] + column * place[1] + row * place[2], place[3] + column * place[4] + row * place[5]
 
 
-def window(
-    place: tuple[float, ...], around: tuple[float, float, float, float], size: tuple[int, int]
-) -> tuple[int, int, int, int]:
+def window(place: tuple[float, ...], around: MapBox, size: tuple[int, int]) -> tuple[int, int, int, int]:
     """The first column and row of a raster, and how many, that reach round a box, two cells beyond it."""
     turn = np.linalg.inv(np.array([[place[1], place[2]], [place[4], place[5]]]))
     corners = np.array([(x - place[0], y - place[3]) for x in around[:2] for y in around[2:]]) @ turn.T

@@ -20,6 +20,7 @@ from pitplan.core.text_tables import Fields, TableFormat, demand_columns, guesse
 from pitplan.errors import PlanError
 
 from . import dxf, gdal, surpac
+from .gdal import MapBox
 from .layers import Layer, chosen, named
 
 TABLES = (".csv", ".txt", ".dat", ".xyz", ".gz", ".zip")
@@ -27,8 +28,6 @@ DRAWING, STRINGS = ".dxf", ".str"
 READERS = {DRAWING: "ezdxf", STRINGS: "pitplan"}
 HEIGHTS, CLOSED = "points, lines with heights or 3D faces", "polygons or closed lines"
 NO_FACES = np.zeros((0, 3), dtype=np.int64)
-# Least x and greatest, least y and greatest, in metres.
-Box = tuple[float, float, float, float]
 
 
 @dataclass(frozen=True)
@@ -54,7 +53,7 @@ class Areas:
     notes: tuple[str, ...] = ()
 
 
-def topography(file: SurveyFile, around: Box) -> Topography:
+def topography(file: SurveyFile, around: MapBox) -> Topography:
     """The heights of a file; of a raster those round a box.
 
     Raises PlanError, with the file and its layer, where it cannot be read or has no heights, and MissingPackage, with the Debian package,

@@ -28,7 +28,7 @@ from pitplan.results.names import RECORD
 from pitplan.results.rounding import unit_in
 from pitplan.survey import readers
 
-from .kept import Kept
+from .kept import FileCache
 
 # Whole numbers from 1 that have a colour each, 0 being none; the colour map of each.
 STAGES = {"pushback": "viridis_r", "year": "plasma_r", "period": "plasma_r"}
@@ -249,7 +249,7 @@ class Store:
     """The models that were asked for last: a page asks for each column by itself."""
 
     def __init__(self) -> None:
-        self.lock, self.kept = threading.Lock(), Kept[Blocks](KEPT)
+        self.lock, self.kept = threading.Lock(), FileCache[Blocks](KEPT)
 
     def of(self, path: Path) -> Blocks:
         """Returns the blocks of an output folder or of a project. Raises PlanError if they cannot be read or are too many."""

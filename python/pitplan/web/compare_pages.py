@@ -11,7 +11,7 @@ from starlette.routing import Route
 from pitplan.results import names
 
 from .pages import Pages, form_of
-from .run_form import Asked, WrongForm, plain
+from .run_form import AskedCommand, WrongForm, plain
 from .workspace import Result, Workspace
 
 # How the names of the fields begin that choose runs, each with the folder as its value.
@@ -24,7 +24,7 @@ def comparable(workspace: Workspace) -> list[Result]:
     return [it for it in workspace.results() if (workspace.root / it.name / names.RECORD).is_file()]
 
 
-def read(form: Mapping[str, str], workspace: Workspace) -> Asked:
+def read(form: Mapping[str, str], workspace: Workspace) -> AskedCommand:
     """Returns the command of a form.
 
     Raises
@@ -55,7 +55,7 @@ def read(form: Mapping[str, str], workspace: Workspace) -> Asked:
         raise WrongForm(f"Output folder: {given}: is a file or one of the runs: give another name")
     folder = plain(workspace.name(path))
     words = ("compare", *folders, f"--out={folder}", *(() if form.get(BRIDGE) == "on" else ("--no-bridge",)))
-    return Asked(words, "", folder)
+    return AskedCommand(words, "", folder)
 
 
 class ComparePages:

@@ -16,7 +16,7 @@ from pitplan.errors import PlanError
 from . import project_text, values_form
 from .pages import Pages, form_of
 from .project_text import Changed, Editor
-from .values_form import Values
+from .values_form import FormValues
 from .workspace import NotThere
 
 # A letter of the text has up to twelve in the form.
@@ -88,7 +88,7 @@ class EditPages:
             text = values_form.changed(editor.text, before, after)
             project_text.save(path, name, project_text.demanded(Editor(text, form.get("seen", "")), path, name))
         except PlanError as error:
-            values = Values(after, wrong=str(error), form=form.get("form", "values"))
+            values = FormValues(after, wrong=str(error), form=form.get("form", "values"))
             status = 409 if isinstance(error, Changed) else 422
             return self.pages.project_page(name, replace(editor, seen=form.get("seen", "")), status, values)
         shown = "schedule" if form.get("form") == "schedule" else "values"

@@ -34,7 +34,7 @@ Pairs = Sequence[tuple[str, ...]]
 
 
 @dataclass(frozen=True)
-class Column:
+class GridColumn:
     """A column of a grid.
 
     Attributes
@@ -64,7 +64,7 @@ class Column:
 
 
 @dataclass(frozen=True)
-class Kind:
+class GridKind:
     """A list of sections that a grid shows.
 
     Attributes
@@ -85,27 +85,31 @@ class Kind:
 KINDS = {
     it.name: it
     for it in (
-        Kind("metals", "metals", "Metals", "Metal", "Grade columns, prices, selling costs and recoveries"),
-        Kind("processes", "processes", "Processes", "Process", "Costs, recoveries, capacities and accepted ore"),
-        Kind("stockpiles", "schedule.stockpiles", "Stockpiles", "Stockpile", "Costs, capacities and accepted ore"),
-        Kind("dumps", "dumps", "Dumps", "Dump", "Costs, capacities and accepted waste"),
-        Kind("periods", "periods", "Periods", "Period", "Capacities, prices, costs and minimums that differ by period"),
-        Kind(CLASSES, CLASSES, "Resource classes", "Class", "Which classes may be ore; inferred is waste by default"),
-        Kind("slopes", "slopes.domains", "Slopes", "Slope domain", "Slope angles by domain and azimuth"),
-        Kind("areas", "constraints.areas", "Areas", "Area", "Polygons in or outside which nothing is mined"),
+        GridKind("metals", "metals", "Metals", "Metal", "Grade columns, prices, selling costs and recoveries"),
+        GridKind("processes", "processes", "Processes", "Process", "Costs, recoveries, capacities and accepted ore"),
+        GridKind("stockpiles", "schedule.stockpiles", "Stockpiles", "Stockpile", "Costs, capacities and accepted ore"),
+        GridKind("dumps", "dumps", "Dumps", "Dump", "Costs, capacities and accepted waste"),
+        GridKind(
+            "periods", "periods", "Periods", "Period", "Capacities, prices, costs and minimums that differ by period"
+        ),
+        GridKind(
+            CLASSES, CLASSES, "Resource classes", "Class", "Which classes may be ore; inferred is waste by default"
+        ),
+        GridKind("slopes", "slopes.domains", "Slopes", "Slope domain", "Slope angles by domain and azimuth"),
+        GridKind("areas", "constraints.areas", "Areas", "Area", "Polygons in or outside which nothing is mined"),
     )
 }
 
 
-def columns_of(kind: str, project: Project, entries: Sequence[Entry]) -> list[Column]:
+def columns_of(kind: str, project: Project, entries: Sequence[Entry]) -> list[GridColumn]:
     """Returns the columns of a grid: those that planners use, and those of all keys that its entries have."""
     columns = [column for it in declared(kind, project) for column in expanded(it, entries)]
     known = {it.path for it in columns}
     more = [path for entry in entries for path in leaves(entry) if path not in known]
-    return [*columns, *(Column(path, " ".join(path), "", VALUE) for path in dict.fromkeys(more))]
+    return [*columns, *(GridColumn(path, " ".join(path), "", VALUE) for path in dict.fromkeys(more))]
 
 
-def expanded(column: Column, entries: Sequence[Entry]) -> list[Column]:
+def expanded(column: GridColumn, entries: Sequence[Entry]) -> list[GridColumn]:
     """Returns a column, and one for each key of the tables that entries have in its place."""
     values = [at(entry, column.path) for entry in entries]
     keys = dict.fromkeys(key for value in values if isinstance(value, dict) for key in value)
@@ -123,12 +127,12 @@ def leaves(entry: Entry, path: tuple[str, ...] = ()) -> list[tuple[str, ...]]:
     return found
 
 
-def declared(kind: str, project: Project) -> Iterator[Column]:
+def declared(kind: str, project: Project) -> Iterator[GridColumn]:
     """Yields the columns of all keys that an entry may have; of keys by name a column for each name that the project has."""
     if kind == CLASSES:
         column = project.table.resource_class or "the column [table] class"
-        yield Column(("class",), "Class", f"code in {column}", TEXT)
-        yield Column(("rule",), "Rule", "", CHOICE, TREATMENTS)
+        yield GridColumn(("class",), "Class", f"code in {column}", TEXT)
+        yield GridColumn(("rule",), "Rule", "", CHOICE, TREATMENTS)
         return
     keys = keys_of(record_at(KINDS[kind].header))
     # The name is the first column of each grid.
@@ -137,66 +141,66 @@ def declared(kind: str, project: Project) -> Iterator[Column]:
             yield from of_key(key, it, project)
 
 
-def of_key(key: str, it: Key, project: Project) -> Iterator[Column]:
+def of_key(key: str, it: Key, project: Project) -> Iterator[GridColumn]:
     currency = project.economics.currency
     if key in NAMED and it.kind.schema.get("type") == "object":
         yield from NAMED[key](key, it, project)
     elif it.kind.record is None:
         is_shown = not it.is_seldom and it.kind.type != VALUE
-        yield Column((key,), it.label, it.unit_of(currency, "unit"), it.kind.type, it.kind.options, is_shown)
+        yield GridColumn((key,), it.label, it.unit_of(currency, "unit"), it.kind.type, it.kind.options, is_shown)
     elif it.kind.schema["type"] != "array":
         for inner, within in keys_of(it.kind.record).items():
             if within.kind.record is None:
                 unit = within.unit_of(currency, "unit")
-                yield Column((key, inner), within.label, unit, within.kind.type, is_shown=False)
+                yield GridColumn((key, inner), within.label, unit, within.kind.type, is_shown=False)
 
 
-def by_metal(key: str, it: Key, project: Project) -> Iterator[Column]:
+def by_metal(key: str, it: Key, project: Project) -> Iterator[GridColumn]:
     """A column per metal, with the unit of its prices."""
     for metal in project.metals:
         unit = it.unit_of(project.economics.currency, metal.price_unit)
-        yield Column((key, metal.name), f"{it.label} of {metal.name}", unit, is_shown=not it.is_seldom)
+        yield GridColumn((key, metal.name), f"{it.label} of {metal.name}", unit, is_shown=not it.is_seldom)
 
 
-def by_process(key: str, it: Key, project: Project) -> Iterator[Column]:
+def by_process(key: str, it: Key, project: Project) -> Iterator[GridColumn]:
     for process in project.processes:
-        yield Column((key, process.name), f"{it.label} of {process.name}", it.unit_of())
+        yield GridColumn((key, process.name), f"{it.label} of {process.name}", it.unit_of())
 
 
-def minimums(key: str, it: Key, project: Project) -> Iterator[Column]:
+def minimums(key: str, it: Key, project: Project) -> Iterator[GridColumn]:
     names = [*(metal.name for metal in project.metals), *(process.name for process in project.processes)]
     for name in dict.fromkeys(["feed", "total", *names]):
-        yield Column((key, name), f"{it.label} {name}", it.unit_of(), is_shown=False)
+        yield GridColumn((key, name), f"{it.label} {name}", it.unit_of(), is_shown=False)
 
 
-def limits(key: str, names: Sequence[str], label: str, unit: str) -> Iterator[Column]:
+def limits(key: str, names: Sequence[str], label: str, unit: str) -> Iterator[GridColumn]:
     for name in dict.fromkeys(names):
         for side in SIDES:
-            yield Column((key, name, side), f"{label} {name}, {side}", unit, is_shown=False)
+            yield GridColumn((key, name, side), f"{label} {name}, {side}", unit, is_shown=False)
 
 
-def of_feed(key: str, it: Key, project: Project) -> Iterator[Column]:
+def of_feed(key: str, it: Key, project: Project) -> Iterator[GridColumn]:
     names = [*(metal.column for metal in project.metals), *project.graded_columns]
     return limits(key, names, "Head grade", "unit of grade")
 
 
-def of_accepts(key: str, it: Key, project: Project) -> Iterator[Column]:
+def of_accepts(key: str, it: Key, project: Project) -> Iterator[GridColumn]:
     for code, column in project.table.by_code.items():
         is_shown = code == ROCK_TYPE and bool(column)
-        yield Column((key, code), f"Accepts {code.replace('_', ' ')}", "codes, by commas", LIST, is_shown=is_shown)
+        yield GridColumn((key, code), f"Accepts {code.replace('_', ' ')}", "codes, by commas", LIST, is_shown=is_shown)
     for metal in project.metals:
         yield from limits(key, [metal.column], "Accepts", metal.sign)
 
 
-def of_opening(key: str, it: Key, project: Project) -> Iterator[Column]:
-    yield Column((key, "tonnes"), "Opening balance", "t of feed", is_shown=False)
+def of_opening(key: str, it: Key, project: Project) -> Iterator[GridColumn]:
+    yield GridColumn((key, "tonnes"), "Opening balance", "t of feed", is_shown=False)
     for metal in project.metals:
-        yield Column((key, metal.column), f"Opening {metal.column}", metal.sign, is_shown=False)
+        yield GridColumn((key, metal.column), f"Opening {metal.column}", metal.sign, is_shown=False)
     for code in CODES:
-        yield Column((key, code), f"Opening {code.replace('_', ' ')}", "code", TEXT, is_shown=False)
+        yield GridColumn((key, code), f"Opening {code.replace('_', ' ')}", "code", TEXT, is_shown=False)
 
 
-def of_places(key: str, it: Key, project: Project) -> Iterator[Column]:
+def of_places(key: str, it: Key, project: Project) -> Iterator[GridColumn]:
     """Limits of stockpiles or dumps by their names."""
     piles = project.schedule.stockpiles if project.schedule else ()
     names = [it.name for it in project.dumps] if key == "dumps" else [it.name for it in piles]
@@ -218,7 +222,7 @@ NAMED = {
 
 
 @dataclass(frozen=True)
-class Row:
+class GridRow:
     """A row of a grid: the place of its entry in the file, from 0, None for a new one; and the texts of its cells."""
 
     source: Optional[int]
@@ -230,23 +234,23 @@ class Row:
 
 
 @dataclass(frozen=True)
-class Grid:
+class FormGrid:
     """A grid.
 
     Attributes
     ----------
-    kind : Kind
-    columns : list of Column
-    rows : list of Row
+    kind : GridKind
+    columns : list of GridColumn
+    rows : list of GridRow
     why_not : str
         Why it cannot be changed; empty if it can.
     wrong, said : str
         What is wrong, and what was done.
     """
 
-    kind: Kind
-    columns: list[Column]
-    rows: list[Row]
+    kind: GridKind
+    columns: list[GridColumn]
+    rows: list[GridRow]
     why_not: str = ""
     wrong: str = ""
     said: str = ""
@@ -257,29 +261,29 @@ class Grid:
         return [it.is_shown or any(row.cells[k] for row in self.rows) for k, it in enumerate(self.columns)]
 
     @property
-    def further(self) -> list[Column]:
+    def further(self) -> list[GridColumn]:
         """The columns that are not shown."""
         return [column for column, is_used in zip(self.columns, self.is_used) if not is_used]
 
 
-def grids_of(text: str, project: Project) -> dict[str, Grid]:
+def grids_of(text: str, project: Project) -> dict[str, FormGrid]:
     data, headers = toml_text.parsed(text, str(project.path)), {it.name for it in entries(text) if it.is_header}
     return {name: grid_of(kind, headers, data, project) for name, kind in KINDS.items()}
 
 
-def grid_of(kind: Kind, headers: set[str], data: Mapping[str, Any], project: Project) -> Grid:
+def grid_of(kind: GridKind, headers: set[str], data: Mapping[str, Any], project: Project) -> FormGrid:
     """Returns a grid of a project's text with these headers."""
     found = at(data, kind.header.split("."))
     listed = rules_in(data) if kind.name == CLASSES else found if isinstance(found, list) else []
     columns = columns_of(kind.name, project, listed)
-    rows = [Row(k, tuple(shown(at(entry, it.path), it) for it in columns)) for k, entry in enumerate(listed)]
+    rows = [GridRow(k, tuple(shown(at(entry, it.path), it) for it in columns)) for k, entry in enumerate(listed)]
     if kind.name == CLASSES:
         none = "The project names no column of resource classes: add class to [table]"
-        return Grid(kind, columns, rows, "" if project.table.resource_class else none)
-    return Grid(kind, columns, rows, why_not(kind, headers, data))
+        return FormGrid(kind, columns, rows, "" if project.table.resource_class else none)
+    return FormGrid(kind, columns, rows, why_not(kind, headers, data))
 
 
-def why_not(kind: Kind, headers: set[str], data: Mapping[str, Any]) -> str:
+def why_not(kind: GridKind, headers: set[str], data: Mapping[str, Any]) -> str:
     """Returns why a list cannot be changed as a grid; empty if it can."""
     found = at(data, kind.header.split("."))
     if isinstance(found, str):
@@ -291,7 +295,7 @@ def why_not(kind: Kind, headers: set[str], data: Mapping[str, Any]) -> str:
     return ""
 
 
-def shown(value: Any, column: Column) -> str:
+def shown(value: Any, column: GridColumn) -> str:
     """Returns a value as a cell has it."""
     if value is None or isinstance(value, dict):
         return ""
@@ -302,7 +306,7 @@ def shown(value: Any, column: Column) -> str:
     return toml_of(value)
 
 
-def typed(grid: Grid, form: Mapping[str, str]) -> Grid:
+def typed(grid: FormGrid, form: Mapping[str, str]) -> FormGrid:
     """Returns a grid with the rows of a form, without new rows that are empty. Raises WrongForm if they are too many."""
     numbers = sorted(int(name[len(ROW) :]) for name in form if re.fullmatch(re.escape(ROW) + r"\d{1,6}", name))
     if len(numbers) > MOST_ROWS:
@@ -313,11 +317,11 @@ def typed(grid: Grid, form: Mapping[str, str]) -> Grid:
         known = int(source) if source.isascii() and source.isdigit() and int(source) < len(grid.rows) else None
         before = grid.rows[known].cells if known is not None else ("",) * len(grid.columns)
         cells = [form.get(f"{CELL}{number}:{k}", before[k]).strip() for k in range(len(grid.columns))]
-        rows.append(Row(known, tuple(cells)))
+        rows.append(GridRow(known, tuple(cells)))
     return replace(grid, rows=[row for row in rows if not row.is_empty])
 
 
-def value_of(text: str, column: Column, where: str) -> str:
+def value_of(text: str, column: GridColumn, where: str) -> str:
     """Returns the text of a cell as TOML has it. Raises WrongForm if it cannot be one, with the column and the remedy."""
     if len(text) > MOST_LETTERS:
         raise WrongForm(f"{where}: found {len(text):,} letters, expected at most {MOST_LETTERS:,}")
@@ -340,25 +344,25 @@ def value_of(text: str, column: Column, where: str) -> str:
 
 
 @dataclass(frozen=True)
-class Change:
+class ValueChange:
     """A value of a key, None to remove it."""
 
     path: tuple[str, ...]
     value: Optional[str]
 
 
-def changes_of(grid: Grid, row: Row, number: int, before: Sequence[str]) -> list[Change]:
+def changes_of(grid: FormGrid, row: GridRow, number: int, before: Sequence[str]) -> list[ValueChange]:
     """Returns the cells of a row that differ. Raises WrongForm if one is wrong."""
     found = []
     for column, old, new in zip(grid.columns, before, row.cells):
         if new != old:
             where = f"{grid.kind.title}, row {number}, {column.label}"
-            found.append(Change(column.path, value_of(new, column, where) if new else None))
+            found.append(ValueChange(column.path, value_of(new, column, where) if new else None))
     # Removed keys first: a number may take the place of a table.
     return sorted(found, key=lambda it: it.value is not None)
 
 
-def changed(text: str, before: Grid, after: Grid, name: str) -> str:
+def changed(text: str, before: FormGrid, after: FormGrid, name: str) -> str:
     """Returns a text with the rows of a grid as a form has them; all else in it stays.
 
     Raises
@@ -395,11 +399,11 @@ def changed(text: str, before: Grid, after: Grid, name: str) -> str:
     return draft.text
 
 
-def path_of(kind: Kind) -> Path:
+def path_of(kind: GridKind) -> Path:
     return tuple(kind.header.split("."))
 
 
-def change(draft: Draft, path: Path, it: Change) -> None:
+def change(draft: Draft, path: Path, it: ValueChange) -> None:
     if it.value is None:
         draft.remove(path)
     else:

@@ -22,7 +22,7 @@ from .run_form import WrongForm
 
 # The modules of block models need pandas, which is loaded when a page needs it.
 if TYPE_CHECKING:
-    from pitplan.blockmodel.guesses import Role, Rows
+    from pitplan.blockmodel.guesses import Role, TableRows
 
 # The names of fields that hold the role of a column begin with this, those of options of the command with the other.
 PREFIX, OPTION = "role:", "--role="
@@ -77,9 +77,9 @@ class RowsOfLast:
 
     def __init__(self) -> None:
         self.lock, self.key = threading.Lock(), ("", 0, 0)
-        self.rows: Rows | None = None
+        self.rows: TableRows | None = None
 
-    def of(self, file: Path) -> Rows:
+    def of(self, file: Path) -> TableRows:
         """Returns the rows of a file. Raises PlanError if it cannot be read."""
         from pitplan.blockmodel import guesses
 

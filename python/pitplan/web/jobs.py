@@ -37,7 +37,7 @@ STEP = re.compile(r"^(?P<what>.+?) \.\.(?:.*?)(?: (?P<seconds>\d+\.\d) s)?$")
 
 
 @dataclass(frozen=True)
-class Step:
+class JobStep:
     """A step of a job, and the seconds that it took; None while it goes on."""
 
     what: str
@@ -289,14 +289,14 @@ def demand_private(folder: Path) -> None:
         top.chmod(0o700)
 
 
-def steps_of(log: str) -> list[Step]:
+def steps_of(log: str) -> list[JobStep]:
     """Returns the steps of a log, the last one without seconds if it goes on."""
-    found: dict[str, Step] = {}
+    found: dict[str, JobStep] = {}
     for line in log.splitlines():
         step = STEP.match(line)
         if step:
             seconds = None if step["seconds"] is None else float(step["seconds"])
-            found[step["what"]] = Step(step["what"], seconds)
+            found[step["what"]] = JobStep(step["what"], seconds)
     return list(found.values())
 
 

@@ -25,14 +25,14 @@ class State:
 
 
 @dataclass(frozen=True)
-class Entry(Generic[Value]):
+class KeptValue(Generic[Value]):
     """A value, and the states of its files before it was read."""
 
     states: Sequence[State]
     value: Value
 
 
-class Kept(Generic[Value]):
+class FileCache(Generic[Value]):
     """Values that were read from files, each by its key. Threads may share it.
 
     Parameters
@@ -43,7 +43,7 @@ class Kept(Generic[Value]):
 
     def __init__(self, most: int) -> None:
         self.most, self.lock = most, threading.Lock()
-        self.entries: OrderedDict[Hashable, Entry[Value]] = OrderedDict()
+        self.entries: OrderedDict[Hashable, KeptValue[Value]] = OrderedDict()
 
     def of(
         self,
@@ -71,7 +71,7 @@ class Kept(Generic[Value]):
         with self.lock:
             self.entries.pop(key, None)
             if keeps(found):
-                self.entries[key] = Entry(states, found)
+                self.entries[key] = KeptValue(states, found)
                 while len(self.entries) > self.most:
                     self.entries.popitem(last=False)
         return found

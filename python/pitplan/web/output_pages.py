@@ -17,7 +17,7 @@ from .jobs import EXPORT
 from .pages import Pages, form_of
 from .project_text import Editor
 from .results_page import WORDS
-from .run_form import Asked, WrongForm, plain
+from .run_form import AskedCommand, WrongForm, plain
 from .values_form import NUMBER
 from .workspace import NotThere
 
@@ -74,7 +74,7 @@ class OutputPages:
         folder, project = self.folder_of(form)
         selected = results_page.record_of(self.pages.workspace.root / folder).get("shells", {}).get("selected")
         words = export_words({"factor": factor_text(float(selected)), **filled(form)} if selected else form)
-        return self.pages.started(Asked((EXPORT, plain(folder), *words), project, folder), form)
+        return self.pages.started(AskedCommand((EXPORT, plain(folder), *words), project, folder), form)
 
     def folder_of(self, form: Mapping[str, str]) -> tuple[str, str]:
         """Returns the name of the output folder of a form, and that of its project. Raises NotThere if it has no plan."""

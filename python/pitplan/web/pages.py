@@ -25,13 +25,13 @@ from pitplan.core.atomic_files import hash_of
 from pitplan.errors import PlanError
 
 from . import project_text, results_page, run_form
-from .grids import Grid
+from .grids import FormGrid
 from .jobs import DONE, EXPORT, IMPORT, Job, Jobs, steps_of
-from .kept import Kept
+from .kept import FileCache
 from .project_text import Editor, Forms
-from .run_form import COMMANDS, OPTIONS, Asked, WrongForm
+from .run_form import COMMANDS, OPTIONS, AskedCommand, WrongForm
 from .security import SANDBOX
-from .values_form import Values
+from .values_form import FormValues
 from .workspace import RECORDS, NotThere, Workspace, shown
 
 # Charts need pandas, which is loaded when a page needs it.
@@ -88,9 +88,9 @@ class Pages:
 
     def __init__(self, workspace: Workspace, jobs: Jobs, version: str) -> None:
         self.workspace, self.jobs = workspace, jobs
-        self.known_forms: Kept[Forms] = Kept(MOST_KEPT)
-        self.tables: Kept[bytes] = Kept(MOST_TABLES)
-        self.charts: Kept[list[Chart]] = Kept(MOST_KEPT)
+        self.known_forms: FileCache[Forms] = FileCache(MOST_KEPT)
+        self.tables: FileCache[bytes] = FileCache(MOST_TABLES)
+        self.charts: FileCache[list[Chart]] = FileCache(MOST_KEPT)
         # Of each job that a page shows.
         self.latest_news: dict[int, News] = {}
         self.reading = threading.Lock()
@@ -164,7 +164,7 @@ class Pages:
         path, saved = self.project_path(name), request.query_params.get("saved")
         forms = self.forms(path, name)
         editor = replace(forms.editor, said="Saved." if saved == "text" and not forms.editor.wrong else "")
-        values = Values(forms.fields, said=saved if saved in ("values", "schedule") else "")
+        values = FormValues(forms.fields, said=saved if saved in ("values", "schedule") else "")
         grid = forms.grids.get(saved or "")
         return self.project_page(name, editor, values=values, grid=replace(grid, said="Saved.") if grid else None)
 
@@ -186,8 +186,9 @@ class Pages:
         name: str,
         editor: Editor,
         status: int = 200,
-        values: Optional[Values] = None,
-        grid: Optional[Grid] = None,
+        values: Optional[FormValues] = None,
+        *,
+        grid: Optional[FormGrid] = None,
     ) -> Response:
         """Returns the page of a project with a text in its editor, and with the numbers and the grids of the file, or others in their place."""
         path = self.workspace.place(name)
@@ -204,7 +205,7 @@ class Pages:
             title=found[0].title if found[0].is_readable else name,
             project=found[0],
             editor=editor,
-            values=values or Values(forms.fields),
+            values=values or FormValues(forms.fields),
             grids=forms.grids | ({grid.kind.name: grid} if grid else {}),
             figure=self.figure_of(path),
             commands=list(COMMANDS.values()),
@@ -221,7 +222,7 @@ class Pages:
         asked = run_form.read(form, self.workspace)
         return self.started(asked, form)
 
-    def started(self, asked: Asked, form: Mapping[str, str]) -> Response:
+    def started(self, asked: AskedCommand, form: Mapping[str, str]) -> Response:
         """Starts a command; if its form asks so, shows it instead."""
         if form.get("show") == "on":
             return self.page(

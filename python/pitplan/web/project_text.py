@@ -15,8 +15,8 @@ from pitplan.config.project import Project, of_data
 from pitplan.core.atomic_files import hash_of, staged_file
 from pitplan.errors import PlanError
 
-from .grids import Grid, grids_of
-from .values_form import Field, fields_of
+from .grids import FormGrid, grids_of
+from .values_form import FormField, fields_of
 
 # The most letters of a project that is edited here.
 MOST_LETTERS = 300_000
@@ -156,7 +156,7 @@ class Forms:
     editor : Editor
     project : Project, optional
         None if the text has an error.
-    fields : list of Field
+    fields : list of FormField
         The numbers that a form changes; none if the text has an error.
     grids : dict of str to Grid
         By name; none if the text has an error.
@@ -164,8 +164,8 @@ class Forms:
 
     editor: Editor
     project: Optional[Project] = None
-    fields: list[Field] = field(default_factory=list)
-    grids: dict[str, Grid] = field(default_factory=dict)
+    fields: list[FormField] = field(default_factory=list)
+    grids: dict[str, FormGrid] = field(default_factory=dict)
 
     @property
     def is_of_one_file(self) -> bool:

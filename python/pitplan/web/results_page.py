@@ -22,7 +22,7 @@ from pitplan.errors import WARNING, PlanError
 from pitplan.results.names import TABLE
 from pitplan.results.rounding import heads_of
 
-from .kept import Kept
+from .kept import FileCache
 from .workspace import RECORDS, Workspace
 
 # Charts need pandas, which is loaded when a page needs it.
@@ -58,7 +58,7 @@ FIRST = ("methods.csv", "shells.csv", "pushbacks.csv", "years.csv", "sensitivity
 
 
 @dataclass(frozen=True)
-class Table:
+class TablePage:
     """A page of a table.
 
     Attributes
@@ -138,7 +138,7 @@ def project_of(path: Path) -> Path:
     return path.parents[1] / project_writer.AS_RUN
 
 
-def read_table(path: Path, page: int = 1) -> Table:
+def read_table(path: Path, page: int = 1) -> TablePage:
     """Reads a page of a table that pitplan has written, the last one if there are fewer. Raises PlanError if the file is not a table."""
     try:
         with open(path, encoding="utf-8", newline="") as file:
@@ -161,7 +161,7 @@ def read_table(path: Path, page: int = 1) -> Table:
         raise PlanError(f"{path.name}: cannot be read as a table: {error}") from error
     # A row that was cut is filled, so that the page shows what there is.
     rows = [[*row[: len(names)], *[""] * (len(names) - len(row))] for row in found]
-    return Table(names, rows, max(0, count), first)
+    return TablePage(names, rows, max(0, count), first)
 
 
 def lines_of(file: IO[str]) -> Iterator[str]:
@@ -216,7 +216,7 @@ class Page:
         return next((name for name in self.files if name.endswith(".xlsx")), "")
 
 
-def page_of(folder: Path, workspace: Workspace, charts: Kept[list[Chart]]) -> Page:
+def page_of(folder: Path, workspace: Workspace, charts: FileCache[list[Chart]]) -> Page:
     """Returns the parts of the page of an output folder, with the charts that are kept while its files are unchanged. Raises PlanError if it has no
     record."""
     record = record_of(folder)

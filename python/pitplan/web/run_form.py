@@ -62,7 +62,7 @@ class WrongForm(PlanError):
 
 
 @dataclass(frozen=True)
-class Asked:
+class AskedCommand:
     """A command with its words."""
 
     words: tuple[str, ...]
@@ -70,7 +70,7 @@ class Asked:
     folder: str
 
 
-def read(form: Mapping[str, str], workspace: Workspace) -> Asked:
+def read(form: Mapping[str, str], workspace: Workspace) -> AskedCommand:
     """Returns the command of a form.
 
     Raises
@@ -99,7 +99,7 @@ def read(form: Mapping[str, str], workspace: Workspace) -> Asked:
     words += ["--no-verify"] if VERIFY in command.options and VERIFY not in chosen else []
     words += ["--by=block"] if BY_BLOCK in chosen else []
     words += ["--certificate"] if CERTIFICATE in chosen else []
-    return Asked(tuple(words), name, folder)
+    return AskedCommand(tuple(words), name, folder)
 
 
 def plain(name: str) -> str:

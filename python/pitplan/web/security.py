@@ -45,7 +45,7 @@ HEADERS = {
 }
 
 
-class Key:
+class EntryToken:
     """The random token of the address that opens the application. It is for one use: the next browser needs the next one."""
 
     def __init__(self) -> None:
@@ -69,7 +69,7 @@ class Access:
     port : int
     secret : str
         Random: the cookie of the browsers that have entered.
-    key : Key
+    key : EntryToken
         The token of the address, by which the browser of this machine enters.
     host : str
         The name, or the name and port, by which browsers reach the reverse proxy; empty: only this machine reaches the server, by the token.
@@ -77,7 +77,7 @@ class Access:
 
     port: int
     secret: str = field(default_factory=lambda: secrets.token_urlsafe(32))
-    key: Key = field(default_factory=Key)
+    key: EntryToken = field(default_factory=EntryToken)
     host: str = ""
 
     @property

@@ -10,7 +10,7 @@ from typing import Any
 from pitplan.config import toml_text
 from pitplan.config.keys import Key, keys_of
 from pitplan.config.project import Project, record_at
-from pitplan.config.toml_text import Entry, entries
+from pitplan.config.toml_text import TomlEntry, entries
 
 from .draft import Draft, path_of
 from .run_form import WrongForm
@@ -27,12 +27,12 @@ OF_SCHEDULE = ("shells.selected", "pushbacks.", "schedule.", "cash_flow.")
 
 
 @dataclass(frozen=True)
-class Field:
+class FormField:
     """A number of a project.
 
     Attributes
     ----------
-    entry : Entry
+    entry : TomlEntry
         Where it lies in the text; its end is 0 if the text leaves it out.
     label, unit : str
     value : str
@@ -41,7 +41,7 @@ class Field:
         Whether an empty field leaves the key out.
     """
 
-    entry: Entry
+    entry: TomlEntry
     label: str
     unit: str
     value: str
@@ -57,16 +57,16 @@ class Field:
 
 
 @dataclass(frozen=True)
-class Values:
+class FormValues:
     """What the forms show: their fields, what is wrong in which form, and the form that was saved."""
 
-    fields: list[Field]
+    fields: list[FormField]
     wrong: str = ""
     said: str = ""
     form: str = ""
 
     @property
-    def forms(self) -> list[tuple[str, str, str, list[Field]]]:
+    def forms(self) -> list[tuple[str, str, str, list[FormField]]]:
         """The name, title, description and fields of each form."""
         economics = [it for it in self.fields if not it.is_of_schedule]
         schedule = [it for it in self.fields if it.is_of_schedule]
@@ -84,35 +84,35 @@ def at(entry: Mapping[str, Any], path: Sequence[str]) -> Any:
     return value
 
 
-def fields_of(text: str, project: Project) -> list[Field]:
+def fields_of(text: str, project: Project) -> list[FormField]:
     """Returns the keys of a project's text that the forms change: those whose value is one number, and those that may be added."""
     data = toml_text.parsed(text, str(project.path))
     written = {entry.name: entry for entry in entries(text) if entry.end}
-    return [field for section in SECTIONS for field in fields_in(section, text, written, project, data)]
+    return [field for section in SECTIONS for field in fields_in(section, text, written, project, data=data)]
 
 
 def fields_in(
-    section: str, text: str, written: Mapping[str, Entry], project: Project, data: Mapping[str, Any]
-) -> Iterator[Field]:
+    section: str, text: str, written: Mapping[str, TomlEntry], project: Project, *, data: Mapping[str, Any]
+) -> Iterator[FormField]:
     """Yields the fields of a section, or of each entry of a list of sections."""
     listed = at(data, section.split("."))
     numbers = range(1, len(listed) + 1) if isinstance(listed, list) else range(1)
     for key, it in keys_of(record_at(section)).items():
         if it.kind.type != "number" or it.of_processes and project.processes:
             continue
-        if may_be_added(section, key, it, written, data):
+        if may_be_added(section, key, it, written, data=data):
             unit = "; ".join(filter(None, [it.unit_of(project.economics.currency), without(it)]))
-            yield Field(Entry(f"{section}.{key}", 0), it.label, unit, "", True)
+            yield FormField(TomlEntry(f"{section}.{key}", 0), it.label, unit, "", True)
         for number in numbers:
             entry = written.get(f"{section} {number}.{key}" if number else f"{section}.{key}")
             value = text[entry.start : entry.end] if entry else ""
             if entry and IN_FILE.fullmatch(value):
                 of, unit = words_of(section, number, it, project)
                 shown = value.replace("_", "").removeprefix("+")
-                yield Field(entry, f"{it.label}{of}", unit, shown, not it.is_required and not number)
+                yield FormField(entry, f"{it.label}{of}", unit, shown, not it.is_required and not number)
 
 
-def may_be_added(section: str, key: str, it: Key, written: Mapping[str, Entry], data: Mapping[str, Any]) -> bool:
+def may_be_added(section: str, key: str, it: Key, written: Mapping[str, TomlEntry], *, data: Mapping[str, Any]) -> bool:
     """Returns whether a key is left out, and can be added: its section is no list, and is missing or has a header of its own."""
     held = data.get(section, {})
     is_section = isinstance(held, dict) and "." not in section and section not in ("metals", "processes")
@@ -139,11 +139,11 @@ def words_of(section: str, number: int, it: Key, project: Project) -> tuple[str,
     return "" if domains is None else f", domain {', '.join(domains)}", it.unit_of()
 
 
-def typed(fields: list[Field], form: Mapping[str, str]) -> list[Field]:
+def typed(fields: list[FormField], form: Mapping[str, str]) -> list[FormField]:
     return [replace(field, value=form.get(field.name, field.value).strip()) for field in fields]
 
 
-def changed(text: str, before: list[Field], after: list[Field]) -> str:
+def changed(text: str, before: list[FormField], after: list[FormField]) -> str:
     """Returns a text with other numbers in some fields; all else in it stays.
 
     Raises

@@ -15,7 +15,7 @@ from pitplan.core import layout
 from pitplan.errors import PlanError
 from pitplan.results import names
 
-from .kept import Kept
+from .kept import FileCache
 
 # Folders below the one that is served are searched to this depth.
 DEPTH = 5
@@ -95,15 +95,15 @@ class Workspace:
     ----------
     root : Path
         Without symbolic links.
-    known : Kept of list of ProjectFile
+    known : FileCache of list of ProjectFile
         The projects that were read, by their paths.
-    records : Kept of Record
+    records : FileCache of Record
         The records of output folders that were read, by their paths.
     """
 
     root: Path
-    known: Kept[list[ProjectFile]] = field(default_factory=lambda: Kept(KEPT), compare=False)
-    records: Kept[Record] = field(default_factory=lambda: Kept(KEPT), compare=False)
+    known: FileCache[list[ProjectFile]] = field(default_factory=lambda: FileCache(KEPT), compare=False)
+    records: FileCache[Record] = field(default_factory=lambda: FileCache(KEPT), compare=False)
 
     def place(self, name: str) -> Path:
         """Returns the path of a file or folder by its name.

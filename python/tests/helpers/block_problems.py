@@ -7,7 +7,7 @@ import pytest
 from scipy.optimize import Bounds, LinearConstraint, linprog, milp
 
 from pitplan.config.schedule import Effort
-from pitplan.scheduling.blocks.problem import BlockPrecedences, BlockProblem, Limit, nodes_of
+from pitplan.scheduling.blocks.problem import BlockLimit, BlockPrecedences, BlockProblem, nodes_of
 
 EXACT = Effort(1e-9)
 
@@ -21,7 +21,7 @@ def problem_of(values, pairs, *limits):
     for number, (amounts, most) in enumerate(limits):
         amounts = np.array(amounts, dtype=float).reshape(blocks, -1)
         found.append(
-            Limit(
+            BlockLimit(
                 f"limit {number}", np.broadcast_to(amounts, (blocks, destinations)).copy(), np.array(most, dtype=float)
             )
         )

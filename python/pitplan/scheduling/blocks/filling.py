@@ -16,7 +16,7 @@ from scipy.sparse import csr_matrix, eye, kron
 import pitshell
 from pitplan.core.tolerances import SOLVER_SUM, SUM_ERROR
 
-from .problem import Assignment, BlockPrecedences, BlockProblem, Limit, nothing, upward
+from .problem import Assignment, BlockLimit, BlockPrecedences, BlockProblem, nothing, upward
 
 # The bits of a word, and the number of blocks handled at once when the cones that hold them are marked.
 BITS, AT_ONCE = 64, 4096
@@ -193,7 +193,7 @@ class Filling:
     def preferred(self) -> list[list[list[int]]]:
         return self.preference.tolist()
 
-    def fill(self, sequence: Sequence) -> Assignment:
+    def fill(self, sequence: BlockOrder) -> Assignment:
         """Each block of the order in the first year with room from the one on in which all that it needs is mined, if there is one."""
         problem, room = self.problem, Room(self.problem)
         year, destination = [problem.years] * problem.blocks, [0] * problem.blocks
@@ -215,7 +215,7 @@ class Filling:
                 return year, destination
         return None
 
-    def without_loss(self, sequence: Sequence) -> Assignment:
+    def without_loss(self, sequence: BlockOrder) -> Assignment:
         """The filled years without what does not pay at its time, filled again without it as long as that gains."""
         best = nothing(self.problem)
         schedule = self.fill(sequence)
@@ -226,7 +226,7 @@ class Filling:
                 return best
             best = pruned
             order = sequence.order[pruned.year[sequence.order] < self.problem.years]
-            schedule = self.fill(Sequence(order, sequence.earliest))
+            schedule = self.fill(BlockOrder(order, sequence.earliest))
 
 
 def schedule_of(problem: BlockProblem, year: NDArray[np.int64], destination: NDArray[np.int64]) -> Assignment:
@@ -288,7 +288,7 @@ LEAST, ALL = (LEFT, SOLVER_SUM), 0.0
 
 
 @dataclass(frozen=True)
-class Sequence:
+class BlockOrder:
     """How years are filled.
 
     order     the blocks that are mined, each behind all that it needs
@@ -301,7 +301,7 @@ class Sequence:
 
 def sequences(
     problem: BlockProblem, ranks: Ranks, cumulative: NDArray[np.float64], shares: tuple[float, ...] = LEAST
-) -> Iterator[Sequence]:
+) -> Iterator[BlockOrder]:
     """Orders by the expected year, and by that in which a part of a block is mined, with years from which on blocks may be mined.
 
     cumulative  the share of each block that the relaxation has mined by the end of each year: shape (blocks, years)
@@ -314,7 +314,7 @@ def sequences(
     orders = [in_order(problem, ranks, key, expected) for key in keys]
     for order, least, earlier in product(orders, shares, EARLIER):
         earliest = np.zeros_like(begun) if earlier is None else np.maximum(begun - earlier, 0)
-        yield Sequence(order[cumulative[order, -1] >= least], earliest)
+        yield BlockOrder(order[cumulative[order, -1] >= least], earliest)
 
 
 def in_order(problem: BlockProblem, ranks: Ranks, key: NDArray, second: NDArray) -> NDArray[np.int64]:
@@ -443,7 +443,7 @@ MOST_BLENDED = 6
 
 
 def blended(
-    problem: BlockProblem, ranks: Ranks, sequences: Iterable[Sequence], prices: NDArray[np.float64]
+    problem: BlockProblem, ranks: Ranks, sequences: Iterable[BlockOrder], prices: NDArray[np.float64]
 ) -> Iterator[Assignment]:
     """Yields schedules that keep all limits.
 
@@ -534,7 +534,7 @@ def mixed(shares: NDArray[np.float64], amounts: NDArray[np.float64]) -> NDArray[
     return np.asarray(np.einsum("bkd,bd->bk", shares, amounts))
 
 
-def least_used(problem: BlockProblem, limits: list[Limit]) -> NDArray[np.int64]:
+def least_used(problem: BlockProblem, limits: list[BlockLimit]) -> NDArray[np.int64]:
     """Returns for each block the destination in which it takes the least part of its most used limit."""
     used = np.zeros((problem.blocks, problem.destinations))
     for limit in limits:
@@ -543,7 +543,7 @@ def least_used(problem: BlockProblem, limits: list[Limit]) -> NDArray[np.int64]:
     return np.asarray(used.argmin(axis=1))
 
 
-def fitting(limits: list[Limit], destination: int, rest: NDArray[np.int64], year: int) -> NDArray[np.float64]:
+def fitting(limits: list[BlockLimit], destination: int, rest: NDArray[np.int64], year: int) -> NDArray[np.float64]:
     """Returns the greatest part of each block that goes to a destination within the limits of a year that are above 0, the rest where it takes
     least; 1 if the part is nothing."""
     found = np.ones(len(rest))

@@ -10,7 +10,7 @@ import numpy as np
 from minelib import precedence, schedule_models
 from minelib.schedule_models import ScheduleModel
 
-from .problem import MOST_NODES, BlockPrecedences, BlockProblem, Limit
+from .problem import MOST_NODES, BlockLimit, BlockPrecedences, BlockProblem
 
 
 def of_minelib(model: Path, prec: Path, second: Optional[str] = None) -> BlockProblem:
@@ -31,7 +31,7 @@ def of_minelib(model: Path, prec: Path, second: Optional[str] = None) -> BlockPr
     return BlockProblem(values[:, :, None] * discounts, BlockPrecedences(starts, needed), limits)
 
 
-def limit_of(model: ScheduleModel, resource: int) -> Limit:
+def limit_of(model: ScheduleModel, resource: int) -> BlockLimit:
     amounts = np.zeros((len(model.values), len(model.values[0]) if model.values else 1))
     for place, amount in model.taken[resource].items():
         amounts[place] = float(amount)
@@ -39,4 +39,4 @@ def limit_of(model: ScheduleModel, resource: int) -> Limit:
     # Amounts are 0 or more, and so a least below 0 has no effect.
     least = np.array([max(float(below or 0), 0.0) for below, _ in bounds])
     most = np.array([np.inf if above is None else float(above) for _, above in bounds])
-    return Limit(f"resource {resource}", amounts, most, least)
+    return BlockLimit(f"resource {resource}", amounts, most, least)

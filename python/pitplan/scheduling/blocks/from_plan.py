@@ -24,7 +24,7 @@ from pitplan.slopes import closure
 from pitplan.slopes.domains import ABSENT, slices
 
 from .filling import greatest_of_predecessors, ranks_of
-from .problem import Assignment, BlockPrecedences, BlockProblem, Due, Limit, demand_room, upward
+from .problem import Assignment, BlockLimit, BlockPrecedences, BlockProblem, Due, demand_room, upward
 
 ADDED_COST = "[pushbacks] mining_cost_added"
 
@@ -100,14 +100,14 @@ class HeadGrade:
         found = limit.sign * (self.content - limit.grade * self.feed)
         return np.where(self.pays, found, np.maximum(found, 0.0))
 
-    def limits_of(self, cells: NDArray[np.int64], destinations: int, years: int) -> list[Limit]:
+    def limits_of(self, cells: NDArray[np.int64], destinations: int, years: int) -> list[BlockLimit]:
         """Returns the limits of cells that are scheduled."""
         found = []
         for name, limit in self.limits.items():
             amounts = np.zeros((len(cells), destinations))
             amounts[:, self.destination] = self.excess(name)[cells]
             most = np.where(limit.in_years(years), 0.0, np.inf)
-            found.append(Limit(name, amounts, most, signed=True))
+            found.append(BlockLimit(name, amounts, most, signed=True))
         return found
 
     def of_years(self, cells: NDArray[np.int64], schedule: Assignment, years: int) -> NDArray[np.float64]:
@@ -186,10 +186,10 @@ def of_plan(plan: Plan) -> PlannedBlocks:
     years = periods_of(project, rules) or years_of(
         {name: amounts.sum() for name, amounts in held.items()}, limits, project
     )
-    above = [Limit(name, flows[name], most) for name, most in zip(limits.most, limits.of_years(years).T)]
+    above = [BlockLimit(name, flows[name], most) for name, most in zip(limits.most, limits.of_years(years).T)]
     # What yields nothing there is not sent to a process for the sake of a least amount.
     below = [
-        Limit(name, np.where(pays | (flows[name][:, :1] > 0), flows[name], 0.0), np.full(years, np.inf), least)
+        BlockLimit(name, np.where(pays | (flows[name][:, :1] > 0), flows[name], 0.0), np.full(years, np.inf), least)
         for name, least in limits.least_of_years(years).items()
     ]
     problem = BlockProblem(

@@ -69,7 +69,7 @@ def least_float(exact: Fraction) -> float:
 
 
 @dataclass(frozen=True)
-class Limit:
+class BlockLimit:
     """The most of a sum that a year may hold, and the least that it must.
 
     name as it is printed
@@ -149,7 +149,7 @@ class BlockProblem:
 
     values: NDArray[np.float64]
     precedences: BlockPrecedences
-    limits: tuple[Limit, ...]
+    limits: tuple[BlockLimit, ...]
     dues: tuple[Due, ...] = ()
     costs: Optional[NDArray[np.float64]] = None
     word: str = YEAR

@@ -111,7 +111,7 @@ class Priced:
 
 
 @dataclass(frozen=True)
-class Part:
+class YearsClosure:
     """The closure of the years from `first` up to `last`, without that, solved for itself: by year whether each block that can be mined by
     then is in it, and its worth in the unit."""
 
@@ -146,15 +146,15 @@ def priced(nodes: Nodes, prices: NDArray[np.float64]) -> Priced:
     return Priced(nodes.expanded(mined, earned.best), least_float(bound), len(parts))
 
 
-def solved(nodes: Nodes, gain: NDArray[np.int64], first: int, last: int) -> Part:
+def solved(nodes: Nodes, gain: NDArray[np.int64], first: int, last: int) -> YearsClosure:
     """Solves the closure of some years; `gain` is by block and year."""
     precedences, counts = nodes.of_years(first, last), nodes.counts[first:last]
     values = np.concatenate([gain[:count, year] for year, count in enumerate(counts, first)])
     pit = pitshell.solve(values, (precedences.starts, precedences.needed), millionths=True)
-    return Part(first, last, np.split(pit.in_pit, np.cumsum(counts)[:-1]), worth_of(pit))
+    return YearsClosure(first, last, np.split(pit.in_pit, np.cumsum(counts)[:-1]), worth_of(pit))
 
 
-def joined_years(nodes: Nodes, parts: list[Part]) -> list[tuple[int, int]]:
+def joined_years(nodes: Nodes, parts: list[YearsClosure]) -> list[tuple[int, int]]:
     """The years of parts; those are put together, if the library takes them so, where one has a block by its last year that the next has
     not by its first."""
     found = [(parts[0].first, parts[0].last)]
@@ -522,7 +522,7 @@ def relaxed(
     groups = first_groups(nodes) if groups is None else groups
     if nodes.problem.owes:
         groups = keeping_dues(nodes, groups)
-    solver = Solver(nodes, Master(nodes), groups, time.monotonic())
+    solver = RelaxationSolver(nodes, Master(nodes), groups, time.monotonic())
     try:
         for found in solver:
             tell(found)
@@ -536,7 +536,7 @@ def relaxed(
 
 
 @dataclass
-class Solver:
+class RelaxationSolver:
     """The relaxation while it is solved, round by round."""
 
     nodes: Nodes
@@ -756,7 +756,7 @@ class Growing:
 
 
 def relaxed_as_required(
-    problem: BlockProblem, part: Reduced, effort: Effort, progress: Progress, tell: Callable[[Round], None]
+    problem: BlockProblem, part: Reduced, effort: Effort, progress: Progress, *, tell: Callable[[Round], None]
 ) -> tuple[Reduced, Relaxation]:
     """Solves the relaxation of a part, and of more blocks as they are required; returns the last part, and the relaxation with a bound for the
     whole problem. Raises what `relaxed` raises."""

@@ -16,10 +16,10 @@ from pitplan.core.progress import Progress, silent
 from pitplan.core.tolerances import SUM_ERROR
 from pitplan.errors import PlanError
 
-from .filling import ALL, LEAST, Divided, Filling, Sequence, blended, divided, moved, sequences, with_best_shares
+from .filling import ALL, LEAST, BlockOrder, Divided, Filling, blended, divided, moved, sequences, with_best_shares
 from .problem import Assignment, BlockProblem, demand_room, demand_sound, nothing
 from .relaxation import Reduced, Relaxation, Round, first_required, reduced, relaxed_as_required
-from .window_milp import Window, sizes_of, window_of
+from .window_milp import Window, WindowSize, sizes_of, window_of
 
 # The relaxation is solved to this share of its bound.
 RELAXED = 1e-4
@@ -82,7 +82,7 @@ def solve(problem: BlockProblem, effort: Optional[Effort] = None, progress: Prog
         return Scheduled(nothing(problem), 0.0, 0.0, 0, 0)
     progress.say(f"computing the upper bound: {part.problem.blocks:,} blocks, {len(part.nodes):,} nodes")
     until = Effort(RELAXED, effort.seconds if effort else None)
-    part, relaxation = relaxed_as_required(problem, part, until, progress, lambda found: progress.say(told(found)))
+    part, relaxation = relaxed_as_required(problem, part, until, progress, tell=lambda found: progress.say(told(found)))
     search = Search(part, relaxation, progress)
     try:
         if not relaxation.interrupted:
@@ -127,7 +127,7 @@ class Search:
         return divided(self.problem)
 
     @property
-    def sequences(self) -> Iterator[Sequence]:
+    def sequences(self) -> Iterator[BlockOrder]:
         """The orders in which years are filled. If only parts of some blocks fit, a year may have room for blocks that the relaxation leaves."""
         shares = LEAST if self.divided.shares is None else (*LEAST, ALL)
         return sequences(self.problem, self.part.ranks, self.relaxation.cumulative, shares)
@@ -215,16 +215,22 @@ class Search:
             while self.sweep(size, effort, began):
                 pass
 
-    def sweep(self, size: tuple[int, int], effort: Effort, began: float, until_kept: bool = False) -> bool:
-        """Solves each window of a size, years and most unknowns, once, or until nothing lacks of what must be held at least; gives whether
+    def sweep(self, size: WindowSize, effort: Effort, began: float, until_kept: bool = False) -> bool:
+        """Solves each window of a size once, or until nothing lacks of what must be held at least; gives whether
         the schedule has become better and there is time left."""
         before = self.best
-        for first in range(self.problem.years - size[0] + 1):
+        for first in range(self.problem.years - size.years + 1):
             left = np.inf if effort.seconds is None else effort.seconds - (time.monotonic() - began)
             is_kept = not self.best.lacking(self.problem)
             if left <= 0 or (is_kept and (until_kept or self.gap <= effort.gap)):
                 return False
-            window = window_of(self.problem, self.best, self.relaxation.cumulative, (first, first + size[0]), size[1])
+            window = window_of(
+                self.problem,
+                self.best,
+                self.relaxation.cumulative,
+                range(first, first + size.years),
+                most=size.unknowns,
+            )
             self.offer(self.solved(window, Effort(effort.gap, min(left, WINDOW_SECONDS)), min(PATIENCE, left + LATE)))
         return self.best.is_better(before, self.problem)
 

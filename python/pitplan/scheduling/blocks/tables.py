@@ -48,7 +48,7 @@ from pitplan.scheduling.methods import BLOCK, notes_of_gap
 from pitplan.scheduling.schedule import Schedule
 
 from .from_plan import PlannedBlocks, cash_of, of_plan, unapplied
-from .problem import Assignment, BlockProblem, Limit
+from .problem import Assignment, BlockLimit, BlockProblem
 from .scheduler import Scheduled, gap_of, solve
 
 if TYPE_CHECKING:
@@ -408,7 +408,7 @@ def sides_of(problem: BlockProblem) -> tuple[tuple[str, str], ...]:
     return tuple((limit.name, side) for limit in problem.limits for side in sides(limit))
 
 
-def sides(limit: Limit) -> list[str]:
+def sides(limit: BlockLimit) -> list[str]:
     """Returns whether a limit is a maximum, a minimum, or both."""
     found = ["max"] if np.isfinite(limit.most).any() else []
     return found + (["min"] if not limit.signed and (limit.floor > 0).any() else [])
@@ -430,7 +430,7 @@ def shares_of(schedule: Assignment, years: int) -> Shares:
     return Shares(block, schedule.year[block].astype(np.int64), destination, shares[block, destination])
 
 
-def stated(limit: Limit, prices: NDArray[np.float64]) -> list[StatedLimit]:
+def stated(limit: BlockLimit, prices: NDArray[np.float64]) -> list[StatedLimit]:
     """Returns a limit as one on the most, and one with turned signs on the least, as far as there are such. Amounts are rounded down, so that no schedule
     of the project exceeds a limit by rounding."""
     found = []

@@ -10,6 +10,7 @@ from __future__ import annotations
 from collections.abc import Iterator
 from dataclasses import dataclass
 from functools import cached_property
+from typing import NamedTuple
 
 import numpy as np
 from numpy.typing import NDArray
@@ -21,7 +22,7 @@ from pitplan.scheduling.highs import Programme
 from pitplan.scheduling.highs_process import solve
 
 from .filling import ranks_of
-from .problem import Assignment, BlockProblem, Due, Limit
+from .problem import Assignment, BlockLimit, BlockProblem, Due
 from .relaxation import earliest_years
 
 # A window has about MOST_UNKNOWNS integer unknowns at most, at first FEWER, and at most MOST_YEARS years unless all blocks fit.
@@ -142,12 +143,12 @@ class Window:
         precedences = self.problem.precedences.within(self.number >= 0)
         return BlockProblem(self.problem.values[self.blocks, :, years], precedences, tuple(limits), dues)
 
-    def left(self, limit: Limit, most: NDArray[np.float64], least: NDArray[np.float64]) -> Limit:
+    def left(self, limit: BlockLimit, most: NDArray[np.float64], least: NDArray[np.float64]) -> BlockLimit:
         """A limit of the free blocks, with what the others leave of its most and its least. Of a signed one these may be below 0."""
         amounts = limit.amounts[self.blocks]
         if limit.signed:
-            return Limit(limit.name, amounts, most, signed=True)
-        return Limit(limit.name, amounts, np.maximum(most, 0.0), np.maximum(least, 0.0))
+            return BlockLimit(limit.name, amounts, most, signed=True)
+        return BlockLimit(limit.name, amounts, np.maximum(most, 0.0), np.maximum(least, 0.0))
 
     def limits(self) -> tuple[csr_matrix, NDArray[np.float64]]:
         """A row for each limit and year that has one, as shares of the greatest amount of a block."""
@@ -188,20 +189,28 @@ class Window:
         return better if better.is_better(self.schedule, problem) and better.is_allowed(problem) else self.schedule
 
 
-def sizes_of(problem: BlockProblem) -> list[tuple[int, int]]:
-    """Years and most unknowns of windows, one size after the other: all years where all blocks fit, otherwise a few with some that are
+class WindowSize(NamedTuple):
+    """How many years a window has, and at most how many unknowns."""
+
+    years: int
+    unknowns: int
+
+
+def sizes_of(problem: BlockProblem) -> list[WindowSize]:
+    """The sizes of windows, one after the other: all years where all blocks fit, otherwise a few with some that are
     free."""
     if problem.blocks * problem.years <= MOST_UNKNOWNS or problem.years == 1:
-        return [(problem.years, MOST_UNKNOWNS)]
+        return [WindowSize(problem.years, MOST_UNKNOWNS)]
     widths = range(2, min(MOST_YEARS, problem.years) + 1)
-    return [(width, most) for most in (FEWER, MOST_UNKNOWNS) for width in widths]
+    return [WindowSize(width, most) for most in (FEWER, MOST_UNKNOWNS) for width in widths]
 
 
 def window_of(
     problem: BlockProblem,
     schedule: Assignment,
     cumulative: NDArray[np.float64],
-    years: tuple[int, int],
+    years: range,
+    *,
     most: int = MOST_UNKNOWNS,
 ) -> Window:
     """The window of years, with the blocks mined in them and those not mined that the relaxation begins by their end; where they make more than
@@ -209,7 +218,7 @@ def window_of(
 
     cumulative  the share of each block that the relaxation has mined by the end of each year: shape (blocks, years)
     """
-    first, last = years
+    first, last = years.start, years.stop
     is_here = (schedule.year >= first) & (schedule.year < last)
     is_left = (schedule.year == problem.years) & (cumulative[:, last - 1] > SOLVER_SUM)
     blocks = np.arange(problem.blocks) if last - first == problem.years else np.flatnonzero(is_here | is_left)

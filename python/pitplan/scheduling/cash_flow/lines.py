@@ -23,7 +23,7 @@ from pitplan.economics.weighing import DEPTH, HAULAGE, MILLIONTHS, MINING
 from pitplan.pits.shells import ratio
 from pitplan.plan import Plan
 from pitplan.scheduling.flow.material import column_of, names_of
-from pitplan.scheduling.flow.opening import Lots, contained
+from pitplan.scheduling.flow.opening import OpeningLots, contained
 
 # Amounts of periods, each of shape (periods,).
 Amounts = NDArray[np.float64]
@@ -38,12 +38,12 @@ class CellAmounts:
     Attributes
     ----------
     plan : Plan
-    lots : Lots, optional
+    lots : OpeningLots, optional
         None: nothing lies there.
     """
 
     plan: Plan
-    lots: Optional[Lots] = None
+    lots: Optional[OpeningLots] = None
 
     @cached_property
     def costs(self) -> CostLines:

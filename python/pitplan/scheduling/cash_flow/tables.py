@@ -202,7 +202,7 @@ def block_finances(blocks: BlockSchedule) -> list[Finance]:
 
 
 @dataclass(frozen=True)
-class Material:
+class ScheduledMaterial:
     """The blocks of a schedule, by bench and parcel.
 
     Attributes
@@ -249,11 +249,11 @@ class PushbackOperation(Operation):
 
     Attributes
     ----------
-    material : Material
+    material : ScheduledMaterial
     flows : Flows
     """
 
-    material: Material
+    material: ScheduledMaterial
     flows: Flows
 
     @property
@@ -311,7 +311,7 @@ class PushbackOperation(Operation):
 
 def operations(schedule: PushbackSchedule) -> dict[str, PushbackOperation]:
     """Returns what each method mines and feeds."""
-    material = Material(schedule)
+    material = ScheduledMaterial(schedule)
     return {method: PushbackOperation(material, flows) for method, flows in schedule.flows.items()}
 
 

@@ -24,7 +24,7 @@ from pitplan.scheduling.highs_process import solve
 from pitplan.scheduling.limits import ADVANCE, DUMP, DUMPED, GRADE, MAX, MIN, STOCK
 
 from .model import FlowModel
-from .programme import FlowProgramme, Limit
+from .programme import FlowLimit, FlowProgramme
 
 # Irreducible sets of conflicting limits, by a deletion filter over elastic programmes (Chinneck and Dravnieks,
 # Locating minimal infeasible constraint sets in linear programs, ORSA Journal on Computing 3(2), 1991).
@@ -40,7 +40,7 @@ ALL = -1
 
 
 @dataclass(frozen=True, order=True)
-class Unit:
+class LimitOfYear:
     """A limit in a year, numbered from 0, or in all years."""
 
     year: int
@@ -54,31 +54,33 @@ class ConflictSet:
 
     Attributes
     ----------
-    units : tuple of Unit
+    units : tuple of LimitOfYear
         Rising by year.
     is_irreducible : bool
         Whether the limits are known to conflict no more once any of them is left out.
     """
 
-    units: tuple[Unit, ...]
+    units: tuple[LimitOfYear, ...]
     is_irreducible: bool
 
 
-def unit_of(name: str, side: str, year: int) -> Unit:
+def unit_of(name: str, side: str, year: int) -> LimitOfYear:
     """Returns the unit that a limit in a year, numbered from 0, is part of."""
     if name.startswith(ADVANCE):
-        return Unit(ALL, ADVANCE, MAX)
-    return Unit(ALL if name.startswith(DUMPED) else year, name, side)
+        return LimitOfYear(ALL, ADVANCE, MAX)
+    return LimitOfYear(ALL if name.startswith(DUMPED) else year, name, side)
 
 
 def smallest(
-    units: Iterable[Unit], conflicting: Callable[[tuple[Unit, ...]], Optional[set[Unit]]], most: int = MOST_PROGRAMMES
+    units: Iterable[LimitOfYear],
+    conflicting: Callable[[tuple[LimitOfYear, ...]], Optional[set[LimitOfYear]]],
+    most: int = MOST_PROGRAMMES,
 ) -> ConflictSet:
     """Returns a set of limits that conflict with each other; irreducible if the programmes suffice.
 
     Parameters
     ----------
-    units : iterable of Unit
+    units : iterable of LimitOfYear
         Limits that conflict.
     conflicting : function
         Returns which of some limits have dual values in their elastic programme; None if they do not conflict.
@@ -106,18 +108,18 @@ def smallest(
         size = max(1, min(size, len(found)) // 2)
 
 
-def with_units(model: FlowModel, units: Iterable[Unit]) -> FlowModel:
+def with_units(model: FlowModel, units: Iterable[LimitOfYear]) -> FlowModel:
     """Returns the model with these limits alone."""
     kept = set(units)
     problem = replace(model.problem, limits=limits_with(model, kept))
     dumps = tuple(
-        it if Unit(ALL, f"{DUMPED}{it.name}", MAX) in kept else replace(it, capacity=None) for it in model.dumps
+        it if LimitOfYear(ALL, f"{DUMPED}{it.name}", MAX) in kept else replace(it, capacity=None) for it in model.dumps
     )
     stockpiles = tuple(replace(it, capacity=None) for it in model.stockpiles)
     return replace(model, problem=problem, dumps=dumps, stockpiles=stockpiles)
 
 
-def limits_with(model: FlowModel, kept: set[Unit]) -> Limits:
+def limits_with(model: FlowModel, kept: set[LimitOfYear]) -> Limits:
     """Returns the limits with those that are kept; a maximum that is not is infinite, and a minimum 0."""
     limits, years = model.problem.limits, model.years
     lengths = limits.calendar.lengths(years)
@@ -125,7 +127,8 @@ def limits_with(model: FlowModel, kept: set[Unit]) -> Limits:
     def by_year(name: str, side: str, amounts: np.ndarray) -> tuple[float, ...]:
         free = np.inf if side == MAX else 0.0
         return tuple(
-            float(amount) if Unit(year, name, side) in kept else free for year, amount in enumerate(amounts.tolist())
+            float(amount) if LimitOfYear(year, name, side) in kept else free
+            for year, amount in enumerate(amounts.tolist())
         )
 
     most, least = limits.of_years(years).T / lengths, limits.least_of_years(years)
@@ -136,7 +139,7 @@ def limits_with(model: FlowModel, kept: set[Unit]) -> Limits:
         limits,
         most_by_year={name: by_year(name, MAX, amounts) for name, amounts in zip(limits.most, most)},
         least_by_year={name: by_year(name, MIN, amounts) for name, amounts in least.items()},
-        vertical_advance_rate=limits.vertical_advance_rate if Unit(ALL, ADVANCE, MAX) in kept else np.inf,
+        vertical_advance_rate=limits.vertical_advance_rate if LimitOfYear(ALL, ADVANCE, MAX) in kept else np.inf,
         stock_by_year={
             name.removeprefix(STOCK): tuple(zip(by_year(name, MIN, low), by_year(name, MAX, high)))
             for name, (low, high) in rooms.items()
@@ -148,12 +151,12 @@ def limits_with(model: FlowModel, kept: set[Unit]) -> Limits:
     )
 
 
-def of_mining(model: FlowModel) -> Iterator[Unit]:
+def of_mining(model: FlowModel) -> Iterator[LimitOfYear]:
     """Yields the limits of mining, from which rows of whole benches follow that have no name."""
     for name in model.of_mining.most:
-        yield from (Unit(year, name, MAX) for year in range(model.years))
+        yield from (LimitOfYear(year, name, MAX) for year in range(model.years))
     if np.isfinite(model.of_mining.vertical_advance_rate):
-        yield Unit(ALL, ADVANCE, MAX)
+        yield LimitOfYear(ALL, ADVANCE, MAX)
 
 
 SIDES = {MAX: "maximum", MIN: "minimum"}
@@ -192,7 +195,7 @@ class Conflict:
         return solve(self.programme, Effort())
 
     @property
-    def missed(self) -> list[tuple[Limit, NDArray[np.float64]]]:
+    def missed(self) -> list[tuple[FlowLimit, NDArray[np.float64]]]:
         """The limits that are missed, and by how much in each year."""
         assert self.found.unknowns is not None
         shares = self.found.unknowns[len(self.flow.programme.gain) :].reshape(len(self.elastic), self.flow.years)
@@ -235,7 +238,7 @@ class Conflict:
         return found
 
     @property
-    def units(self) -> set[Unit]:
+    def units(self) -> set[LimitOfYear]:
         """The limits that conflict in this programme, by year; with rows of whole benches, which have no names, also those of mining."""
         found = {
             unit_of(name, side, int(year))
@@ -249,7 +252,7 @@ class Conflict:
         """The elastic programme of the smallest conflict that is found, and its limits."""
         last = self
 
-        def conflicting(units: tuple[Unit, ...]) -> Optional[set[Unit]]:
+        def conflicting(units: tuple[LimitOfYear, ...]) -> Optional[set[LimitOfYear]]:
             nonlocal last
             tried = replace(self, flow=replace(self.flow, model=with_units(self.flow.model, units)))
             if not tried.missed:
@@ -307,7 +310,7 @@ class Conflict:
         when = in_words(years, self.flow.model.problem.limits.calendar.word)
         return f"the {SIDES[side]} of {name.rstrip('_')} in {when}{how_much}"
 
-    def given(self, limit: Limit) -> NDArray[np.float64]:
+    def given(self, limit: FlowLimit) -> NDArray[np.float64]:
         """Returns a limit as the project gives it; of a stockpile with what lies there at the start."""
         if not limit.name.startswith(STOCK):
             return limit.amount

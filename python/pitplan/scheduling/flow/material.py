@@ -324,7 +324,7 @@ def of_pushbacks(pushbacks: Pushbacks, rules: ScheduleRules) -> Material:
     plan, assigned = pushbacks.plan, bench_table.of_pushbacks(pushbacks, rules.bench_lag)
     sets = of_cells(plan, np.flatnonzero((pushbacks.pushback > 0) & (plan.values.tonnes > 0)))
     cells = ore_cells(pushbacks, rules)
-    blocks = ore_of(plan, rules, cells, bench_table.benches_of_cells(pushbacks, assigned, cells), sets)
+    blocks = ore_of(plan, rules, cells, bench_table.benches_of_cells(pushbacks, assigned, cells), sets=sets)
     benches = mined_alone(pushbacks, assigned, rules, sets)
     material = Material(benches, cells, np.zeros(len(cells), dtype=np.int64), blocks, blocks, {}, sets)
     return by_value(material, names_of(plan), rules.bins or BINS, GRADE_PARTS)
@@ -407,6 +407,7 @@ def ore_of(
     rules: ScheduleRules,
     cells: NDArray[np.int64],
     bench: NDArray[np.int64],
+    *,
     sets: Optional[DumpSets] = None,
 ) -> Ore:
     """Returns cells as ore, with the bench of each, and with dumps the tonnes of each that do not go there if it is processed."""

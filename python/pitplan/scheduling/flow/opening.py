@@ -31,7 +31,7 @@ SOURCE = "[schedule.stockpiles] opening"
 
 
 @dataclass(frozen=True)
-class Lots:
+class OpeningLots:
     """The lots that lie on stockpiles at the start.
 
     Attributes
@@ -56,7 +56,7 @@ class Lots:
         return OpeningOre(joined(parts), self.stockpile)
 
 
-def of_plan(plan: Plan, rules: ScheduleRules) -> Optional[Lots]:
+def of_plan(plan: Plan, rules: ScheduleRules) -> Optional[OpeningLots]:
     """Returns what lies on the stockpiles of a project at the start; None if nothing does. Raises PlanError if a lot has no value."""
     given = [(number, it.opening) for number, it in enumerate(rules.stockpiles) if it.opening and it.opening.tonnes > 0]
     if not given:
@@ -66,7 +66,7 @@ def of_plan(plan: Plan, rules: ScheduleRules) -> Optional[Lots]:
     grid = Grid((1, 1, len(given)), (0.0, 0.0, 0.0), (1.0, 1.0, 1.0), np.arange(len(given)))
     values = block_values.values_of(table, grid, project, f"{plan.project.path}: {SOURCE}")
     lots = Plan(project, table, grid, values, plan.domains, np.zeros(len(given), dtype=bool), SOURCE)
-    return Lots(lots, np.array([number for number, _ in given], dtype=np.int64))
+    return OpeningLots(lots, np.array([number for number, _ in given], dtype=np.int64))
 
 
 def as_feed(project: Project) -> Project:
@@ -98,7 +98,7 @@ def row_of(opening: Opening, project: Project) -> dict[str, Any]:
     return named | limited | opening.grades | {table.tonnes: opening.tonnes}
 
 
-def contained(lots: Lots) -> dict[str, NDArray[np.float64]]:
+def contained(lots: OpeningLots) -> dict[str, NDArray[np.float64]]:
     """Returns the metal in each lot, in tonnes or grams, by metal, shape (lots,)."""
     table, tonnes = lots.plan.table, lots.plan.values.tonnes
     return {

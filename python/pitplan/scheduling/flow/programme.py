@@ -46,7 +46,7 @@ def side_by_side(parts: Sequence[Optional[Any]], widths: Sequence[int]) -> csr_m
 
 
 @dataclass(frozen=True)
-class Limit:
+class FlowLimit:
     """A limit by year: `used @ unknowns` is at most `most` for a maximum, at least for a minimum.
 
     Attributes
@@ -249,15 +249,15 @@ class FlowProgramme:
         yield -rows, -due
 
     @cached_property
-    def limits(self) -> list[Limit]:
+    def limits(self) -> list[FlowLimit]:
         """All yearly limits, including stockpiles and dumps. Mining limits are left out if the mining is given."""
         model, limits = self.model, self.model.problem.limits
         most, least = limits.of_years(self.years).T, limits.least_of_years(self.years)
-        found = [Limit(name, MAX, self.used(name), amount) for name, amount in zip(limits.most, most)]
-        found += [Limit(name, MIN, self.used(name), amount) for name, amount in least.items()]
+        found = [FlowLimit(name, MAX, self.used(name), amount) for name, amount in zip(limits.most, most)]
+        found += [FlowLimit(name, MIN, self.used(name), amount) for name, amount in least.items()]
         if self.mined is not None:
             found = [
-                Limit(it.name, it.side, it.used, it.amount - model.mined(it.name) @ self.mined)
+                FlowLimit(it.name, it.side, it.used, it.amount - model.mined(it.name) @ self.mined)
                 for it in found
                 if model.is_of_ore(it.name)
             ]
@@ -275,13 +275,13 @@ class FlowProgramme:
         opened = kron(csr_matrix(model.opened.of(model.opening.ore.of(name))[None]), self.each_year)
         return self.row(mined, direct, None, None, again, opened)
 
-    def advance(self, pushback: int) -> Limit:
+    def advance(self, pushback: int) -> FlowLimit:
         """The limit of the vertical advance of a pushback, in benches."""
         mined = kron(csr_matrix((self.model.benches.pushback == pushback)[None].astype(float)), self.step)
         most = self.model.problem.limits.sinking(self.years)
-        return Limit(f"{ADVANCE}{pushback}", MAX, self.row(mined, None, None, None, None), most)
+        return FlowLimit(f"{ADVANCE}{pushback}", MAX, self.row(mined, None, None, None, None), most)
 
-    def capacities_of_stockpiles(self) -> Iterator[Limit]:
+    def capacities_of_stockpiles(self) -> Iterator[FlowLimit]:
         """The limits of the tonnes of feed on each stockpile at the end of each year, counting ore stacked in the schedule and what remains of the
         opening stock."""
         model, until = self.model, csr_matrix(np.tril(np.ones((self.years, self.years))))
@@ -292,11 +292,11 @@ class FlowProgramme:
             gone = kron(csr_matrix(-lay[model.opened.parcel][None]), until)
             used = self.row(None, None, None, lies, None, gone)
             if np.isfinite(most).any():
-                yield Limit(f"{STOCK}{it.name}", MAX, used, most - lay.sum())
+                yield FlowLimit(f"{STOCK}{it.name}", MAX, used, most - lay.sum())
             if least.any():
-                yield Limit(f"{STOCK}{it.name}", MIN, used, least - lay.sum())
+                yield FlowLimit(f"{STOCK}{it.name}", MIN, used, least - lay.sum())
 
-    def limits_of_dumps(self) -> Iterator[Limit]:
+    def limits_of_dumps(self) -> Iterator[FlowLimit]:
         """The limits of what each dump takes in a year, and of what it holds at the end of one, in tonnes."""
         waste, until = self.model.waste, csr_matrix(np.tril(np.ones((self.years, self.years))))
         for number, it in enumerate(waste.dumps):
@@ -305,11 +305,11 @@ class FlowProgramme:
                 self.row(None, None, None, None, None, None, kron(tonnes, years)) for years in (self.each_year, until)
             )
             if np.isfinite(waste.most[number]).any():
-                yield Limit(f"{DUMP}{it.name}", MAX, taken, waste.most[number])
+                yield FlowLimit(f"{DUMP}{it.name}", MAX, taken, waste.most[number])
             if waste.least[number].any():
-                yield Limit(f"{DUMP}{it.name}", MIN, taken, waste.least[number])
+                yield FlowLimit(f"{DUMP}{it.name}", MIN, taken, waste.least[number])
             if it.capacity is not None:
-                yield Limit(f"{DUMPED}{it.name}", MAX, held, np.full(self.years, it.capacity))
+                yield FlowLimit(f"{DUMPED}{it.name}", MAX, held, np.full(self.years, it.capacity))
 
     @cached_property
     def costs(self) -> NDArray[np.float64]:
@@ -379,7 +379,7 @@ class FlowProgramme:
         )
 
     @property
-    def bounding(self) -> list[Limit]:
+    def bounding(self) -> list[FlowLimit]:
         """The maxima that show whether the mine runs in a year."""
         return [
             it

@@ -16,7 +16,7 @@ from pitplan.config.schedule import Effort
 from pitplan.core.tolerances import MISSED_LIMIT, SOLVER_SHARE, SOLVER_SUM, SUM_ERROR
 from pitplan.errors import PlanError
 from pitplan.pushbacks.bench_table import ORE, PushbackBenches
-from pitplan.scheduling.bench_sequencing import Problem, Sequence, by_lead, leads, mine_in_order
+from pitplan.scheduling.bench_sequencing import BenchSequence, Problem, by_lead, leads, mine_in_order
 from pitplan.scheduling.highs import Programme
 from pitplan.scheduling.highs_process import at_a_time, solve
 
@@ -393,7 +393,7 @@ def cases_of_order(
     mining = Problem(model.benches, model.of_mining, model.problem.settings, model.problem.money)
 
     def mine_at(pace: NDArray[np.float64]) -> NDArray[np.float64]:
-        return padded(mine_in_order(mining, Sequence(order, pace=pace), model.years), model.years)
+        return padded(mine_in_order(mining, BenchSequence(order, pace=pace), model.years), model.years)
 
     paces = [Pacing(model, optimum.prices).best(order).tonnes]
     paces += [model.rock @ optimum.cumulative] if model.asks_ore or model.stockpiles or model.waste.is_limited else []

@@ -79,7 +79,7 @@ def of_shares(flows: Flows, shares: NDArray[np.float64], sets: NDArray[np.int64]
 
 
 @dataclass(frozen=True)
-class Lots:
+class BlockLots:
     """The blocks of pushbacks by bench, value bin, and the codes of rock type and resource class.
 
     Attributes
@@ -150,12 +150,12 @@ def flow_table(schedule: PushbackSchedule) -> pd.DataFrame:
     costs of processing, selling, stacking, reclaiming and dumps, at the year's prices. What lay on a stockpile at the start has pushback and bin 0,
     and no bench.
     """
-    lots = Lots(schedule)
+    lots = BlockLots(schedule)
     found = [of_method(schedule, method, lots) for method in schedule.flows]
     return pd.concat(found, ignore_index=True)
 
 
-def of_method(schedule: PushbackSchedule, method: str, lots: Lots) -> pd.DataFrame:
+def of_method(schedule: PushbackSchedule, method: str, lots: BlockLots) -> pd.DataFrame:
     flows = schedule.flows[method]
     parts = [of_move(flows, move, lots) for move in moves_of(flows, schedule.names)]
     parts += [*of_waste(flows, lots), of_opening(schedule, flows)]
@@ -166,20 +166,22 @@ def of_method(schedule: PushbackSchedule, method: str, lots: Lots) -> pd.DataFra
     return table.reset_index(drop=True)
 
 
-def of_waste(flows: Flows, lots: Lots) -> Iterator[pd.DataFrame]:
+def of_waste(flows: Flows, lots: BlockLots) -> Iterator[pd.DataFrame]:
     """Yields the rows of material that is no ore: all of it goes to waste as it is mined."""
     rows = np.flatnonzero(lots.sums["parcel"] < 0)
     bench, sets = lots.sums["bench"].to_numpy()[rows], -lots.sums["bin"].to_numpy()[rows]
     for move in of_shares(flows, flows.mined[bench], sets):
-        yield written(flows, move, lots, rows, np.arange(len(rows)))
+        yield written(flows, move, lots, rows, at=np.arange(len(rows)))
 
 
-def of_move(flows: Flows, move: Move, lots: Lots) -> pd.DataFrame:
+def of_move(flows: Flows, move: Move, lots: BlockLots) -> pd.DataFrame:
     rows = np.flatnonzero(lots.sums["parcel"] >= 0)
-    return written(flows, move, lots, rows, lots.sums["parcel"].to_numpy()[rows])
+    return written(flows, move, lots, rows, at=lots.sums["parcel"].to_numpy()[rows])
 
 
-def written(flows: Flows, move: Move, lots: Lots, rows: NDArray[np.int64], at: NDArray[np.int64]) -> pd.DataFrame:
+def written(
+    flows: Flows, move: Move, lots: BlockLots, rows: NDArray[np.int64], *, at: NDArray[np.int64]
+) -> pd.DataFrame:
     """Returns the rows of a move for some lots; `at` is the row of its shares for each lot."""
     lot, year = np.nonzero(move.shares[at])
     share, sums = move.shares[at[lot], year], lots.sums.iloc[rows[lot]].reset_index(drop=True)

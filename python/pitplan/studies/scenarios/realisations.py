@@ -22,7 +22,7 @@ from pitplan.config.economics import Metal
 from pitplan.config.project import Project
 from pitplan.config.studies import Scenarios
 from pitplan.config.table import ZERO
-from pitplan.core.numeric_fields import Source, at_row, numbers_of, row_of
+from pitplan.core.numeric_fields import TableSource, at_row, numbers_of, row_of
 from pitplan.core.progress import Progress, silent
 from pitplan.core.text_tables import demand_columns, demand_text, read_header
 from pitplan.economics import block_values
@@ -33,7 +33,7 @@ from pitplan.slopes import closure
 
 
 @dataclass(frozen=True)
-class Model:
+class Realisation:
     """A realisation: its name, and its grades, shape (blocks, metals), in the order of the table."""
 
     name: str
@@ -131,17 +131,17 @@ def column_lists(project: Project) -> dict[str, list[str]]:
     return lists
 
 
-def models(base: Base) -> Iterator[Model]:
+def models(base: Base) -> Iterator[Realisation]:
     """Yields the realisations. Raises PlanError with file, row and column if one does not fit the table."""
     if base.lists:
         count = len(next(iter(base.lists.values())))
         for number in range(count):
             columns = {metal: names[number] for metal, names in base.lists.items()}
             picked = [columns.get(metal.name, metal.column) for metal in base.project.metals]
-            yield Model(next(iter(columns.values())), base.frame[picked].to_numpy())
+            yield Realisation(next(iter(columns.values())), base.frame[picked].to_numpy())
         return
     for path in model_files(base.project):
-        yield Model(name_of_model(path), base.of_blocks(read_model(path, base)))
+        yield Realisation(name_of_model(path), base.of_blocks(read_model(path, base)))
 
 
 def model_files(project: Project) -> list[Path]:
@@ -170,7 +170,7 @@ def read_model(path: Path, base: Base) -> np.ndarray:
     places = [columns.x, columns.y, columns.z]
     codes = [columns.id] if columns.id else []
     frame, form = reader.read_as_written(path, columns, codes, [*codes, *places, *grades])
-    source = Source.of(str(path), (form.header_row, form.first_row))
+    source = TableSource.of(str(path), form.header_row, form.first_row)
     by_id = columns.id is not None and columns.id in frame.columns
     demand_columns(frame, [*(codes if by_id else places), *grades], source)
     at = rows_by_id(frame, base, source) if by_id else rows_by_place(frame, base, source)

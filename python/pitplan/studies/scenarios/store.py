@@ -37,7 +37,7 @@ from pitplan.core.atomic_files import hash_of, staged_file, write_json
 from pitplan.core.layout import SOLVER
 from pitplan.core.libraries import release
 from pitplan.errors import PlanError
-from pitplan.precedences import Rows
+from pitplan.precedences import PrecedenceRows
 from pitplan.solver import mine_files
 from pitplan.solver.choice import Solver
 
@@ -122,12 +122,12 @@ class Shared:
     settled: Optional[Settled] = None
 
     @cached_property
-    def rows(self) -> Rows:
+    def rows(self) -> PrecedenceRows:
         """The precedences for the library, in memory that all processes of a machine share."""
         starts, precedences = (
             np.load(self.folder / name, mmap_mode="r", allow_pickle=False) for name in (STARTS, PRECEDENCES)
         )
-        return Rows(starts, precedences)
+        return PrecedenceRows(starts, precedences)
 
     @property
     def is_by_block(self) -> bool:

@@ -28,7 +28,7 @@ from pitplan.pits.best_worst_case import year_discounts
 from pitplan.plan import MILLION, Plan
 from pitplan.pushbacks.bench_table import CASH, ROCK
 from pitplan.scheduling.bench_sequencing import Limits
-from pitplan.scheduling.blocks import BlockPrecedences, BlockProblem, Limit
+from pitplan.scheduling.blocks import BlockLimit, BlockPrecedences, BlockProblem
 from pitplan.scheduling.blocks.from_plan import (
     Flows,
     at_best,
@@ -153,7 +153,7 @@ def problem_of(minable: Minable, weights: Weights, project: Project) -> BlockPro
         values=flows[CASH][:, :, None] * year_discounts(project.shells, minable.years),
         precedences=minable.precedences,
         limits=tuple(
-            Limit(name, flows[name], most) for name, most in zip(limits.most, limits.of_years(minable.years).T)
+            BlockLimit(name, flows[name], most) for name, most in zip(limits.most, limits.of_years(minable.years).T)
         ),
         dues=dues_of(minable.must_mine, 2),
     )

@@ -20,7 +20,7 @@ from pitplan.studies.scenarios.store import Shared
 from pitplan.studies.scenarios.worker import plan_of
 
 from .problem import Weights, limits_of_scenarios, weights_of
-from .worker import Kept, mean_of, minable_of, read_answer
+from .worker import WrittenSchedule, mean_of, minable_of, read_answer
 
 # The common schedule in each scenario: mill feed and cash flow of its years with the grades of the scenario.
 #
@@ -162,7 +162,7 @@ class Schedules:
         One row per scenario, with the columns of schedules.csv.
     years : DataFrame
         One row per scenario and year of the common schedule.
-    one : Kept
+    one : WrittenSchedule
         The common schedule; its NPV and upper bound are at the mean block values.
     missing : dict of int to str
         The reason by number for each scenario without a result.
@@ -170,7 +170,7 @@ class Schedules:
 
     table: pd.DataFrame
     years: pd.DataFrame
-    one: Kept
+    one: WrittenSchedule
     missing: dict[int, str]
 
     @property
@@ -234,7 +234,7 @@ def gather(shared: Shared, partial: bool = False) -> Schedules:
     return Schedules(pd.DataFrame(rows), pd.concat(years, ignore_index=True), one, missing)
 
 
-def planned_ore(shared: Shared, one: Kept) -> NDArray[np.float64]:
+def planned_ore(shared: Shared, one: WrittenSchedule) -> NDArray[np.float64]:
     """Returns the mill feed of each year of the common schedule, on the mean of all scenarios, in tonnes."""
     ore = np.zeros(shared.grid.count)
     ore[minable_of(shared).cells] = mean_of(shared).flows[ORE]

@@ -28,7 +28,7 @@ WHOLE = ("years", "blocks")
 
 
 @dataclass(frozen=True)
-class Kept:
+class WrittenSchedule:
     """A schedule as written.
 
     Attributes
@@ -136,7 +136,7 @@ def mean_of(shared: Shared) -> Weights:
         return Weights.of_arrays({name: arrays[name] for name in arrays.files})
 
 
-def read_answer(shared: Shared, job: Scenario) -> Kept:
+def read_answer(shared: Shared, job: Scenario) -> WrittenSchedule:
     """Reads the schedule of a job. Raises PlanError if it cannot be read, or is of other blocks."""
     path = shared.answer(job)
     try:
@@ -154,4 +154,4 @@ def read_answer(shared: Shared, job: Scenario) -> Kept:
         raise PlanError(
             f"{path}: is not a result of {job.label}: {error}: remove it, and run pitplan scenarios again"
         ) from error
-    return Kept(year, share, row)
+    return WrittenSchedule(year, share, row)
