@@ -14,6 +14,7 @@ import numpy as np
 import pandas as pd
 import pytest
 from conftest import ROOT, rows
+from helpers.block_problems import problem_of
 from helpers.block_scenarios import COLUMNS, TWO_YEARS, YEARLY, pillars, prepared, solved_in_turn
 from helpers.random_tests import examples
 from helpers.scenarios import hill, write_models
@@ -24,8 +25,8 @@ import pitplan
 from pitplan import MissingPackage, PlanError, Request, gather, write_scenarios
 from pitplan.cli import main
 from pitplan.figures import scenarios
+from pitplan.scheduling.blocks.filling import best_shares
 from pitplan.studies.scenarios import store, worker
-from pitplan.studies.scenarios.blocks.tables import best_shares
 
 BY_BLOCK = Request(by="block")
 # The same with the process by its name.
@@ -220,10 +221,14 @@ cases = st.integers(1, 6).flatmap(
 def test_the_best_ore_is_that_of_a_linear_programme_of_all_limits(case):
     gain, takes, most = (np.array(part, dtype=float) for part in case)
     most = most[: len(takes)]
-    shares = best_shares(gain, takes, most)
-    assert (shares >= 0).all() and (shares <= 1).all() and (takes @ shares <= most * (1 + 1e-9) + 1e-12).all()
+    values, amounts = (np.stack([np.zeros_like(of_mill), of_mill], axis=-1) for of_mill in (gain, takes))
+    problem = problem_of(values[:, :, None], [], *((amounts[k], [most[k]]) for k in range(len(most))))
+    shares = best_shares(problem, np.arange(len(gain)), 0, np.tile([1.0, 0.0], (len(gain), 1)))
+    assert (shares >= 0).all() and shares.sum(axis=1) == pytest.approx(1)
+    milled = shares[:, 1]
+    assert (takes @ milled <= most * (1 + 1e-9) + 1e-6).all()
     best = linprog(-gain, A_ub=takes, b_ub=most, bounds=(0, 1), method="highs-ipm")
-    assert gain @ shares == pytest.approx(-best.fun, abs=1e-5)
+    assert gain @ milled == pytest.approx(-best.fun, abs=1e-5)
 
 
 def test_a_limit_of_metal_holds_in_each_scenario(plan_folder):
@@ -257,6 +262,92 @@ def test_a_schedule_each_is_that_of_the_model_with_the_process_by_name(plan_fold
     (row,) = table_of(folder).to_dict("records")
     assert row["upper_bound"] == pytest.approx(other["upper_bound"], rel=1e-4) and row["npv"] > 0
     assert row["npv"] == pytest.approx(other["npv"]) and row["years"] == other["years"] > 2
+
+
+# In the leach a block of grade g yields 2000 g, less 300, and it takes two blocks a year.
+LEACH = '[[processes]]\nname = "leach"\ncost = 3\nrecovery = { copper = 0.25 }\ncapacity = 200\n'
+OF_TWO = [("years = 2\n", "years = 2\n" + MILL + LEACH), ("processing_cost = 10\n", ""), *IN_MILL]
+
+
+def test_ore_goes_to_the_best_of_two_processes_by_hand(plan_folder):
+    """In one model the outer pillars gain 3000 and 1000 in the mill and 1700 and 700 in the leach; in the other both are waste. The shovels
+    take both in the first year: the better goes to the mill and the other to the leach. On the mean each gains half as much and takes half a
+    mill, so that both are planned for it."""
+    one_year = [("years = 2\n", "years = 1\n" + MILL + LEACH), *OF_TWO[1:]]
+    path = plan_folder(pillars([1, 0, 0.5], [0, 0, 0]), TWO_YEARS, *one_year)
+    folder = solved_in_turn(prepared(path))
+    table, told = table_of(folder), record_of(folder)
+    gains = 3000 + 700 - 800
+    assert table["npv"].tolist() == pytest.approx([gains / 1.1, 0])
+    assert table["common_npv"].tolist() == pytest.approx([gains / 1.1, -800 / 1.1])
+    assert table.loc["sim_1", ["feed_tonnes", "feed_tonnes_mill", "feed_tonnes_leach"]].tolist() == [200, 100, 100]
+    assert told["npv_as_planned"] == pytest.approx(((3000 + 1000) / 2 - 800) / 1.1, abs=1e-3)
+    assert told["limits"] == {"feed_tonnes_mill": 100, "feed_tonnes_leach": 200, "total_tonnes": 400}
+    blocks = pd.read_csv(folder / "tables/common_schedule.csv").set_index("name")
+    assert blocks.loc[["b0-0-0", "b2-0-0"], ["share_mill", "share_leach"]].to_numpy().tolist() == [[1, 0], [1, 0]]
+
+
+def test_a_year_costs_in_each_scenario_what_it_costs_in_a_schedule(plan_folder):
+    """A year costs 500 in which the mine runs, and the first one 100 more at its start; the second pillar gains 600 of which 500 go."""
+    costs = ("mining_cost = 2\n", "mining_cost = 2\nfixed_cost_per_year = 500\ncapex = [[1, 100]]\n")
+    folder = solved_in_turn(prepared(plan_folder(pillars([1, 0.5, 0], [1, 0.5, 0]), TWO_YEARS, costs)))
+    of_year = [(2600 - 500) / 1.1 - 100, 100 / 1.21]
+    assert (
+        table_of(folder)["npv"].tolist() == pytest.approx([sum(of_year)] * 2) == table_of(folder)["common_npv"].tolist()
+    )
+    years = years_of(folder, "sim_1")
+    assert years["cash_flow"].tolist() == [2600 - 600, 600 - 500]
+    assert years["discounted_cash_flow"].tolist() == pytest.approx(of_year)
+
+
+def test_a_head_grade_holds_in_each_scenario(plan_folder):
+    """At most 0.75 % copper in the feed: of blocks of 1 and 0.5 that are mined in one year the whole feed is just at it. Where the second is
+    waste the first goes nowhere, and the year costs 800."""
+    changes = [
+        ("processing_capacity = 100", "processing_capacity = 300"),
+        ("years = 2\n", "years = 1\nfeed = { cu = { max = 0.75 } }\n"),
+    ]
+    folder = solved_in_turn(prepared(plan_folder(pillars([1, 0, 0.5], [1, 0, 0]), TWO_YEARS, *changes)))
+    table = table_of(folder)
+    assert table["common_npv"].tolist() == pytest.approx([(3000 + 1000 - 800) / 1.1, -800 / 1.1])
+    assert table["npv"].tolist() == pytest.approx([(3000 + 1000 - 800) / 1.1, 0])
+    assert record_of(folder)["feed"] == {"grade_cu_max": 0.75}
+    assert years_of(folder, "sim_2")[["feed_tonnes", "unprocessed_tonnes"]].to_numpy().tolist() == [[0, 100]]
+
+
+def test_a_period_has_its_own_limits(plan_folder):
+    """Two halves of a year in which the mill takes nothing come first."""
+    of_half = "[[periods]]\nyears = 1\nperiod_months = 6\nprocessing_capacity = 0.001\n"
+    of_year = "[[periods]]\nprocessing_capacity = 100\n"
+    path = plan_folder(pillars([1, 0, 0]), TWO_YEARS, (COLUMNS, COLUMNS + of_half + of_year))
+    folder = solved_in_turn(prepared(path))
+    told, years = record_of(folder), years_of(folder, "sim_1")
+    assert (told["years"], told["periods"]) == (2, 3)
+    assert years.index.tolist() == [1, 2, 3] and years["feed_tonnes"].tolist() == pytest.approx([0, 0, 100], abs=0.01)
+
+
+@pytest.mark.slow
+@pytest.mark.parametrize("seed", range(3))
+def test_of_one_scenario_its_own_schedule_is_that_of_a_model_with_all_rules(plan_folder, tmp_path, seed):
+    """Of the same grades: two processes, periods with their own capacities and costs, fixed costs, and a limit on a sum of the table."""
+    rng = np.random.default_rng(seed)
+    table = rows(6, 5, 3)
+    table["cu"] = np.where(rng.random(len(table)) < 0.3, rng.random(len(table)).round(3) * 2, 0.0)
+    table["clay"] = rng.random(len(table)).round(2)
+    periods = "[[periods]]\nmining_capacity = 900\nmining_cost_factor = 1.2\n[[periods]]\nmining_capacity = 1500\nprocessing_cost_factor = 0.9\n"
+    sums = '[[schedule.limits]]\ncolumn = "clay"\nof = "feed"\nper_tonne = true\nmax = 60\n'
+    text = TWO_YEARS.replace("years = 2\n", "years = 5\n" + sums + MILL + LEACH).replace("processing_cost = 10\n", "")
+    for old, new in IN_MILL:
+        text = text.replace(old, new)
+    text = text.replace("mining_cost = 2\n", "mining_cost = 2\nfixed_cost_per_year = 300\n") + periods
+    (row,) = table_of(answered(plan_folder, table.rename(columns={"cu": "sim_1"}), text)).to_dict("records")
+    (tmp_path / "other").mkdir()
+    table.to_csv(tmp_path / "other" / "blocks.csv", index=False)
+    (tmp_path / "other" / "project.toml").write_text(text.replace(COLUMNS, ""))
+    other = pitplan.write_block_schedule(tmp_path / "other" / "project.toml").iloc[0]
+    assert row["npv"] == pytest.approx(row["common_npv"]) and row["npv"] > 0
+    assert row["npv"] == pytest.approx(other["npv"], rel=2e-2) and row["npv"] <= other["upper_bound"] * (1 + 1e-6)
+    assert other["npv"] <= row["upper_bound"] * (1 + 1e-6)
 
 
 def test_years_are_those_of_the_longest_pit_and_a_fifth_more(plan_folder):
@@ -330,7 +421,10 @@ def test_factors_are_no_part_of_a_schedule(plan_folder):
         ("bins = 2", "[schedule] bins: applies to pushbacks"),
         ("bins = 2\nstockpile = { reclaim_cost = 1 }", "[schedule] stockpile: found one, expected none by block"),
         ("minimum = { feed = 10 }", "[schedule] minimum: a common schedule cannot meet it in each scenario"),
-        ('[[schedule.limits]]\ncolumn = "tonnes"\nmax = 5', "[[schedule.limits]]: apply to columns of the table"),
+        (
+            '[[schedule.limits]]\ncolumn = "tonnes"\nmin = 5',
+            "[[schedule.limits]] min: a common schedule cannot meet it in each scenario",
+        ),
     ],
 )
 def test_what_is_refused(plan_folder, words, said):
@@ -345,17 +439,17 @@ def test_what_is_refused(plan_folder, words, said):
     ("changes", "said"),
     [
         (
-            [("mining_cost = 2\n", "mining_cost = 2\nfixed_cost_per_year = 5\n")],
-            "fixed_cost_per_year, capex: period costs",
-        ),
-        (
             [("price = 8000", "price = 8000\nprices = [8000, 9000]")],
             "[[metals]] prices: a scenario has one price for all years",
         ),
         ([(COLUMNS, "")], "[scenarios] is missing: it names the realisations"),
         (
-            [("years = 2\n", "years = 2\n" + MILL), ("processing_cost = 10\n", ""), *IN_MILL],
-            "[[processes]]: a schedule over scenarios has one mill: remove it",
+            [(COLUMNS, COLUMNS + "[[periods]]\nprices = { copper = 9000 }\n")],
+            "[[periods]] prices: a scenario has one price for all years: remove it",
+        ),
+        (
+            [(COLUMNS, COLUMNS + "[[periods]]\nminimum = { feed = 10 }\n")],
+            "[[periods]] minimum: a common schedule cannot meet it in each scenario: remove it",
         ),
     ],
 )

@@ -23,7 +23,7 @@ from pitplan.scheduling.bench_sequencing import Limits
 from pitplan.scheduling.flow import scheduler
 from pitplan.scheduling.flow.bound import Lagrangian, upper_bound
 from pitplan.scheduling.flow.programme import FlowProgramme
-from pitplan.studies.scenarios.blocks.problem import demand_of_scenarios
+from pitplan.studies.scenarios.blocks.problem import demand_apt
 
 # Three pillars of 100 t of waste over 100 t of ore earn 2600, 1400 and 600 without dumps; one is mined a year.
 THREE_YEARS = "[schedule]\nyears = 3\n"
@@ -454,8 +454,8 @@ def test_blocks_refuse_dumps(plan_folder):
 
 
 def test_scenarios_by_block_refuse_dumps(plan_folder):
-    with pytest.raises(PlanError, match=r"\[\[dumps\]\]: apply to schedules of pushbacks"):
-        demand_of_scenarios(load(plan_folder(pillars(), PUSHBACKS + BOTH)))
+    with pytest.raises(PlanError, match=r"\[\[dumps\]\]: found dumps, expected none by block"):
+        demand_apt(load(plan_folder(pillars(), PUSHBACKS + BOTH)))
 
 
 def test_a_project_keeps_its_dumps(plan_folder):

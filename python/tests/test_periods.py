@@ -275,9 +275,10 @@ def test_limits_of_periods_that_a_schedule_by_block_exceeds_are_found(plan_folde
     assert {"block limits", "block bound"} & blocks.wrong(folder)
 
 
-def test_scenarios_by_block_refuse_periods(plan_folder):
-    """A schedule over scenarios reads no periods: it says so before it reads grades."""
-    words = '[scenarios]\ncolumns = { copper = "cu*" }\n[[periods]]\nmining_capacity = 300\n'
-    path = plan_folder(pillars(), blocks.YEARLY + words)
-    with pytest.raises(PlanError, match=r"\[\[periods\]\]: apply to shells and schedules of one model"):
-        pitplan.write_scenarios(path, request=pitplan.Request(by="block"))
+def test_scenarios_by_block_have_the_limits_of_periods(plan_folder):
+    """Of one realisation the schedule of its own is that of the model."""
+    words = "[[periods]]\nmining_capacity = 300\n"
+    path = plan_folder(pillars(), blocks.YEARLY + '[scenarios]\ncolumns = { copper = "cu*" }\n' + words)
+    found = pitplan.write_scenarios(path, request=pitplan.Request(by="block")).schedules.iloc[0]
+    alone = pitplan.write_block_schedule(plan_folder(pillars(), blocks.YEARLY + words)).iloc[0]
+    assert found["npv"] == pytest.approx(alone["npv"]) == found["common_npv"] and found["npv"] > 0

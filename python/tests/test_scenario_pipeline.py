@@ -371,12 +371,12 @@ def test_a_fixed_cutoff_keeps_the_precedences_of_blocks_that_pay_in_another_proc
     assert worth == [[0, 7], [0, 0], [0, 0]]
 
 
-def test_schedules_by_block_refuse_processes_before_anything_is_read(plan_folder):
+def test_schedules_by_block_refuse_minimums_before_anything_is_read(plan_folder):
     text = of_processes_text(1, 2, "per_revenue_factor", COLUMNS).replace(
         "discount_rate = 0.1", "discount_rate = 0.1\nmining_capacity = 5000"
     )
-    path = plan_folder("no table", text)
-    with pytest.raises(PlanError, match=r"\[\[processes\]\]: a schedule over scenarios has one mill"):
+    path = plan_folder("no table", text + "[schedule]\nyears = 3\nminimum = { feed = 10 }\n")
+    with pytest.raises(PlanError, match=r"\[schedule\] minimum: a common schedule cannot meet it"):
         prepare.prepare(load(path), path.parent / "by_block", silent, "block")
 
 
@@ -384,7 +384,7 @@ def test_schedules_by_block_refuse_processes_before_anything_is_read(plan_folder
 def test_schedules_by_block_of_reblocked_and_mined_models_are_right(plan_folder, tmp_path, change):
     """What a block holds and earns in each scenario is that of the plan of its own grades, and all that is written is verified."""
     # It imports the library.
-    from pitplan.studies.scenarios.blocks.problem import weights_of
+    from pitplan.studies.scenarios.blocks.problem import amounts_at_best
 
     write_surfaces(tmp_path)
     table, (file, reblocked) = mine(4), change
@@ -395,9 +395,9 @@ def test_schedules_by_block_of_reblocked_and_mined_models_are_right(plan_folder,
     shared = prepare.prepare(project, tmp_path / "by_block", silent, "block")
     cells = shared.grid.rows
     for scenario in shared.scenarios:
-        found = weights_of(worker.plan_of(shared, scenario), cells)
-        own = weights_of(alone(path, scenario, table, grades_of(table)), cells)
-        assert (found.mining == own.mining).all()
+        found = amounts_at_best(worker.plan_of(shared, scenario), cells)
+        own = amounts_at_best(alone(path, scenario, table, grades_of(table)), cells)
+        assert (found.pays == own.pays).all() and found.pays.any()
         assert all((found.flows[name] == own.flows[name]).all() for name in (*found.flows, *own.flows))
     for job in shared.jobs:
         assert worker.solve(str(shared.folder), job.number).why == ""

@@ -3,6 +3,7 @@
 from __future__ import annotations
 
 import os
+from collections.abc import Collection
 from dataclasses import dataclass, replace
 from decimal import Decimal
 from pathlib import Path
@@ -121,6 +122,24 @@ class Project:
     def by_process(self) -> tuple[Project, ...]:
         """The project with each of its processes alone, as if it were the only one; itself where it names none."""
         return tuple(self.of_process(process) for process in self.processes) or (self,)
+
+    def without_limits_on(self, columns: Collection[str]) -> Project:
+        """The project without the limits on sums and head grades of these columns of the table."""
+
+        def without(feed: tuple[FeedGrade, ...]) -> tuple[FeedGrade, ...]:
+            return tuple(it for it in feed if it.code is not None or it.column not in columns)
+
+        calendar, rules = self.shells.calendar, self.schedule
+        periods = tuple(replace(it, feed=without(it.feed)) for it in calendar.periods)
+        if rules is not None:
+            sums = tuple(it for it in rules.limits if it.column not in columns)
+            rules = replace(rules, feed=without(rules.feed), limits=sums)
+        return replace(
+            self,
+            processes=tuple(replace(it, feed=without(it.feed)) for it in self.processes),
+            schedule=rules,
+            shells=replace(self.shells, calendar=replace(calendar, periods=periods)),
+        )
 
     @property
     def inputs(self) -> tuple[Path, ...]:

@@ -692,6 +692,7 @@ SCHEDULES = TableDeclaration(
         *HEADS,
         Column("status", TEXT, "`solved`, or why the scenario has no schedule"),
         *(replace(it, when="") for it in (NPV, BOUND, GAP, *SCHEDULED) if it.name != "unmined_tonnes"),
+        FEED_OF,
         Column("seconds", Unit("s"), "until it was solved"),
         Column("common_npv", MONEY, "NPV of the common schedule"),
         Column("common_feed_tonnes", TONNES, "its mill feed"),
@@ -733,7 +734,7 @@ COMMON = TableDeclaration(
     "a row per block, with your columns and these",
     (
         replace(YEAR, holds="in which it is mined; 0: not"),
-        Column("share_mill", SHARE, "share that is planned for the mill"),
+        Column("share_PROCESS", SHARE, "share that is planned for a process; `share_mill` without named processes"),
     ),
     digits=0,
 )

@@ -82,6 +82,8 @@ class Project:
         What the process accepts, in a project with one process of several.
     kept : tuple of str
         Columns of the table that are kept besides those that the sections name.
+    elsewhere : tuple of str
+        Columns that sections name and the table need not have, since realisations have them.
     """
 
     table: Section
@@ -103,6 +105,7 @@ class Project:
     price_paths: Optional[Section] = None
     accepts: Optional[Section] = None
     kept: tuple[str, ...] = ()
+    elsewhere: tuple[str, ...] = ()
 
     @property
     def by_process(self) -> tuple[Project, ...]:
@@ -156,7 +159,9 @@ class Project:
     @property
     def without_grades(self) -> Project:
         """The project without metals, whose table keeps penalised elements."""
-        return replace(self, metals=(), kept=tuple(self.penalised))
+        return replace(
+            self, metals=(), kept=tuple(self.penalised), elsewhere=tuple(metal["column"] for metal in self.metals)
+        )
 
     @property
     def cuts_blocks(self) -> bool:
@@ -179,7 +184,7 @@ class Project:
         limited += [*self.penalised, *self.of_dumps]
         grades = [metal["column"] for metal in self.metals]
         named = [table["x"], table["y"], table["z"], *tonnes, *self.codes, *grades, *self.adjusting, *marks, *limited]
-        return [name for name in dict.fromkeys(named) if name]
+        return [name for name in dict.fromkeys(named) if name and name not in self.elsewhere]
 
 
 def limit_key(limit: Section) -> tuple[str, str, Optional[str]]:

@@ -2,8 +2,7 @@
 
 from __future__ import annotations
 
-from dataclasses import dataclass, replace
-from decimal import Decimal
+from dataclasses import replace
 from typing import Any
 
 import numpy as np
@@ -49,31 +48,22 @@ def with_best(told: pd.DataFrame, answer: Answer) -> pd.DataFrame:
     return told.assign(revenue=revenue[at], processing_cost=cost[at], **{PROCESS: name})
 
 
-@dataclass(frozen=True)
-class AtPrice:
-    """Amounts of blocks at the base price, arrays of shape (rows,): mining cost, and if processing pays its gain, the mill feed, and the recovered
-    metals; otherwise 0."""
-
-    mining: np.ndarray
-    gain: np.ndarray
-    ore: np.ndarray
-    metals: dict[str, np.ndarray]
-
-
-def at_price(answer: Answer) -> AtPrice:
-    """Returns the amounts of blocks with one process, with money rounded as the project sets it: by floats, and exactly if these are near a half."""
-    unit = 10.0 ** -answer.project.economics["decimals"]
-    amounts = np.stack(money.by_floats(answer)) / unit
-    rounded = np.rint(amounts)
-    close = np.abs(np.abs(amounts - np.floor(amounts)) - 0.5) < 1e-9 + 1e-14 * np.abs(amounts)
-    rows = np.flatnonzero(close.any(axis=0)).tolist()
-    exactly = money.Exactly.of(answer) if rows else None
-    for row in rows:
-        assert exactly is not None
-        rounded[:, row] = [
-            float(amount / Decimal(1).scaleb(-answer.project.economics["decimals"])) for amount in exactly.amounts(row)
-        ]
-    mining, revenue, processing = rounded * unit
-    pays = revenue > np.where(revenue > 0, processing, 0.0)
-    metals = {name: np.where(pays, quantity, 0.0) for name, quantity in answer.quantities.items()}
-    return AtPrice(mining, np.where(pays, revenue - processing, 0.0), np.where(pays, answer.feed, 0.0), metals)
+def at_price(answer: Answer) -> Answer:
+    """Returns the blocks with mining cost, and revenue and processing cost in each process, rounded as the project sets it: by floats, and exactly if
+    these are near a half."""
+    unit, told = 10.0 ** -answer.project.economics["decimals"], dict[str, np.ndarray]()
+    for way, names in zip(answer.project.by_process, answer.amounts_of_ways):
+        part = replace(answer, project=way)
+        amounts = np.stack(money.by_floats(part)) / unit
+        rounded = np.rint(amounts)
+        close = np.abs(np.abs(amounts - np.floor(amounts)) - 0.5) < 1e-9 + 1e-14 * np.abs(amounts)
+        rows = np.flatnonzero(close.any(axis=0)).tolist()
+        exactly = money.Exactly.of(part) if rows else None
+        for row in rows:
+            assert exactly is not None
+            rounded[:, row] = [
+                float(amount.scaleb(answer.project.economics["decimals"])) for amount in exactly.amounts(row)
+            ]
+        mining, revenue, cost = rounded * unit
+        told |= dict(zip((money.MINING, *names), (mining, revenue, np.where(revenue > 0, cost, 0.0))))
+    return replace(answer, said=answer.said.assign(**told))

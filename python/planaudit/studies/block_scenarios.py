@@ -19,14 +19,17 @@ import pandas as pd
 from planaudit.blocks import constraints
 from planaudit.errors import AuditError
 from planaudit.ground import slopes
+from planaudit.inputs import matching
 from planaudit.inputs.answer import Answer
 from planaudit.inputs.kept_arrays import read_arrays
-from planaudit.inputs.tables import TABLES
+from planaudit.inputs.tables import TABLES, YEAR
 from planaudit.money.weighing import at_price
 from planaudit.rules import TOLD, Rule, rule, unlike
-from planaudit.schedules.best_ore import most_earned
-from planaudit.schedules.discounts import discount
-from planaudit.schedules.limits import limits_of
+from planaudit.schedules import block_schedule
+from planaudit.schedules.best_ore import at_best, most_earned
+from planaudit.schedules.block_grades import graded
+from planaudit.schedules.grade_limits import grade_limits, most_of
+from planaudit.schedules.limits import limits_of, shares_of
 from planaudit.schedules.pushback_schedule import CENT
 from planaudit.studies.realisations import ONE, Scenario, read
 from planaudit.studies.scenarios import Verification, named
@@ -53,24 +56,63 @@ def verify(folder: Path, written: Optional[Path] = None) -> list[Rule]:
 
 
 Row = dict[str, float]
+# What blocks add to amounts as waste, and then in each process: a frame each, with a row per block.
+Held = list[pd.DataFrame]
 
 
 @dataclass(frozen=True)
-class Kept:
-    """A schedule as written: year of each row, from 1 (0: never), the share of each that is milled, and amounts by name."""
+class WrittenSchedule:
+    """A schedule as written: year of each row, from 1 (0: never), the share of each that goes to each process, and amounts by name."""
 
     year: np.ndarray
     share: np.ndarray
     row: Row
 
     @staticmethod
-    def of(file: Path) -> Kept:
+    def of(file: Path) -> WrittenSchedule:
         try:
             said = read_arrays(file, file.stem)
             row = dict(zip(said["names"].tolist(), said["amounts"].tolist()))
-            return Kept(said["year"].astype(np.int64), said["share"], row)
+            return WrittenSchedule(said["year"].astype(np.int64), said["share"], row)
         except (ValueError, KeyError, TypeError) as error:
             raise AuditError(f"{file}: is not a result of a schedule: {error}: run pitplan scenarios again") from error
+
+    def flows(self, held: Held, rows: np.ndarray) -> pd.DataFrame:
+        """Returns what each of these rows adds to amounts, by its shares."""
+        found = held[0].copy()
+        for number, in_process in enumerate(held[1:]):
+            found += (in_process - held[0]).mul(self.share[rows, number], axis=0)
+        return found
+
+
+@dataclass(frozen=True)
+class PricedBlocks:
+    """Some rows of the table in a scenario, with their costs and revenue.
+
+    rows    their numbers
+    answer  the same rows, with the money of each process
+    """
+
+    rows: np.ndarray
+    answer: Answer
+
+    @staticmethod
+    def of(whole: Answer, rows: np.ndarray) -> PricedBlocks:
+        part = replace(whole, rows=whole.rows.iloc[rows].reset_index(drop=True), found={})
+        part = replace(part, said=whole.said.iloc[rows].reset_index(drop=True))
+        return PricedBlocks(rows, at_price(part))
+
+    def held(self, year: np.ndarray) -> Held:
+        """Returns what blocks that are mined in these years add to amounts, as waste and in each process where they pay at the base price."""
+        answer, names = self.answer, matching.shares_of(self.answer.project)
+        said, found = answer.said.assign(**{YEAR: year}), []
+        pays = [(said[revenue] > said[cost]).to_numpy(float) for revenue, cost in answer.amounts_of_ways]
+        for process in range(-1, len(names)):
+            shares = {name: pays[number] * (number == process) for number, name in enumerate(names)}
+            mined = answer.of_same_blocks(said.assign(**shares))
+            excess = {name: it for grade in graded(mined, shares_of(mined)) for name, it in grade.excess()}
+            found.append(block_schedule.flows_of(mined).assign(**excess))
+        return found
 
 
 @dataclass(frozen=True)
@@ -84,21 +126,27 @@ class Schedules:
         return self.whole.ground
 
     @cached_property
-    def one(self) -> Kept:
+    def one(self) -> WrittenSchedule:
         folder = self.whole.folder
-        return Kept.of(folder.folder / "done" / f"{folder.record['mean']['key']}.npz")
+        return WrittenSchedule.of(folder.folder / "done" / f"{folder.record['mean']['key']}.npz")
 
     @cached_property
-    def limits(self) -> list[tuple[str, tuple[float, ...], float]]:
-        """Name of an amount, its ramp-up, and its limit."""
-        return list(limits_of(self.ground))
+    def limits(self) -> dict[str, np.ndarray]:
+        """The most of each limited amount in each period, from the first."""
+        periods = self.whole.folder.record["years"]
+        numbers = range(1, periods + 1)
+        found = {
+            name: np.array([most * ramps[min(number, len(ramps)) - 1] for number in numbers])
+            for name, ramps, most in limits_of(self.ground)
+        }
+        return found | {it.name: most_of(self.ground.project, it, periods) for it in grade_limits(self.ground.project)}
 
     def rules(self) -> list[Rule]:
         return [*self.whole.of_ground(), self.whole.listed(), self.order(), *self.values()]
 
     def order(self) -> Rule:
         """Verifies cones, constraints, years and shares, of the common schedule and of a sample of the others."""
-        sample = [(scenario.label, Kept.of(scenario.file)) for scenario in self.whole.sample]
+        sample = [(scenario.label, WrittenSchedule.of(scenario.file)) for scenario in self.whole.sample]
         differences = [
             f"{name}: {said}"
             for name, kept in [("the common schedule", self.one), *sample]
@@ -110,119 +158,103 @@ class Schedules:
             "block order", f"{holds}, must-mine blocks are in some year, and excluded blocks in none", differences
         )
 
-    def out_of_order(self, kept: Kept) -> list[str]:
+    def out_of_order(self, kept: WrittenSchedule) -> list[str]:
         answer = self.ground.of_same_blocks(self.ground.said.assign(revenue_factor=kept.year))
         found = [
             difference.replace("mined at revenue factor", "mined in year", 1)
             for difference in slopes.verify(answer).differences
         ]
         wrong = (kept.year < 0) | (kept.year > self.whole.folder.record["years"])
-        wrong |= (kept.share < -SLIGHT) | (kept.share > (kept.year > 0) + SLIGHT)
+        wrong |= (kept.share < -SLIGHT).any(axis=1) | (kept.share.sum(axis=1) > (kept.year > 0) + SLIGHT)
         if answer.project.constraints is not None:
             must, never = constraints.demanded(answer, answer.project.constraints)
             wrong |= (must & (kept.year == 0)) | (never & (kept.year > 0))
         rows = np.flatnonzero(wrong)[:TOLD]
         return found + [
-            f"{answer.called(row)}: year {kept.year[row]}, share milled {kept.share[row]:.6g}" for row in rows
+            f"{answer.called(row)}: year {kept.year[row]}, share processed {kept.share[row].sum():.6g}" for row in rows
         ]
 
     def values(self) -> list[Rule]:
         """Verifies amounts and NPV of every schedule, by its scenario, and the tables with them."""
-        folder, mined = self.whole.folder, []
-        own, total, rows = list[str](), pd.DataFrame(), dict[int, Row]()
+        folder, one, mined, own, rows = self.whole.folder, self.one, [], list[str](), dict[int, Row]()
+        mean = pd.DataFrame()
+        of_one = np.flatnonzero(one.year > 0)
         for scenario in folder.scenarios:
-            kept = Kept.of(scenario.file) if scenario.file.is_file() else None
-            held = self.held(scenario, (self.one.year > 0) | (kept is not None and kept.year > 0))
-            total = held if total.empty else total + held
+            kept = WrittenSchedule.of(scenario.file) if scenario.file.is_file() else None
+            whole = self.whole.in_scenario(scenario)
+            held = PricedBlocks.of(whole, of_one).held(one.year[of_one])
+            flows = one.flows(held, of_one) / len(folder.scenarios)
+            mean = flows if mean.empty else mean + flows
+            mined.append(self.mined(held, one.year[of_one]))
             if kept is not None:
                 rows[scenario.number] = kept.row
-                own += self.differences(scenario.label, held, kept)
-            mined.append(self.mined(held))
-        mean = total / len(mined)
-        own += self.differences("the common schedule, as planned", mean, self.one)
-        planned = np.bincount(self.one.year, mean[ORE] * self.one.share, minlength=1)[1:]
+                of_own = np.flatnonzero(kept.year > 0)
+                priced = PricedBlocks.of(whole, of_own).held(kept.year[of_own])
+                own += self.differences(scenario.label, kept, kept.flows(priced, of_own))
+        own += self.differences("the common schedule, as planned", one, mean)
+        planned = np.bincount(one.year[of_one], mean[ORE], minlength=1)[1:]
         tables = Tables(self, mined, planned, rows)
         words = f"{len(folder.answered):,} schedules and the common one, at mean block values, keep limits, "
-        of_one = "in each scenario its years process the best feed, and its NPV is within the upper bound"
+        in_each = "in each scenario its years process the best feed, and its NPV is within the upper bound"
         return [
             rule("block value", f"{words}add up, and are within their upper bounds", own),
-            rule("one schedule", of_one, tables.of_one()),
+            rule("one schedule", in_each, tables.of_one()),
             rule("tables", "every row follows from the schedules", tables.of_all()),
         ]
 
-    def held(self, scenario: Scenario, is_mined: np.ndarray) -> pd.DataFrame:
-        """Returns the amounts of each block in a scenario: total_tonnes, feed_tonnes and metals if it pays, mining cost, and gain by processing."""
-        whole = self.whole.in_scenario(scenario)
-        part = replace(
-            whole, rows=whole.rows[is_mined].reset_index(drop=True), said=whole.said[is_mined].reset_index(drop=True)
-        )
-        found = at_price(part)
-        columns = {ROCK: part.tonnes, ORE: found.ore, **{f"recovered_{name}": it for name, it in found.metals.items()}}
-        whole_columns = {}
-        for name, amounts in (columns | {"mining": found.mining, "gain": found.gain}).items():
-            whole_columns[name] = np.zeros(len(is_mined))
-            whole_columns[name][is_mined] = amounts
-        return pd.DataFrame(whole_columns)
-
-    def differences(self, label: str, held: pd.DataFrame, kept: Kept) -> Iterator[str]:
-        """Yields differences of a schedule: limits, upper bound, amounts and NPV."""
-        whole = (ROCK, "mining")
-        milled = pd.DataFrame({name: held[name] if name in whole else held[name] * kept.share for name in held})
-        sums = milled.groupby(kept.year).sum().drop(index=0, errors="ignore")
-        yield from (f"{label}: {said}" for said in self.above_limits(sums))
-        cash = sums["gain"] - sums["mining"]
-        value, bound = (
-            float(sum(amount * discount(self.ground, int(year)) for year, amount in cash.items())),
-            kept.row["upper_bound"],
-        )
+    def differences(self, label: str, kept: WrittenSchedule, flows: pd.DataFrame) -> Iterator[str]:
+        """Yields differences of a schedule: limits, upper bound, amounts and NPV. `flows` has the amounts of the blocks that it mines."""
         is_mined = kept.year > 0
-        expected = {"npv": value, "years": int(kept.year.max()), "blocks": int((is_mined & (held[ROCK] > 0)).sum())}
-        expected |= {
-            "tonnes": held[ROCK][is_mined].sum(),
-            "optimality_gap": (bound - value) / abs(bound) if bound else 0.0,
-        }
-        expected |= {name: sums[name].sum() for name in sums if name == ORE or name.startswith("recovered_")}
+        sums, last = flows.groupby(kept.year[is_mined]).sum(), int(kept.year.max())
+        yield from (f"{label}: {said}" for said in self.above_limits(sums, flows, kept))
+        of_years = block_schedule.with_costs(self.ground, sums.reindex(range(1, last + 1), fill_value=0.0))
+        value, bound = float(of_years["discounted_cash_flow"].sum()), kept.row["upper_bound"]
+        tonnes = self.ground.tonnes[is_mined]
+        expected = {"npv": value, "years": self.ground.project.calendar.end(last), "blocks": int((tonnes > 0).sum())}
+        expected |= {"tonnes": tonnes.sum(), "optimality_gap": (bound - value) / abs(bound) if bound else 0.0}
+        expected |= {name: sums[name].sum() for name in sums if name.startswith((ORE, "recovered_"))}
 
         def slack(name: str, amount: float) -> float:
-            return (SLIGHT if name == "optimality_gap" else CENT) + 1e-9 * abs(amount)
+            return (SLIGHT if name in ("optimality_gap", "years") else CENT) + 1e-9 * abs(amount)
 
         yield from unlike(label, kept.row, expected, slack)
         if value > bound + CENT + 1e-9 * abs(bound):
             yield f"{label}: value {value:.12g} is above bound {bound:.12g}"
 
-    def above_limits(self, sums: pd.DataFrame) -> Iterator[str]:
-        """Yields the years of a schedule that exceed a limit."""
-        for (name, ramps, most), year in product(self.limits, sums.index):
-            amount, allowed = sums[name][year], most * ramps[min(int(year), len(ramps)) - 1]
-            if amount > allowed * (1 + 1e-8) + CENT:
+    def above_limits(self, sums: pd.DataFrame, flows: pd.DataFrame, kept: WrittenSchedule) -> Iterator[str]:
+        """Yields the years of a schedule that exceed a limit; a limit of 0 by sums of content up to a hair of their size."""
+        size = flows.abs().groupby(kept.year[kept.year > 0]).sum()
+        for (name, most), year in product(self.limits.items(), sums.index):
+            amount, allowed = sums[name][year], most[min(int(year), len(most)) - 1]
+            if amount > allowed + 1e-8 * (allowed or size[name][year]) + CENT:
                 yield f"year {year}: {name} {amount:.10g} above {allowed:.10g}"
 
-    def mined(self, held: pd.DataFrame) -> pd.DataFrame:
-        """Returns one row per year of the common schedule in a scenario; mill feed is nan if several limits select it."""
-        rows, columns = [], {name: held[name].to_numpy() for name in held}
-        of_mill = [(name, ramps, most) for name, ramps, most in self.limits if name != ROCK]
-        for year in range(1, int(self.one.year.max()) + 1):
-            mine = np.flatnonzero(self.one.year == year)
-            blocks = {name: amounts[mine] for name, amounts in columns.items()}
-            takes = np.stack([blocks[name] for name, _, _ in of_mill])
-            most = np.array([most * ramps[min(year, len(ramps)) - 1] for _, ramps, most in of_mill])
-            ore = float(blocks[ORE].sum())
-            milled = min(ore, most[0]) if len(of_mill) == 1 else ore if (takes.sum(axis=1) <= most).all() else math.nan
-            cash = most_earned(blocks["gain"], takes, most) - blocks["mining"].sum()
-            rows.append(
-                {
-                    "year": year,
-                    ROCK: blocks[ROCK].sum(),
-                    ORE: milled,
-                    LEFT: ore - milled,
-                    "total": ore,
-                    "cash_flow": cash,
-                }
-            )
+    def mined(self, held: Held, years: np.ndarray) -> pd.DataFrame:
+        """Returns one row per year of the common schedule in a scenario; feed is nan if the limits do not decide it alone."""
+        rows = [
+            self.of_year(year, [it[years == year] for it in held]) for year in range(1, int(years.max(initial=0)) + 1)
+        ]
         frame = pd.DataFrame(rows, columns=["year", ROCK, ORE, LEFT, "total", "cash_flow"]).set_index("year")
-        return frame.assign(
-            discounted_cash_flow=frame["cash_flow"] * [discount(self.ground, year) for year in frame.index]
-        )
+        found = block_schedule.with_costs(self.ground, frame)
+        return found[[*frame.columns, "discounted_cash_flow"]]
+
+    def of_year(self, year: int, held: Held) -> Row:
+        """Returns the amounts of a year whose blocks go where they earn most within the limits."""
+        waste, *processes = held
+        gain = np.stack([it["cash_flow"] - waste["cash_flow"] for it in processes], axis=1)
+        of_year = {name: float(most[min(year, len(most)) - 1]) for name, most in self.limits.items()}
+        limits = {name: most for name, most in of_year.items() if math.isfinite(most)}
+        takes = np.array([np.stack([it[name] - waste[name] for it in processes], axis=1) for name in limits])
+        takes = takes.reshape(len(limits), *gain.shape)
+        room = np.array([max(most - waste[name].sum(), 0.0) for name, most in limits.items()])
+        feed, best = np.stack([it[ORE] for it in processes], axis=1), at_best(gain)
+        ore, at_once = feed.max(axis=1, initial=0.0).sum(), float((feed * best).sum())
+        over = [name for name, it, most in zip(limits, takes, room) if (it * best).sum() > most]
+        fed = at_once if not over else math.nan
+        if over == [ORE] and gain.shape[1] == 1:
+            fed = limits[ORE]
+        cash = most_earned(gain, takes, room) + waste["cash_flow"].sum()
+        return {"year": year, ROCK: waste[ROCK].sum(), ORE: fed, LEFT: ore - fed, "total": ore, "cash_flow": cash}
 
 
 @dataclass(frozen=True)
@@ -340,10 +372,11 @@ class Tables:
     def unlike_blocks(self) -> list[str]:
         """Returns differences of years and shares of blocks from the common schedule."""
         told, one, ground = self.schedules.whole.folder.written, self.schedules.one, self.schedules.ground
-        off = (told["year"].to_numpy() != one.year) | ~(np.abs(told["share_mill"].to_numpy() - one.share) <= SLIGHT)
+        shares = told[matching.shares_of(ground.project)].to_numpy()
+        off = (told["year"].to_numpy() != one.year) | ~(np.abs(shares - one.share) <= SLIGHT).all(axis=1)
         rows = np.flatnonzero(off)[:TOLD]
         return [
-            f"{ONE}: {ground.called(row)}: year {told['year'][row]} for {one.year[row]}, or its share of the mill"
+            f"{ONE}: {ground.called(row)}: year {told['year'][row]} for {one.year[row]}, or its share of a process"
             for row in rows
         ]
 
@@ -371,13 +404,16 @@ class Tables:
         """Yields differences of common_schedule.json."""
         told = json.loads((self.schedules.whole.folder.tables / RECORD).read_text(encoding="utf-8"))
         solved, one = self.solved, self.schedules.one.row
-        ramps = next(ramps for name, ramps, _ in self.schedules.limits if name == ORE)
+        project, periods = self.schedules.ground.project, self.schedules.whole.folder.record["years"]
+        rules, grades = project.schedule, {it.name: it.grade for it in grade_limits(project)}
         expected = {
             "scenarios": len(self.rows),
             "answered": len(solved),
-            "years": self.schedules.whole.folder.record["years"],
+            "years": project.calendar.end(periods),
+            "limits": {name: most for name, _, most in limits_of(self.schedules.ground)},
+            "ramp_up": list(rules["ramp_up"]) if rules else [1.0],
+            **({"feed": grades} if grades else {}),
         }
-        expected |= {"limits": {name: most for name, _, most in self.schedules.limits}, "ramp_up": list(ramps)}
         yield from (
             f"{RECORD}: {name} {told[name]} for {value}" for name, value in expected.items() if told[name] != value
         )

@@ -270,6 +270,7 @@ def read_table(project: Project) -> pd.DataFrame:
     metals = {metal["name"]: metal for metal in project.metals}
     wanted = {(name, column) for model in models_of(project) for name, column in model.columns.items()}
     wanted |= {(name, metal["column"]) for name, metal in metals.items() if name not in asked(project)["columns"]}
-    return block_table.read(
-        replace(project, metals=tuple({**metals[name], "column": column} for name, column in sorted(wanted)))
-    )
+    read = {column for _, column in wanted}
+    simulated = tuple(it for name in asked(project)["columns"] if (it := metals[name]["column"]) not in read)
+    found = tuple({**metals[name], "column": column} for name, column in sorted(wanted))
+    return block_table.read(replace(project, metals=found, elsewhere=simulated))

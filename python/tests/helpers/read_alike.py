@@ -57,7 +57,7 @@ def differences(audit, planner, where="project"):
 def of_project(audit, planner):
     """Yields the differences of each section. What the only process accepts is read with the process, and columns are kept for scenarios."""
     yield from differences(audit.calendar.periods, planner.shells.calendar.periods, "project.periods")
-    for name in [it.name for it in fields(audit) if it.name not in ("accepts", "calendar", "kept")]:
+    for name in [it.name for it in fields(audit) if it.name not in ("accepts", "calendar", "kept", "elsewhere")]:
         yield from differences(getattr(audit, name), getattr(planner, name), f"project.{name}")
 
 

@@ -6,7 +6,7 @@ from collections.abc import Iterable, Iterator
 from dataclasses import dataclass, field, replace
 from functools import cached_property
 from itertools import chain, product
-from typing import Optional
+from typing import NamedTuple, Optional
 
 import numpy as np
 from numpy.typing import NDArray
@@ -401,35 +401,79 @@ def with_best_shares(problem: BlockProblem, schedule: Assignment) -> Assignment:
     return best if best.is_better(schedule, problem) or not schedule.is_allowed(problem) else schedule
 
 
+class YearLimit(NamedTuple):
+    """A limit of a year: the sum of `sign * amounts` over what goes to each destination, shape (blocks, destinations), is at most `sign * bound`."""
+
+    amounts: NDArray[np.float64]
+    bound: float
+    sign: float = 1.0
+
+    def holds(self, share: NDArray[np.float64]) -> bool:
+        """Returns whether shares keep the limit except for a hair."""
+        return bool(self.sign * ((self.amounts * share).sum() - self.bound) <= SUM_ERROR * abs(self.bound))
+
+
+def limits_of_year(
+    problem: BlockProblem, blocks: NDArray[np.int64], year: int, share: NDArray[np.float64]
+) -> list[YearLimit]:
+    """The limits on the blocks of a year, among them that it holds no less of what is owed than by the given shares."""
+    found = [YearLimit(it.amounts[blocks], float(it.most[year])) for it in problem.limits if np.isfinite(it.most[year])]
+    owed = [(it.amounts[blocks], float(it.floor[year])) for it in problem.limits if it.floor[year] > 0]
+    owed += [(due.amounts[blocks], np.inf) for due in problem.dues]
+    return found + [YearLimit(it, min(least, float((it * share).sum())), -1.0) for it, least in owed]
+
+
 def best_shares(
     problem: BlockProblem, blocks: NDArray[np.int64], year: int, share: NDArray[np.float64]
 ) -> NDArray[np.float64]:
-    """The shares of the blocks of a year; where HiGHS finds none the given ones, which keep the limits."""
-    limits = [(limit.amounts[blocks], limit.most[year], 1) for limit in problem.limits if np.isfinite(limit.most[year])]
-    # No less of what must be held at least than now.
-    owed = [(limit.amounts[blocks], limit.floor[year]) for limit in problem.limits if limit.floor[year] > 0]
-    owed += [(due.amounts[blocks], np.inf) for due in problem.dues]
-    limits += [(amounts, min(least, float((amounts * share).sum())), -1) for amounts, least in owed]
-    scale = np.array([amount or float(np.abs(amounts).max()) or 1.0 for amounts, amount, _ in limits])
-    rows = (
-        np.array([sign * amounts.ravel() for amounts, _, sign in limits]).reshape(len(limits), share.size)
-        / scale[:, None]
-    )
-    gain = problem.values[blocks, :, year].ravel()
-    unit = float(np.abs(gain).max()) or 1.0
+    """The shares of the blocks of a year that earn most, shape (blocks, destinations); where HiGHS finds none the given ones, which keep the
+    limits. Without a limit that binds each goes where it earns most, and of two destinations with one such limit by gain per unit of it.
+    """
+    gain, limits = problem.values[blocks, :, year], limits_of_year(problem, blocks, year, share)
+    whole = np.eye(problem.destinations)[gain.argmax(axis=1)]
+    exceeded = [limit for limit in limits if not limit.holds(whole)]
+    if not exceeded:
+        return whole
+    if problem.destinations == 2 and len(exceeded) == 1:
+        parts = by_worth(gain, exceeded[0])
+        if parts is not None and all(limit.holds(parts) for limit in limits):
+            return parts
+    return by_programme(gain, limits, share)
+
+
+def by_worth(gain: NDArray[np.float64], limit: YearLimit) -> Optional[NDArray[np.float64]]:
+    """The shares of blocks in two destinations, the second by gain per unit of a maximum, the last one in part; None of a minimum, or if a block takes
+    less of it there than in the first."""
+    more, takes = gain[:, 1] - gain[:, 0], limit.amounts[:, 1] - limit.amounts[:, 0]
+    if limit.sign < 0 or (takes < 0).any():
+        return None
+    takes = np.where(more > 0, takes, 0.0)
+    with np.errstate(divide="ignore", invalid="ignore"):
+        order = np.argsort(np.where(takes > 0, -more / takes, -np.inf), kind="stable")
+    before, room = np.cumsum(takes[order]) - takes[order], limit.bound - limit.amounts[:, 0].sum()
+    second = np.empty(len(gain))
+    second[order] = np.clip((room - before) / np.where(takes[order] > 0, takes[order], 1.0), 0.0, 1.0)
+    second = np.where((takes > 0) | (more <= 0), second, 1.0) * np.where(more > 0, 1.0, 0.0)
+    return np.stack([1.0 - second, second], axis=1)
+
+
+def by_programme(gain: NDArray[np.float64], limits: list[YearLimit], share: NDArray[np.float64]) -> NDArray[np.float64]:
+    """The shares of blocks that earn most by a linear programme; the given ones where HiGHS finds none."""
+    scale = np.array([it.bound or float(np.abs(it.amounts).max()) or 1.0 for it in limits])
+    rows = np.array([it.sign * it.amounts.ravel() for it in limits]).reshape(len(limits), share.size) / scale[:, None]
     found = linprog(
-        -gain / unit,
+        -gain.ravel() / (float(np.abs(gain).max()) or 1.0),
         A_ub=csr_matrix(rows) if limits else None,
-        b_ub=np.array([sign * amount for _, amount, sign in limits]) / scale if limits else None,
-        A_eq=kron(eye(len(blocks)), np.ones((1, problem.destinations)), format="csr"),
-        b_eq=np.ones(len(blocks)),
+        b_ub=np.array([it.sign * it.bound for it in limits]) / scale if limits else None,
+        A_eq=kron(eye(len(gain)), np.ones((1, gain.shape[1])), format="csr"),
+        b_eq=np.ones(len(gain)),
         bounds=(0, 1),
         method="highs-ds",
     )
     if found.status != 0:
         return share
     shares = np.clip(found.x.reshape(share.shape), 0.0, 1.0)
-    return shares / shares.sum(axis=1, keepdims=True)
+    return np.asarray(shares / shares.sum(axis=1, keepdims=True))
 
 
 # Schedules that keep signed limits, such as those on head grades, by where the blocks of a year go.

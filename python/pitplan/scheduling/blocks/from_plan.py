@@ -2,7 +2,9 @@
 
 from __future__ import annotations
 
+from collections.abc import Callable, Sequence
 from dataclasses import dataclass
+from typing import Any
 
 import numpy as np
 from numpy.typing import NDArray
@@ -12,7 +14,7 @@ from pitplan.config.material import MILL, WASTE
 from pitplan.config.project import Project
 from pitplan.config.schedule import FEED, MOST_YEARS, TOTAL, ScheduleRules, Sum
 from pitplan.core.tolerances import SUM_ERROR
-from pitplan.economics.period_costs import MINING_COST, YearlyMoney, of_project
+from pitplan.economics.period_costs import MINING_COST, of_project
 from pitplan.errors import WARNING, PlanError
 from pitplan.pits.best_worst_case import year_discounts
 from pitplan.plan import MILLION, Plan
@@ -100,16 +102,6 @@ class HeadGrade:
         found = limit.sign * (self.content - limit.grade * self.feed)
         return np.where(self.pays, found, np.maximum(found, 0.0))
 
-    def limits_of(self, cells: NDArray[np.int64], destinations: int, years: int) -> list[BlockLimit]:
-        """Returns the limits of cells that are scheduled."""
-        found = []
-        for name, limit in self.limits.items():
-            amounts = np.zeros((len(cells), destinations))
-            amounts[:, self.destination] = self.excess(name)[cells]
-            most = np.where(limit.in_years(years), 0.0, np.inf)
-            found.append(BlockLimit(name, amounts, most, signed=True))
-        return found
-
     def of_years(self, cells: NDArray[np.int64], schedule: Assignment, years: int) -> NDArray[np.float64]:
         """Returns the head grade of each year; nan without feed."""
         share = schedule.share[:, self.destination]
@@ -120,7 +112,7 @@ class HeadGrade:
         return np.where(feed > 0, content / np.where(feed > 0, feed, 1.0), np.nan)
 
 
-def head_grades(plan: Plan) -> list[HeadGrade]:
+def head_grades(plan: Plan) -> tuple[HeadGrade, ...]:
     """Returns the head grades that `[processes.feed]`, `[schedule.feed]` and `feed` of periods limit."""
     values, cells, found = plan.values, np.arange(plan.grid.count), []
     names = [process.name for process in plan.project.processes] or [""]
@@ -133,106 +125,213 @@ def head_grades(plan: Plan) -> list[HeadGrade]:
         pays = values.by_process[number].revenue > 0
         content = content_of(plan, mine[0], cells)
         found.append(HeadGrade(f"head_{prefix}", 1 + number, sides, content, values.feed, pays))
-    return found
+    return tuple(found)
 
 
 # A schedule may take this part of the years more that its limits ask for.
 MORE_YEARS = 0.2
-# By block and destination.
+# By name, shape (blocks, destinations).
 Flows = dict[str, NDArray[np.float64]]
+
+
+@dataclass(frozen=True)
+class BlockAmounts:
+    """What blocks hold in each destination: waste, and each process. Arrays have shape (blocks, destinations).
+
+    Attributes
+    ----------
+    flows : dict of str to array
+        Amounts that may be limited, the cash at the price as given, and the costs in which years differ.
+    excess : dict of str to array
+        By limit on a head grade what a block adds to the content above a maximum, or below a minimum.
+    pays : bool array
+        Whether a block yields anything.
+    """
+
+    flows: Flows
+    excess: Flows
+    pays: NDArray[np.bool_]
+
+    @staticmethod
+    def of_plan(plan: Plan, grades: tuple[HeadGrade, ...]) -> BlockAmounts:
+        """Returns the amounts of all cells of a plan."""
+        pays, excess = pays_of(plan), {}
+        for grade in grades:
+            for name in grade.limits:
+                excess[name] = np.zeros(pays.shape)
+                excess[name][:, grade.destination] = grade.excess(name)
+        return BlockAmounts(flows_of(plan), excess, pays)
+
+    def of_cells(self, cells: NDArray[np.int64]) -> BlockAmounts:
+        """Returns the amounts of some cells."""
+        return self.each(lambda amounts: amounts[cells])
+
+    def each(self, change: Callable[[NDArray[Any]], NDArray[Any]]) -> BlockAmounts:
+        """Returns the amounts with each array changed."""
+        flows, excess = ({name: change(it) for name, it in of.items()} for of in (self.flows, self.excess))
+        return BlockAmounts(flows, excess, change(self.pays))
+
+    @property
+    def destinations(self) -> int:
+        return self.pays.shape[1]
+
+    def cash(self, project: Project, years: int) -> NDArray[np.float64]:
+        """Returns the cash of each block by destination and year, at the year's prices and costs."""
+        money, cash = of_project(project), self.flows[CASH]
+        premiums = money.premium(tuple(self.flows), years).T
+        more = sum(it[:, :, None] * premium for it, premium in zip(self.flows.values(), premiums) if premium.any())
+        return np.broadcast_to(cash[:, :, None], (*cash.shape, years)) + more
+
+    def greatest_cash(self, project: Project) -> NDArray[np.float64]:
+        """Returns the most that each block earns in any destination and year, shape (blocks,)."""
+        money = of_project(project)
+        return self.cash(project, 1 + max((len(more) for more in money.premiums.values()), default=0)).max(axis=(1, 2))
+
+    def held(self, pit: NDArray[np.bool_]) -> dict[str, float]:
+        """Returns what the blocks of a pit hold where each earns most at the price as given, by name."""
+        best = self.flows[CASH][pit].argmax(axis=1)
+        return {name: float(it[pit, best].sum()) for name, it in self.flows.items()}
+
+    def limits(self, project: Project, years: int) -> tuple[BlockLimit, ...]:
+        """Returns the limits of years: maxima, minimums, and head grades."""
+        limits, flows = all_limits_of(project, project.schedule or ScheduleRules()), self.flows
+        above = [BlockLimit(name, flows[name], most) for name, most in zip(limits.most, limits.of_years(years).T)]
+        # What yields nothing there is not sent to a process for the sake of a least amount.
+        below = [
+            BlockLimit(
+                name, np.where(self.pays | (flows[name][:, :1] > 0), flows[name], 0.0), np.full(years, np.inf), least
+            )
+            for name, least in limits.least_of_years(years).items()
+        ]
+        graded = [
+            BlockLimit(it.name, self.excess[it.name], np.where(it.in_years(years), 0.0, np.inf), signed=True)
+            for it in grade_limits(project)
+        ]
+        return (*above, *below, *graded)
+
+
+@dataclass(frozen=True)
+class Minable:
+    """The blocks that may be mined.
+
+    Attributes
+    ----------
+    cells : int array, shape (blocks,)
+        The grid's number of each, rising.
+    precedences : BlockPrecedences
+        The precedences between them.
+    must_mine : bool array, shape (blocks,)
+        Whether each must be mined.
+    """
+
+    cells: NDArray[np.int64]
+    precedences: BlockPrecedences
+    must_mine: NDArray[np.bool_]
+
+    @staticmethod
+    def of_plan(plan: Plan, wanted: NDArray[np.bool_]) -> Minable:
+        """Returns the cells that are wanted, or must be mined, with all that they need except for air that no rock lies over."""
+        cells = cells_of(plan, wanted)
+        precedences = precedences_of(plan, cells)
+        has_rock = (plan.values.tonnes[cells] > 0).astype(float)
+        is_under_rock = greatest_of_predecessors(precedences, ranks_of(precedences), has_rock) > 0
+        cells = cells[is_under_rock]
+        return Minable(cells, precedences.within(is_under_rock), np.isin(cells, plan.fixed.must_mine))
+
+    def pit(self, amounts: BlockAmounts, project: Project) -> NDArray[np.bool_]:
+        """Returns whether each block is in the pit of greatest value that holds the must-mine blocks."""
+        cash = amounts.greatest_cash(project)
+        fixed = np.where(self.must_mine, pitshell.FORCED, pitshell.FREE).astype(np.uint8)
+        precedences = self.precedences.starts, self.precedences.needed
+        return pitshell.solve(upward(cash).amounts, precedences, fixed, millionths=True).in_pit
+
+    def dues(self, destinations: int) -> tuple[Due, ...]:
+        """Returns that the must-mine blocks are mined in some year; nothing where none exist."""
+        count = int(self.must_mine.sum())
+        of_each = np.repeat(self.must_mine[:, None], destinations, axis=1).astype(float)
+        return (Due(f"{count:,} must-mine blocks", of_each, float(count)),) if count else ()
+
+    def problem(self, amounts: BlockAmounts, project: Project, years: int) -> BlockProblem:
+        """Returns the problem of these blocks, with their amounts, over some periods."""
+        money = of_project(project)
+        return BlockProblem(
+            values=amounts.cash(project, years) * year_discounts(project.shells, years),
+            precedences=self.precedences,
+            limits=amounts.limits(project, years),
+            dues=self.dues(amounts.destinations),
+            costs=costs_of_years(money, project.shells, years) if money.columns else None,
+            word=project.shells.calendar.word,
+        )
 
 
 @dataclass(frozen=True)
 class PlannedBlocks:
     """A plan's blocks that may be mined, as a problem.
 
-    cells         the grid's number of each block of the problem, rising
-    destinations  where a block may go: waste, and each process by its name
-    limits        of a year, by the names of amounts
-    flows         what each block holds of each name where it goes to a destination, cash at the price as given and costs that years multiply among them
-    pays          whether each block yields anything in each destination, shape (blocks, destinations)
-    grades        head grades that are limited
+    Attributes
+    ----------
+    plan : Plan
+    minable : Minable
+    amounts : BlockAmounts
+    problem : BlockProblem
+    grades : tuple of HeadGrade
+        Head grades that are limited.
     """
 
     plan: Plan
-    cells: NDArray[np.int64]
-    destinations: tuple[str, ...]
-    limits: Limits
-    flows: Flows
+    minable: Minable
+    amounts: BlockAmounts
     problem: BlockProblem
-    pays: NDArray[np.bool_]
     grades: tuple[HeadGrade, ...] = ()
+
+    @property
+    def cells(self) -> NDArray[np.int64]:
+        """The grid's number of each block, rising."""
+        return self.minable.cells
+
+    @property
+    def destinations(self) -> tuple[str, ...]:
+        """Waste, and each process by its name."""
+        return destinations_of(self.plan.project)
+
+    @property
+    def limits(self) -> Limits:
+        """The limits of a year, by the names of amounts."""
+        return all_limits_of(self.plan.project, self.plan.project.schedule or ScheduleRules())
 
     def with_barren_waste(self, schedule: Assignment) -> Assignment:
         """The schedule with blocks as waste that would go to a process where they yield nothing. They cost as much there, and add to no minimum."""
-        share = np.where(self.pays, schedule.share, 0.0)
+        share = np.where(self.amounts.pays, schedule.share, 0.0)
         share[:, 0] = schedule.share.sum(axis=1) - share[:, 1:].sum(axis=1)
         return Assignment(schedule.year, share)
 
 
 def of_plan(plan: Plan) -> PlannedBlocks:
     """The blocks of a plan. Raises PlanError where the project asks for what is not done by block, or for too many years."""
-    project, rules = plan.project, plan.project.schedule or ScheduleRules()
+    project = plan.project
     demand_of_blocks(project)
-    flows, limits, money, grades = flows_of(plan), all_limits_of(project, rules), of_project(project), head_grades(plan)
-    best = cash_of(flows, money, 1 + max((len(more) for more in money.premiums.values()), default=0)).max(axis=(1, 2))
-    cells, precedences = minable(plan, (best > 0) | owing(plan, flows, limits, grades))
-    demand_room(len(cells), len(precedences.needed), f"{project.path}: ")
-    pays, must_mine = pays_of(plan)[cells], np.isin(cells, plan.fixed.must_mine)
-    flows = {name: amounts[cells] for name, amounts in flows.items()}
-    pit = pit_of(best[cells], precedences, must_mine)
-    held = {name: amounts[pit, flows[CASH][pit].argmax(axis=1)] for name, amounts in flows.items()}
-    demand_small(plan, cells[pit], held, limits)
-    years = periods_of(project, rules) or years_of(
-        {name: amounts.sum() for name, amounts in held.items()}, limits, project
-    )
-    above = [BlockLimit(name, flows[name], most) for name, most in zip(limits.most, limits.of_years(years).T)]
-    # What yields nothing there is not sent to a process for the sake of a least amount.
-    below = [
-        BlockLimit(name, np.where(pays | (flows[name][:, :1] > 0), flows[name], 0.0), np.full(years, np.inf), least)
-        for name, least in limits.least_of_years(years).items()
-    ]
-    problem = BlockProblem(
-        values=cash_of(flows, money, years) * year_discounts(project.shells, years),
-        precedences=precedences,
-        limits=(*above, *below, *(it for grade in grades for it in grade.limits_of(cells, pays.shape[1], years))),
-        dues=dues_of(must_mine, pays.shape[1]),
-        costs=costs_of_years(money, project.shells, years) if money.columns else None,
-        word=project.shells.calendar.word,
-    )
-    return PlannedBlocks(plan, cells, destinations_of(project), limits, flows, problem, pays, tuple(grades))
+    grades = head_grades(plan)
+    of_all = BlockAmounts.of_plan(plan, grades)
+    minable = Minable.of_plan(plan, (of_all.greatest_cash(project) > 0) | owing(plan, of_all))
+    demand_room(len(minable.cells), len(minable.precedences.needed), f"{project.path}: ")
+    amounts = of_all.of_cells(minable.cells)
+    pit = minable.pit(amounts, project)
+    demand_small(plan, minable.cells[pit])
+    years = periods_of(project, project.schedule or ScheduleRules()) or years_of([amounts.held(pit)], project)
+    return PlannedBlocks(plan, minable, amounts, minable.problem(amounts, project, years), grades)
 
 
-def minable(plan: Plan, wanted: NDArray[np.bool_]) -> tuple[NDArray[np.int64], BlockPrecedences]:
-    """The cells that are wanted, or must be mined, with all that they need except for air that no rock lies over; and their needs."""
-    cells = cells_of(plan, wanted)
-    precedences = precedences_of(plan, cells)
-    is_under_rock = (
-        greatest_of_predecessors(precedences, ranks_of(precedences), (plan.values.tonnes[cells] > 0).astype(float)) > 0
-    )
-    return cells[is_under_rock], precedences.within(is_under_rock)
-
-
-def pit_of(cash: NDArray[np.float64], precedences: BlockPrecedences, must_mine: NDArray[np.bool_]) -> NDArray[np.bool_]:
-    """The blocks of the pit of greatest worth that holds what is must-mine."""
-    fixed = np.where(must_mine, pitshell.FORCED, pitshell.FREE).astype(np.uint8)
-    return pitshell.solve(upward(cash).amounts, (precedences.starts, precedences.needed), fixed, millionths=True).in_pit
-
-
-def demand_small(plan: Plan, cells: NDArray[np.int64], held: dict[str, NDArray[np.float64]], limits: Limits) -> None:
+def demand_small(plan: Plan, cells: NDArray[np.int64]) -> None:
     """Raises PlanError where a cell holds more material than a year may: it is mined in one year, so it never could be."""
-    for name, most in [(name, limits.greatest(name)) for name in limits.most if name == ROCK]:
-        if (held[name] > most * (1 + SUM_ERROR)).any():
-            row = int(held[name].argmax())
-            block = f"{plan.source}: {plan.called(int(cells[row]))} holds {held[name][row]:,.10g} of {name}, and a year takes at most {most:,.10g}"
-            why = "by block each block is mined in one year: give smaller blocks or a larger limit, or schedule by pushback"
-            raise PlanError(f"{plan.project.path}: {why}; {block}")
-
-
-def dues_of(must_mine: NDArray[np.bool_], destinations: int) -> tuple[Due, ...]:
-    """That the must-mine blocks are mined in some year; nothing where none exist."""
-    of_each = np.repeat(must_mine[:, None], destinations, axis=1).astype(float)
-    return (Due(f"{must_mine.sum():,} must-mine blocks", of_each, float(must_mine.sum())),) if must_mine.any() else ()
+    limits = all_limits_of(plan.project, plan.project.schedule or ScheduleRules())
+    if ROCK not in limits.most:
+        return
+    held, most = plan.values.tonnes[cells], limits.greatest(ROCK)
+    if (held > most * (1 + SUM_ERROR)).any():
+        row = int(held.argmax())
+        block = f"{plan.source}: {plan.called(int(cells[row]))} holds {held[row]:,.10g} of {ROCK}, and a year takes at most {most:,.10g}"
+        why = "by block each block is mined in one year: give smaller blocks or a larger limit, or schedule by pushback"
+        raise PlanError(f"{plan.project.path}: {why}; {block}")
 
 
 def cells_of(plan: Plan, wanted: NDArray[np.bool_]) -> NDArray[np.int64]:
@@ -243,15 +342,16 @@ def cells_of(plan: Plan, wanted: NDArray[np.bool_]) -> NDArray[np.int64]:
     return np.flatnonzero(closure.used_blocks(plan.grid, plan.domains, wanted))
 
 
-def owing(plan: Plan, flows: Flows, limits: Limits, grades: list[HeadGrade]) -> NDArray[np.bool_]:
+def owing(plan: Plan, amounts: BlockAmounts) -> NDArray[np.bool_]:
     """The cells that a limit may require: those that add to an amount that has a least, and those that bring a head grade nearer to its limit.
     Raises PlanError where of a model that is too large some were left out."""
+    least = all_limits_of(plan.project, plan.project.schedule or ScheduleRules()).least
     found = np.zeros(plan.grid.count, dtype=bool)
-    for name in limits.least:
-        found |= (flows[name] > 0).any(axis=1)
-    for grade in grades:
-        found |= np.any([grade.excess(name) < 0 for name in grade.limits], axis=0)
-    if (limits.least or grades) and plan.left_out:
+    for name in least:
+        found |= (amounts.flows[name] > 0).any(axis=1)
+    for excess in amounts.excess.values():
+        found |= (excess < 0).any(axis=1)
+    if (least or amounts.excess) and plan.left_out:
         why = "blocks that no shell can reach were removed, and a minimum or a head grade may require them: set [table] reblock"
         raise PlanError(f"{plan.source}: {plan.left_out:,} {why}")
     return found
@@ -308,19 +408,6 @@ def of_money(plan: Plan) -> Flows:
     return {name: np.stack(amounts, axis=1) for name, amounts in columns.items()}
 
 
-def at_best(plan: Plan) -> dict[str, NDArray[np.float64]]:
-    """The same of each cell in the one process of a plan if it pays there at the price as given, and as waste otherwise."""
-    place = plan.values.pays.astype(np.int64)
-    return {name: amounts[np.arange(len(place)), place] for name, amounts in of_money(plan).items()}
-
-
-def cash_of(flows: Flows, money: YearlyMoney, years: int) -> NDArray[np.float64]:
-    """The cash of each block by destination and year, at the year's prices."""
-    premiums = money.premium(tuple(flows), years)
-    more = sum(amounts[:, :, None] * premium for amounts, premium in zip(flows.values(), premiums.T) if premium.any())
-    return np.broadcast_to(flows[CASH][:, :, None], (*flows[CASH].shape, years)) + more
-
-
 def precedences_of(plan: Plan, cells: NDArray[np.int64]) -> BlockPrecedences:
     """The needs among cells, which rise, and with which stand all that they need."""
     number = np.full(plan.grid.count, -1)
@@ -334,10 +421,22 @@ def precedences_of(plan: Plan, cells: NDArray[np.int64]) -> BlockPrecedences:
     return BlockPrecedences(starts.astype(np.uint32), np.concatenate(needed).astype(np.uint32))
 
 
-def years_of(sums: dict[str, float], limits: Limits, project: Project) -> int:
-    """The years in which the limits let so much be mined, and a fifth more. Raises PlanError where they are too many."""
+def years_of(pits: Sequence[dict[str, float]], project: Project) -> int:
+    """Returns the periods in which the limits let the longest of some pits be mined, and a fifth more. Raises PlanError where they are too many.
+
+    Parameters
+    ----------
+    pits : sequence of dict
+        What each pit holds, by name.
+    project : Project
+    """
+    limits = all_limits_of(project, project.schedule or ScheduleRules())
     most = limits.of_years(MOST_YEARS).cumsum(axis=0)
-    taken = max(1 + int(np.searchsorted(done, sums[name] * (1 - SUM_ERROR))) for name, done in zip(limits.most, most.T))
+    taken = max(
+        1 + int(np.searchsorted(done, pit[name] * (1 - SUM_ERROR)))
+        for pit in pits
+        for name, done in zip(limits.most, most.T)
+    )
     years = -int(-taken * (1 + MORE_YEARS) // 1)
     if years > MOST_YEARS:
         why = f"the pit would take more than {MOST_YEARS} years: check that the limits are in tonnes per year, or set [schedule] years"

@@ -47,7 +47,7 @@ from pitplan.scheduling.flow.material import column_of
 from pitplan.scheduling.methods import BLOCK, notes_of_gap
 from pitplan.scheduling.schedule import Schedule
 
-from .from_plan import PlannedBlocks, cash_of, of_plan, unapplied
+from .from_plan import PlannedBlocks, of_plan, unapplied
 from .problem import Assignment, BlockLimit, BlockProblem
 from .scheduler import Scheduled, gap_of, solve
 
@@ -189,9 +189,9 @@ class BlockSchedule(Schedule):
     def years(self) -> pd.DataFrame:
         """A row a year up to the last in which anything is mined, as `Shells.years` has of cases."""
         problem, schedule, project = self.planned.problem, self.found.schedule, self.plan.project
-        cash = cash_of(self.planned.flows, of_project(project), problem.years)
+        cash = self.planned.amounts.cash(project, problem.years)
         mined = np.arange(problem.blocks), slice(None), np.minimum(schedule.year, problem.years - 1)
-        flows, count = self.planned.flows | {CASH: cash[mined]}, self.count
+        flows, count = self.planned.amounts.flows | {CASH: cash[mined]}, self.count
         table = pd.DataFrame({"case": BLOCK, "revenue_factor": BASE_PRICE, "year": np.arange(1, count + 1)})
         for name, amounts in [(name, amounts) for name, amounts in flows.items() if is_shown(name)]:
             of_blocks = (amounts * schedule.share).sum(axis=1)
@@ -208,7 +208,7 @@ class BlockSchedule(Schedule):
     def table(self) -> pd.DataFrame:
         """One row: value, discounted, and bound, in money; optimality_gap, by which share of the bound the value is less; years; blocks of
         rock that are mined; tonnes of rock, and feed_tonnes; recovered_NAME recovered."""
-        mined = (self.found.schedule.year < self.planned.problem.years) & (self.planned.flows[ROCK][:, 0] > 0)
+        mined = (self.found.schedule.year < self.planned.problem.years) & (self.planned.amounts.flows[ROCK][:, 0] > 0)
         row = {
             "npv": self.found.value,
             "upper_bound": self.found.bound,

@@ -15,6 +15,7 @@ from pitplan.blockmodel.grid import demand_within
 from pitplan.config import project_writer
 from pitplan.config.economics import ByDomain
 from pitplan.config.project import Project
+from pitplan.config.table import DOMAIN
 from pitplan.core import csv_writer, layout
 from pitplan.core.atomic_files import hashes, staged, write_json
 from pitplan.core.libraries import load_library, release
@@ -134,11 +135,13 @@ def arrays_of(base: Base) -> dict[str, np.ndarray]:
     arrays = {"cells": base.grid.rows, table.tonnes: base.frame[table.tonnes].to_numpy()}
     money = base.project.economics
     by_domain = any(isinstance(value, ByDomain) for value in (money.mining_recovery, money.dilution))
-    for name in (table.rock_type, table.domain if by_domain else None, table.resource_class):
+    in_domains = by_domain or any(it.code is not None and it.column == DOMAIN for it in base.project.feed_grades)
+    for name in (table.rock_type, table.domain if in_domains else None, table.resource_class):
         if name:
             arrays[name] = base.frame[name].to_numpy().astype(str)
-    columns = (*money.factor_columns, *base.project.penalty_columns)
-    return arrays | {name: base.frame[name].to_numpy() for name in columns}
+    grades = {metal.column for metal in base.project.metals}
+    columns = (*money.factor_columns, *base.project.penalty_columns, *base.project.limited_columns)
+    return arrays | {name: base.frame[name].to_numpy() for name in columns if name not in grades}
 
 
 def arrays_of_settled(plan: Plan) -> dict[str, np.ndarray]:

@@ -104,7 +104,9 @@ def read_base(project: Project, progress: Progress = silent) -> Base:
     by_name = {metal.name: metal for metal in project.metals}
     simulated = [replace(by_name[name], column=column) for name, columns in lists.items() for column in columns]
     in_table = [metal for metal in project.metals if scenarios_of(project).columns and metal.name not in lists]
-    named = replace(project, metals=(*simulated, *in_table))
+    # The grades of these metals are those of realisations, so that the table needs no column of theirs.
+    elsewhere = {metal.column for metal in project.metals if metal not in in_table}
+    named = replace(project.without_limits_on(elsewhere), metals=(*simulated, *in_table))
     table = preparation.read_table(named, progress=progress, any_size=False)
     return Base(project, preparation.take(table, preparation.OF_SCENARIOS), lists)
 

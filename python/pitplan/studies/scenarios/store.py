@@ -45,8 +45,8 @@ RECORD, PROJECT = "scenarios.json", "project.toml"
 BASE, STARTS, PRECEDENCES = f"{SOLVER}/base.npz", f"{SOLVER}/starts.npy", f"{SOLVER}/needs.npy"
 PREC, DIGGABLE, MEAN = f"{SOLVER}/{mine_files.PREC}", f"{SOLVER}/diggable.npz", f"{SOLVER}/mean.npz"
 FOLDERS = MODELS, DONE, FAILED = "realisations", "done", "failed"
-# Version of the files of input and results: since 2 results hold their own key, since 3 arrays have the names of keys.
-FORM = 3
+# Version of the files of input and results: since 2 results hold their own key, since 3 arrays have the names of keys, since 4 shares are by process.
+FORM = 4
 # The sources of the search for schedules.
 SEARCH = Path(__file__).parents[2] / "scheduling" / "blocks"
 # The result of each scenario: its pits, or a schedule of its blocks.
@@ -266,7 +266,9 @@ def meaning_of_years(project: Project, years: int) -> dict[str, Any]:
         "highs": f"scipy {scipy.__version__}",
         "sources": [hash_of(path) for path in sorted(SEARCH.glob("*.py"))],
     }
-    return {**limits, **search, "rate": shells.discount_rate, "discounting": shells.discounting, "years": years}
+    of_years = {"processes": [asdict(it) for it in project.processes], "calendar": asdict(shells.calendar)}
+    discounting = {"rate": shells.discount_rate, "discounting": shells.discounting}
+    return {**limits, **search, **of_years, **discounting, "years": years}
 
 
 def hash_of_arrays(arrays: dict[str, np.ndarray]) -> str:

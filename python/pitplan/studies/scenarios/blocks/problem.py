@@ -1,16 +1,16 @@
 """Amounts and values of blocks for schedules over scenarios: those of one scenario, and the mean of all.
 
-A mined block goes to the mill or to waste, in shares, so that a year with more ore than the processing capacity mills the best of it. A block
-that is sent to the mill counts at its best: as ore if that pays, otherwise as waste. The mean over scenarios is taken of these values, not of
-the grades, since grades are known when a block is mined. A block that is ore in one of ten realisations has a tenth of its value there, and
-takes a tenth of its tonnes from the mill; by its mean grade it might have no value.
+A mined block goes to processes or to waste, in shares, so that a year with more ore than its limits allow processes the best of it. A block
+that is sent to a process counts at its best: as ore if that pays at the base price, otherwise as waste. The mean over scenarios is taken of
+these values, not of the grades, since grades are known when a block is mined. A block that is ore in one of ten realisations has a tenth of its
+value there, and takes a tenth of its tonnes from the mill; by its mean grade it might have no value.
 """
 
 from __future__ import annotations
 
-from dataclasses import dataclass
+from dataclasses import dataclass, replace
 from pathlib import Path
-from typing import Optional
+from typing import Any, Optional
 
 import numpy as np
 import pandas as pd
@@ -22,161 +22,110 @@ from pitplan.config.schedule import ScheduleRules
 from pitplan.core import layout
 from pitplan.core.atomic_files import staged
 from pitplan.core.progress import Progress
-from pitplan.core.revenue_factors import BASE_PRICE
 from pitplan.errors import PlanError
-from pitplan.pits.best_worst_case import year_discounts
-from pitplan.plan import MILLION, Plan
-from pitplan.pushbacks.bench_table import CASH, ROCK
-from pitplan.scheduling.bench_sequencing import Limits
-from pitplan.scheduling.blocks import BlockLimit, BlockPrecedences, BlockProblem
+from pitplan.plan import Plan
+from pitplan.pushbacks.bench_table import CASH
+from pitplan.scheduling.blocks import BlockPrecedences, BlockProblem
 from pitplan.scheduling.blocks.from_plan import (
-    Flows,
-    at_best,
+    BlockAmounts,
+    Minable,
     demand_of_blocks,
-    dues_of,
-    minable,
+    head_grades,
     of_pushbacks,
-    pit_of,
     years_of,
 )
-from pitplan.scheduling.limits import all_limits_of
+from pitplan.scheduling.limits import all_limits_of, grade_limits, periods_of
 from pitplan.solver.choice import PROGRAM
 from pitplan.studies.scenarios import prepare, store
 from pitplan.studies.scenarios.prepare import Laid
 from pitplan.studies.scenarios.store import Scenario, Shared
 from pitplan.studies.scenarios.worker import plan_of
 
-# The destinations of a block, by their numbers.
-WASTE, MILL = 0, 1
-MINING = "mining"
+FLOW, EXCESS, PAYS = "flow ", "excess ", "pays"
 
 
 @dataclass(frozen=True)
-class Minable:
-    """The blocks that may be mined, and the number of years: the same for all scenarios, so that each can follow the schedule of another.
+class ScenarioBlocks:
+    """The blocks that may be mined, and the number of periods: the same for all scenarios, so that each can follow the schedule of another.
 
     Attributes
     ----------
-    cells : array of int, shape (blocks,)
-        Their cells, ascending.
-    precedences : BlockPrecedences
-        Precedences between them.
-    must_mine : array of bool, shape (blocks,)
-        Whether each must be mined.
-    years : int
+    minable : Minable
+    periods : int
     """
 
-    cells: NDArray[np.int64]
-    precedences: BlockPrecedences
-    must_mine: NDArray[np.bool_]
-    years: int
-
-    def arrays(self) -> dict[str, NDArray]:
-        """Returns the arrays for a file; the years are in the record."""
-        return {
-            "cells": self.cells,
-            "starts": self.precedences.starts,
-            "needed": self.precedences.needed,
-            "must_mine": self.must_mine,
-        }
-
-    @staticmethod
-    def of_arrays(arrays: dict[str, NDArray], years: int) -> Minable:
-        return Minable(
-            arrays["cells"], BlockPrecedences(arrays["starts"], arrays["needed"]), arrays["must_mine"], years
-        )
-
-
-@dataclass(frozen=True)
-class Weights:
-    """Amounts of blocks that go to the mill if that pays, otherwise to waste; arrays of shape (blocks,).
-
-    Attributes
-    ----------
-    flows : dict of str to array
-        total_tonnes, feed_tonnes, recovered_NAME (tonnes or grams), and last the cash flow in the currency.
-    mining : array
-        Mining cost in the currency.
-    """
-
-    flows: dict[str, NDArray[np.float64]]
-    mining: NDArray[np.float64]
-
-    def plus(self, other: Weights) -> Weights:
-        """Returns the sums of amounts; mining costs are the same in all scenarios."""
-        return Weights({name: amounts + other.flows[name] for name, amounts in self.flows.items()}, self.mining)
-
-    def over(self, count: int) -> Weights:
-        """Returns the means of sums over a number of scenarios."""
-        return Weights({name: amounts / count for name, amounts in self.flows.items()}, self.mining)
+    minable: Minable
+    periods: int
 
     @property
-    def by_destination(self) -> Flows:
-        """The amounts as waste and in the mill, arrays of shape (blocks, 2)."""
-        as_waste = {ROCK: self.flows[ROCK], CASH: -self.mining}
-        nothing = np.zeros_like(self.mining)
-        return {name: np.stack([as_waste.get(name, nothing), amounts], axis=1) for name, amounts in self.flows.items()}
+    def cells(self) -> NDArray[np.int64]:
+        return self.minable.cells
 
-    def arrays(self) -> dict[str, NDArray]:
-        """Returns the arrays for a file."""
-        return {**self.flows, MINING: self.mining}
+    def arrays(self) -> dict[str, NDArray[Any]]:
+        """Returns the arrays for a file; the periods are in the record."""
+        of = self.minable
+        found = {"cells": of.cells, "must_mine": of.must_mine}
+        return found | {"starts": of.precedences.starts, "needed": of.precedences.needed}
 
     @staticmethod
-    def of_arrays(arrays: dict[str, NDArray]) -> Weights:
-        return Weights({name: amounts for name, amounts in arrays.items() if name != MINING}, arrays[MINING])
+    def of_arrays(arrays: dict[str, NDArray[Any]], periods: int) -> ScenarioBlocks:
+        precedences = BlockPrecedences(arrays["starts"], arrays["needed"])
+        return ScenarioBlocks(Minable(arrays["cells"], precedences, arrays["must_mine"]), periods)
+
+    def problem(self, amounts: BlockAmounts, project: Project) -> BlockProblem:
+        """Returns the problem to schedule."""
+        return self.minable.problem(amounts, project, self.periods)
 
 
-def weights_of(plan: Plan, cells: NDArray[np.int64]) -> Weights:
-    """Returns the amounts of some cells of a plan with one process."""
-    flows = at_best(plan)
-    return Weights({name: amounts[cells] for name, amounts in flows.items()}, plan.values.mining[cells] / MILLION)
+def amounts_at_best(plan: Plan, cells: NDArray[np.int64]) -> BlockAmounts:
+    """Returns the amounts of some cells of a scenario, which go to a process only if that pays at the base price, and otherwise to waste."""
+    amounts = BlockAmounts.of_plan(plan, head_grades(plan)).of_cells(cells)
+    pays = amounts.flows[CASH] > amounts.flows[CASH][:, :1]
+    return amounts.each(lambda it: np.where(pays, it, it[:, :1]))
 
 
-def limits_of_scenarios(project: Project) -> Limits:
-    """Returns the annual limits, which are the same for every scenario and the mean."""
-    return all_limits_of(project, project.schedule or ScheduleRules())
-
-
-def years_asked(weights: Weights, pit: NDArray[np.bool_], project: Project) -> int:
-    """Returns the years in which a pit can be mined, and a fifth more. Raises PlanError if they are too many."""
-    return years_of(
-        {name: float(amounts[pit].sum()) for name, amounts in weights.flows.items()},
-        limits_of_scenarios(project),
-        project,
+def added(one: BlockAmounts, other: BlockAmounts) -> BlockAmounts:
+    """Returns the sums of the amounts of two scenarios."""
+    flows, excess = (
+        {name: it + of_other[name] for name, it in of_one.items()}
+        for of_one, of_other in ((one.flows, other.flows), (one.excess, other.excess))
     )
+    return BlockAmounts(flows, excess, one.pays | other.pays)
 
 
-def problem_of(minable: Minable, weights: Weights, project: Project) -> BlockProblem:
-    """Returns the problem to schedule, with each block as waste and in the mill."""
-    limits, flows = limits_of_scenarios(project), weights.by_destination
-    return BlockProblem(
-        values=flows[CASH][:, :, None] * year_discounts(project.shells, minable.years),
-        precedences=minable.precedences,
-        limits=tuple(
-            BlockLimit(name, flows[name], most) for name, most in zip(limits.most, limits.of_years(minable.years).T)
-        ),
-        dues=dues_of(minable.must_mine, 2),
+def arrays_of(amounts: BlockAmounts) -> dict[str, NDArray[Any]]:
+    """Returns amounts as arrays for a file."""
+    flows = {f"{FLOW}{name}": it for name, it in amounts.flows.items()}
+    return flows | {f"{EXCESS}{name}": it for name, it in amounts.excess.items()} | {PAYS: amounts.pays}
+
+
+def amounts_of(arrays: dict[str, NDArray[Any]]) -> BlockAmounts:
+    """Returns the amounts of a file."""
+    flows, excess = (
+        {name.removeprefix(kind): it for name, it in arrays.items() if name.startswith(kind)} for kind in (FLOW, EXCESS)
     )
+    return BlockAmounts(flows, excess, arrays[PAYS])
+
+
+def limits_in_record(project: Project) -> dict[str, Any]:
+    """Returns the limits of a year, which are the same for every scenario and the mean, as records have them."""
+    limits = all_limits_of(project, project.schedule or ScheduleRules())
+    grades = {it.name: it.grade for it in grade_limits(project)}
+    return {"limits": limits.most, **({"feed": grades} if grades else {}), "ramp_up": list(limits.ramp_up)}
 
 
 def demand_of_scenarios(project: Project) -> None:
     """Raises PlanError with the key if the project sets an option that scenarios --by block do not support."""
-    rules, money = project.schedule or ScheduleRules(), project.economics
-    of_metals = "[[metals]] prices: a scenario has one price for all years"
+    rules, calendar = project.schedule or ScheduleRules(), project.shells.calendar
     asked = {
         "[schedule] milp: its time limit would make results depend on the machine": rules.milp is not None,
         "[schedule] minimum: a common schedule cannot meet it in each scenario": bool(rules.minimum),
-        "[[schedule.limits]]: apply to columns of the table, and scenarios have their own grades": bool(rules.limits),
-        "[processes.feed] and [schedule.feed]: apply to columns of the table, and scenarios have their own grades": bool(
-            project.feed_grades
+        "[[schedule.limits]] min: a common schedule cannot meet it in each scenario": any(
+            it.min for it in rules.limits
         ),
-        "[economics] fixed_cost_per_year, capex: period costs are not part of a schedule over scenarios": bool(
-            money.fixed_cost_per_year or money.capex
-        ),
-        of_metals: any(metal.prices for metal in project.metals),
-        "[[processes]]: a schedule over scenarios has one mill": bool(project.processes),
-        "[[dumps]]: apply to schedules of pushbacks": bool(project.dumps),
-        "[[periods]]: apply to shells and schedules of one model": bool(project.shells.calendar),
+        "[[periods]] minimum: a common schedule cannot meet it in each scenario": calendar.has(lambda it: it.minimum),
+        "[[metals]] prices: a scenario has one price for all years": any(metal.prices for metal in project.metals),
+        "[[periods]] prices: a scenario has one price for all years": calendar.has(lambda it: it.prices),
     }
     for why, is_asked in asked.items():
         if is_asked:
@@ -205,44 +154,40 @@ def write(laid: Laid, folder: Path, progress: Progress) -> None:
         blocks, mean = spread(laid, folder, progress)
         written = [*prepare.write_shared(laid, stage), store.DIGGABLE, store.MEAN]
         np.savez_compressed(stage / store.DIGGABLE, **blocks.arrays())
-        np.savez_compressed(stage / store.MEAN, **mean.arrays())
+        np.savez_compressed(stage / store.MEAN, **arrays_of(mean))
         project = laid.base.project
-        parts = prepare.common_parts(laid) | {"schedule": store.meaning_of_years(project, blocks.years)}
+        parts = prepare.common_parts(laid) | {"schedule": store.meaning_of_years(project, blocks.periods)}
         scenarios = prepare.keyed(laid.scenarios, project, parts)
         one = Scenario(len(scenarios) + 1, ONE, "", {}, store.key_of({"mean": [it.key for it in scenarios]}))
-        limits = limits_of_scenarios(project)
-        more = {
-            "by": store.BLOCK,
-            "years": blocks.years,
-            "limits": limits.most,
-            "ramp_up": list(limits.ramp_up),
-            "mean": vars(one),
-        }
+        more = {"by": store.BLOCK, "years": blocks.periods, **limits_in_record(project), "mean": vars(one)}
         prepare.write_record(laid, scenarios, written, stage, **more)
 
 
-def spread(laid: Laid, folder: Path, progress: Progress) -> tuple[Minable, Weights]:
-    """Returns the blocks that may be mined, and the mean of their amounts over all scenarios, with equal weights. The years are those of the
+def spread(laid: Laid, folder: Path, progress: Progress) -> tuple[ScenarioBlocks, BlockAmounts]:
+    """Returns the blocks that may be mined, and the mean of their amounts over all scenarios, with equal weights. The periods are those of the
     project, otherwise those of the longest pit, that of the mean included, and a fifth more."""
     plan, project, count = laid.plan, laid.base.project, len(laid.scenarios)
     with progress.step("collecting the blocks that can be mined"):
         # A block that pays in a scenario pays at the largest grades and prices without selling cost, since no recovery falls with the grade.
-        cells, precedences = minable(plan, np.array(plan.values.greatest_value(BASE_PRICE) > 0, dtype=bool))
-        must_mine = np.isin(cells, plan.fixed.must_mine)
-    rules = project.schedule or ScheduleRules()
+        minable = Minable.of_plan(plan, BlockAmounts.of_plan(plan, ()).greatest_cash(plan.project) > 0)
+    asked = periods_of(project, project.schedule or ScheduleRules())
+    shared, pits = shared_of(laid, folder), list[dict[str, float]]()
+    total: Optional[BlockAmounts] = None
 
-    def years(weights: Weights) -> int:
-        return rules.years or years_asked(weights, pit_of(weights.flows[CASH], precedences, must_mine), project)
+    def note_pit(amounts: BlockAmounts) -> None:
+        if asked is None:
+            pits.append(amounts.held(minable.pit(amounts, project)))
 
-    shared, longest = shared_of(laid, folder), 0
-    total: Optional[Weights] = None
     with progress.step(f"computing block values of {count:,} scenarios"):
         for scenario in laid.scenarios:
-            weights = weights_of(plan_of(shared, scenario), cells)
-            longest, total = max(longest, years(weights)), weights if total is None else total.plus(weights)
+            amounts = amounts_at_best(plan_of(shared, scenario), minable.cells)
+            note_pit(amounts)
+            total = amounts if total is None else added(total, amounts)
     assert total is not None
-    mean = total.over(count)
-    return Minable(cells, precedences, must_mine, max(longest, years(mean))), mean
+    flows, excess = ({name: it / count for name, it in of.items()} for of in (total.flows, total.excess))
+    mean = replace(total, flows=flows, excess=excess)
+    note_pit(mean)
+    return ScenarioBlocks(minable, asked or years_of(pits, project)), mean
 
 
 def shared_of(laid: Laid, folder: Path) -> Shared:

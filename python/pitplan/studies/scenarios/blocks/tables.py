@@ -2,29 +2,34 @@
 
 from __future__ import annotations
 
-from dataclasses import dataclass
+from dataclasses import dataclass, replace
+from functools import cached_property
 from typing import Any
 
 import numpy as np
 import pandas as pd
 from numpy.typing import NDArray
-from scipy.optimize import linprog
 
 from pitplan.config.project import Project
 from pitplan.core.tolerances import SUM_ERROR
+from pitplan.economics.period_costs import of_project
 from pitplan.errors import PlanError
 from pitplan.pits.best_worst_case import year_discounts
 from pitplan.pushbacks.bench_table import CASH, ORE, ROCK
+from pitplan.scheduling.blocks import BlockProblem
+from pitplan.scheduling.blocks.filling import best_shares
+from pitplan.scheduling.blocks.from_plan import BlockAmounts, destinations_of
+from pitplan.scheduling.blocks.tables import SHARE
 from pitplan.studies.scenarios import pit_probability
 from pitplan.studies.scenarios.store import Shared
 from pitplan.studies.scenarios.worker import plan_of
 
-from .problem import Weights, limits_of_scenarios, weights_of
-from .worker import WrittenSchedule, mean_of, minable_of, read_answer
+from .problem import ScenarioBlocks, amounts_at_best, limits_in_record
+from .worker import WrittenSchedule, blocks_of, mean_of, read_answer
 
-# The common schedule in each scenario: mill feed and cash flow of its years with the grades of the scenario.
+# The common schedule in each scenario: feed and cash flow of its years with the grades of the scenario.
 #
-# Each year mines the blocks of the schedule, with any grades. Then the ore goes to the mill; if it exceeds a
+# Each year mines the blocks of the schedule, with any grades. Then the ore goes to processes; if it exceeds a
 # limit, the selection that earns most, and the rest becomes waste. The selection of a year does not bind other years,
 # so this is the most that the schedule can earn in the scenario. It is feasible for the scenario's own problem, which
 # has the same years, limits and blocks, and sends blocks in shares too. So it earns at most the upper bound of the
@@ -36,104 +41,83 @@ LEFT, PLANNED = "unprocessed_tonnes", "planned_feed_tonnes"
 
 
 @dataclass(frozen=True)
-class Mined:
-    """A schedule applied to a scenario.
+class CommonInScenario:
+    """The common schedule applied to a scenario.
 
     Attributes
     ----------
-    year : array of int, shape (blocks,)
-        The year in which each block is mined, from 1; 0: never.
-    weights : Weights
+    year : int array, shape (blocks,)
+        The year in which each block is mined, from 0; the number of periods if never.
+    blocks : ScenarioBlocks
+    amounts : BlockAmounts
         Amounts of the blocks in the scenario.
     project : Project
         With limits and discounting.
     """
 
     year: NDArray[np.int64]
-    weights: Weights
+    blocks: ScenarioBlocks
+    amounts: BlockAmounts
     project: Project
 
-    @property
-    def gain(self) -> NDArray[np.float64]:
-        """The gain of each block in the mill over waste, in the currency; 0 if it does not pay."""
-        return self.weights.flows[CASH] + self.weights.mining
+    @cached_property
+    def problem(self) -> BlockProblem:
+        """The problem of the scenario, with room for the mined blocks as waste in each year, since these are no choice."""
+        problem = self.blocks.problem(self.amounts, self.project)
+        as_waste = [np.bincount(self.year, it.amounts[:, 0], minlength=problem.years + 1) for it in problem.limits]
+        limits = [
+            replace(it, most=np.maximum(it.most, by_year[: problem.years]))
+            for it, by_year in zip(problem.limits, as_waste)
+        ]
+        return replace(problem, limits=tuple(limits))
 
-    def milled(self) -> NDArray[np.float64]:
-        """Returns the share of each block that is milled in its year."""
-        limits, share = limits_of_scenarios(self.project), np.zeros(len(self.year))
-        # The mined blocks of a year are given, so total material is not a choice.
-        of_mill = [k for k, name in enumerate(limits.most) if name != ROCK]
-        takes = np.stack([self.weights.flows[name] for name in limits.most if name != ROCK])
-        for year in range(1, int(self.year.max(initial=0)) + 1):
+    @cached_property
+    def share(self) -> NDArray[np.float64]:
+        """The share of each mined block that goes to each destination in its year, shape (blocks, destinations)."""
+        problem = self.problem
+        found, as_waste = np.zeros((problem.blocks, problem.destinations)), np.eye(problem.destinations)[0]
+        for year in np.unique(self.year[self.year < problem.years]).tolist():
             blocks = np.flatnonzero(self.year == year)
-            share[blocks] = best_shares(self.gain[blocks], takes[:, blocks], limits.of_year(year)[of_mill])
-        return share
+            shares = best_shares(problem, blocks, year, np.tile(as_waste, (len(blocks), 1)))
+            found[blocks] = self.kept(shares, blocks, year)
+        return found
 
+    def kept(self, shares: NDArray[np.float64], blocks: NDArray[np.int64], year: int) -> NDArray[np.float64]:
+        """Returns shares within limits that HiGHS keeps up to its tolerance only: a hair more of each block goes to waste."""
+        part = 1.0
+        for limit in self.problem.limits:
+            amounts = limit.amounts[blocks]
+            as_waste, taken = float(amounts[:, 0].sum()), float((amounts * shares).sum())
+            if not limit.signed and taken > limit.most[year] and taken > as_waste:
+                part = min(part, (float(limit.most[year]) - as_waste) / (taken - as_waste))
+        if part == 1.0:
+            return shares
+        found = shares * part
+        found[:, 0] += 1.0 - part
+        return found
 
-def best_shares(
-    gain: NDArray[np.float64], takes: NDArray[np.float64], most: NDArray[np.float64]
-) -> NDArray[np.float64]:
-    """Returns the shares of blocks in the mill that earn most: by gain per unit if one limit binds, otherwise by a linear programme.
+    def years(self, planned: NDArray[np.float64]) -> pd.DataFrame:
+        """Returns one row per year of the schedule, with the columns of common_schedule_years.csv.
 
-    Parameters
-    ----------
-    gain : array, shape (blocks,)
-        Gain of each block in the mill, in the currency.
-    takes : array, shape (limits, blocks)
-        Amount of each limit that a block uses.
-    most : array, shape (limits,)
-        The limits.
-
-    Raises
-    ------
-    PlanError
-        If HiGHS finds no optimum.
-    """
-    pays = (gain > 0).astype(float)
-    over = np.flatnonzero(takes @ pays > most * (1 + SUM_ERROR))
-    if len(over) == 0:
-        return pays
-    if len(over) == 1:
-        return by_worth(gain, takes[over[0]] * pays, float(most[over[0]])) * pays
-    unit = np.maximum(takes[over].max(axis=1), np.finfo(float).tiny)
-    rows, upper = {"A_ub": takes[over] / unit[:, None], "b_ub": most[over] / unit}, np.stack(
-        [np.zeros_like(pays), pays], axis=1
-    )
-    found = linprog(-gain / gain.max(), **rows, bounds=upper, method="highs-ds")
-    if found.status != 0:
-        raise PlanError(f"HiGHS found no optimal feed of a year: {found.message}")
-    shares = np.clip(found.x, 0.0, pays)
-    # HiGHS keeps limits within its tolerance only.
-    taken = takes[over] @ shares
-    return shares * float(np.min(np.where(taken > most[over], most[over] / np.where(taken > 0, taken, 1.0), 1.0)))
-
-
-def by_worth(gain: NDArray[np.float64], takes: NDArray[np.float64], most: float) -> NDArray[np.float64]:
-    """Returns the shares of blocks by gain per unit of a limit, the last one in part; blocks that use none of it are whole."""
-    with np.errstate(divide="ignore", invalid="ignore"):
-        order = np.argsort(np.where(takes > 0, -gain / takes, -np.inf), kind="stable")
-    before = np.cumsum(takes[order]) - takes[order]
-    shares = np.empty(len(gain))
-    shares[order] = np.clip((most - before) / np.where(takes[order] > 0, takes[order], 1.0), 0.0, 1.0)
-    return np.where(takes > 0, shares, 1.0)
-
-
-def years_of_mined(mined: Mined, planned: NDArray[np.float64]) -> pd.DataFrame:
-    """Returns one row per year of the schedule, with the columns of common_schedule_years.csv.
-
-    Parameters
-    ----------
-    mined : Mined
-    planned : array, shape (years,)
-        Mill feed of each year on the mean of all scenarios, in tonnes.
-    """
-    flows, share, last = mined.weights.flows, mined.milled(), int(mined.year.max(initial=0))
-    of_block = {ROCK: flows[ROCK], ORE: flows[ORE] * share, LEFT: flows[ORE] * (1 - share)}
-    of_block[CASH] = mined.gain * share - mined.weights.mining
-    sums = {name: np.bincount(mined.year, amounts, minlength=last + 1)[1:] for name, amounts in of_block.items()}
-    table = pd.DataFrame({"year": np.arange(1, last + 1), **sums})
-    table.insert(4, PLANNED, planned[:last])
-    return table.assign(discounted_cash_flow=table[CASH] * year_discounts(mined.project.shells, last))
+        Parameters
+        ----------
+        planned : array, shape (periods,)
+            Feed of each year on the mean of all scenarios, in tonnes.
+        """
+        flows, periods, share = self.amounts.flows, self.blocks.periods, self.share
+        is_mined, last = self.year < periods, int(self.year[self.year < periods].max(initial=-1)) + 1
+        cash = self.amounts.cash(self.project, periods)[
+            np.arange(len(self.year)), :, np.minimum(self.year, periods - 1)
+        ]
+        fed = (flows[ORE] * share).sum(axis=1)
+        of_block = {ROCK: flows[ROCK][:, 0] * is_mined, ORE: fed}
+        of_block |= {LEFT: flows[ORE].max(axis=1) * is_mined - fed, CASH: (cash * share).sum(axis=1)}
+        sums = {name: np.bincount(self.year, it, minlength=periods + 1)[:last] for name, it in of_block.items()}
+        table = pd.DataFrame({"year": np.arange(1, last + 1), **sums})
+        table.insert(4, PLANNED, planned[:last])
+        present = table[CASH] * year_discounts(self.project.shells, last) - self.problem.running_costs[:last]
+        costs = sum(of_project(self.project).costs(last).values())
+        return table.assign(**{CASH: table[CASH] - costs, "discounted_cash_flow": present})
 
 
 def row_of(years: pd.DataFrame) -> dict[str, float]:
@@ -184,12 +168,13 @@ class Schedules:
         """
         spread = pit_probability.spread_of(self.answered, [], list(VALUES)).iloc[0]
         words = [name.removeprefix("upper_bound_") for name in spread.index if name.startswith("upper_bound_")]
+        calendar, periods = shared.project.shells.calendar, shared.record["years"]
         return {
             "scenarios": len(self.table),
             "answered": len(self.answered),
-            "years": shared.record["years"],
-            "limits": shared.record["limits"],
-            "ramp_up": shared.record["ramp_up"],
+            "years": calendar.span(periods),
+            **({} if calendar.is_yearly else {"periods": periods}),
+            **limits_in_record(shared.project),
             "npv_as_planned": round(self.one.row["npv"], 3),
             "upper_bound_as_planned": round(self.one.row["upper_bound"], 3),
             **{name: {word: round(float(spread[f"{name}_{word}"]), 3) for word in words} for name in VALUES},
@@ -197,11 +182,11 @@ class Schedules:
         }
 
     def by_block(self, shared: Shared, blocks: pd.DataFrame) -> pd.DataFrame:
-        """Returns the rows of blocks.csv, by id, with the year in the common schedule (0: none) and the share that is planned for the mill."""
+        """Returns the rows of blocks.csv, by id, with the year in the common schedule (0: none) and the share that is planned for each process."""
         order = np.argsort(shared.grid.rows)
-        return pit_probability.written(blocks).assign(
-            year=self.one.year[order], share_mill=self.one.share[order].round(9)
-        )
+        names = destinations_of(shared.project)[1:]
+        shares = {f"{SHARE}{name}": share for name, share in zip(names, self.one.share[order].round(9).T)}
+        return pit_probability.written(blocks).assign(year=self.one.year[order], **shares)
 
 
 def gather(shared: Shared, partial: bool = False) -> Schedules:
@@ -223,10 +208,12 @@ def gather(shared: Shared, partial: bool = False) -> Schedules:
     if job.number in missing:
         raise PlanError(f"the {job.label} was not made: {missing[job.number]}: run pitplan scenarios again")
     one, rows, years = read_answer(shared, job), [], []
-    planned = planned_ore(shared, one)
+    blocks = blocks_of(shared)
+    year = year_of_blocks(shared, one, blocks)
+    planned = planned_ore(shared, one, blocks)
     for scenario in shared.scenarios:
-        weights = weights_of(plan_of(shared, scenario), shared.grid.rows)
-        mined = years_of_mined(Mined(one.year, weights, shared.project), planned)
+        amounts = amounts_at_best(plan_of(shared, scenario), blocks.cells)
+        mined = CommonInScenario(year, blocks, amounts, shared.project).years(planned)
         heads, why = pit_probability.heads_of(scenario), missing.get(scenario.number)
         own = dict.fromkeys(one.row, np.nan) if why else read_answer(shared, scenario).row
         rows.append(heads | {"status": why or SOLVED} | own | row_of(mined))
@@ -234,12 +221,21 @@ def gather(shared: Shared, partial: bool = False) -> Schedules:
     return Schedules(pd.DataFrame(rows), pd.concat(years, ignore_index=True), one, missing)
 
 
-def planned_ore(shared: Shared, one: WrittenSchedule) -> NDArray[np.float64]:
-    """Returns the mill feed of each year of the common schedule, on the mean of all scenarios, in tonnes."""
-    ore = np.zeros(shared.grid.count)
-    ore[minable_of(shared).cells] = mean_of(shared).flows[ORE]
-    years = np.bincount(one.year, ore[shared.grid.rows] * one.share, minlength=shared.record["years"] + 1)
-    return years[1:].astype(np.float64)
+def year_of_blocks(shared: Shared, one: WrittenSchedule, blocks: ScenarioBlocks) -> NDArray[np.int64]:
+    """Returns the year of each block in a schedule, from 0; the number of periods if it is not mined."""
+    year = np.zeros(shared.grid.count, dtype=np.int64)
+    year[shared.grid.rows] = one.year
+    found = year[blocks.cells]
+    return np.where(found > 0, found - 1, blocks.periods)
+
+
+def planned_ore(shared: Shared, one: WrittenSchedule, blocks: ScenarioBlocks) -> NDArray[np.float64]:
+    """Returns the feed of each year of the common schedule, on the mean of all scenarios, in tonnes."""
+    share = np.zeros((shared.grid.count, one.share.shape[1]))
+    share[shared.grid.rows] = one.share
+    fed = (mean_of(shared).flows[ORE][:, 1:] * share[blocks.cells]).sum(axis=1)
+    of_years = np.bincount(year_of_blocks(shared, one, blocks), fed, minlength=blocks.periods + 1)
+    return of_years[: blocks.periods].astype(np.float64)
 
 
 def quantiles(schedules: Schedules) -> pd.DataFrame:

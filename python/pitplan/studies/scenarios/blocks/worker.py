@@ -17,14 +17,13 @@ from pitplan.core.revenue_factors import BASE_PRICE
 from pitplan.errors import PlanError
 from pitplan.pushbacks.bench_table import ORE, ROCK
 from pitplan.scheduling.blocks import Scheduled, solve
+from pitplan.scheduling.blocks.from_plan import BlockAmounts
 from pitplan.solver import choice
 from pitplan.studies.scenarios import store
 from pitplan.studies.scenarios.store import Scenario, Shared
 from pitplan.studies.scenarios.worker import plan_of
 
-from .problem import MILL, Minable, Weights, problem_of, weights_of
-
-WHOLE = ("years", "blocks")
+from .problem import ScenarioBlocks, amounts_at_best, amounts_of
 
 
 @dataclass(frozen=True)
@@ -35,8 +34,8 @@ class WrittenSchedule:
     ----------
     year : array of int, shape (rows,)
         The year in which each row of the table is mined, from 1; 0: never.
-    share : array of float, shape (rows,)
-        The share of each that goes to the mill.
+    share : array of float, shape (rows, processes)
+        The share of each that goes to each process.
     row : dict of str to Any
         The columns of schedules.csv for its own schedule.
     """
@@ -71,69 +70,65 @@ class Made:
     """A schedule of blocks of a folder, with their amounts."""
 
     shared: Shared
-    minable: Minable
-    weights: Weights
+    blocks: ScenarioBlocks
+    amounts: BlockAmounts
     found: Scheduled
 
     @staticmethod
     def of(shared: Shared, job: Scenario) -> Made:
-        minable = minable_of(shared)
-        weights = mean_of(shared) if job.is_mean else weights_of(plan_of(shared, job), minable.cells)
-        found = solve(problem_of(minable, weights, shared.project))
+        blocks = blocks_of(shared)
+        amounts = mean_of(shared) if job.is_mean else amounts_at_best(plan_of(shared, job), blocks.cells)
+        found = solve(blocks.problem(amounts, shared.project))
         if found.interrupted:
             raise KeyboardInterrupt
-        return Made(shared, minable, weights, found)
+        return Made(shared, blocks, amounts, found)
 
     @cached_property
     def is_mined(self) -> NDArray[np.bool_]:
-        return self.found.schedule.year < self.minable.years
+        return self.found.schedule.year < self.blocks.periods
 
     @property
     def entry(self) -> NDArray[np.int64]:
         """The base price's revenue factor for each mined cell, otherwise 0; shape (cells,)."""
         entry = np.zeros(self.shared.grid.count, dtype=np.int64)
-        entry[self.minable.cells] = np.where(self.is_mined, BASE_PRICE, 0)
+        entry[self.blocks.cells] = np.where(self.is_mined, BASE_PRICE, 0)
         return entry
 
     @property
     def by_row(self) -> tuple[NDArray[np.int16], NDArray[np.float64]]:
-        """Year and share in the mill by row of the table."""
+        """Year and shares of processes by row of the table."""
         schedule, grid = self.found.schedule, self.shared.grid
-        year, share = np.zeros(grid.count, dtype=np.int16), np.zeros(grid.count)
-        year[self.minable.cells] = np.where(self.is_mined, schedule.year + 1, 0)
-        share[self.minable.cells] = schedule.share[:, MILL]
+        year, share = np.zeros(grid.count, dtype=np.int16), np.zeros((grid.count, self.amounts.destinations - 1))
+        year[self.blocks.cells] = np.where(self.is_mined, schedule.year + 1, 0)
+        share[self.blocks.cells] = schedule.share[:, 1:]
         return year[grid.rows], share[grid.rows]
 
     @property
     def row(self) -> dict[str, float]:
         """The columns of schedules.csv."""
-        found, flows, milled = self.found, self.weights.flows, self.found.schedule.share[:, MILL]
-        year = found.schedule.year[self.is_mined]
+        found, flows = self.found, self.amounts.flows
+        rock, year = flows[ROCK][self.is_mined, 0], found.schedule.year[self.is_mined]
+        names = [name for name in flows if name.startswith((ORE, "recovered_"))]
         return {
             "npv": found.value,
             "upper_bound": found.bound,
             "optimality_gap": found.gap,
-            "years": int(year.max(initial=-1)) + 1,
-            "blocks": int((self.is_mined & (flows[ROCK] > 0)).sum()),
-            "tonnes": float(flows[ROCK][self.is_mined].sum()),
-            ORE: float((flows[ORE] * milled).sum()),
-            **{
-                name: float((amounts * milled).sum())
-                for name, amounts in flows.items()
-                if name.startswith("recovered_")
-            },
+            "years": self.shared.project.shells.calendar.span(int(year.max(initial=-1)) + 1),
+            "blocks": int((rock > 0).sum()),
+            "tonnes": float(rock.sum()),
+            **{name: float((flows[name] * found.schedule.share).sum()) for name in names},
         }
 
 
-def minable_of(shared: Shared) -> Minable:
+def blocks_of(shared: Shared) -> ScenarioBlocks:
     with np.load(shared.folder / store.DIGGABLE, allow_pickle=False) as arrays:
-        return Minable.of_arrays({name: arrays[name] for name in arrays.files}, shared.record["years"])
+        return ScenarioBlocks.of_arrays({name: arrays[name] for name in arrays.files}, shared.record["years"])
 
 
-def mean_of(shared: Shared) -> Weights:
+def mean_of(shared: Shared) -> BlockAmounts:
     """Reads the mean amounts of the blocks that may be mined, over all scenarios."""
     with np.load(shared.folder / store.MEAN, allow_pickle=False) as arrays:
-        return Weights.of_arrays({name: arrays[name] for name in arrays.files})
+        return amounts_of({name: arrays[name] for name in arrays.files})
 
 
 def read_answer(shared: Shared, job: Scenario) -> WrittenSchedule:
@@ -143,13 +138,14 @@ def read_answer(shared: Shared, job: Scenario) -> WrittenSchedule:
         kept = keyed_arrays.read(path, job.key)
         row = dict(zip(kept["names"].tolist(), kept["amounts"].tolist()))
         year, share = kept["year"].astype(np.int64), kept["share"]
+        processes = len(shared.project.processes) or 1
         is_of_these = (
-            year.shape == share.shape == (len(shared.frame),)
+            share.shape == (*year.shape, processes) == (len(shared.frame), processes)
             and 0 <= year.min(initial=0) <= year.max(initial=0) <= shared.record["years"]
         )
         if not is_of_these:
             raise keyed_arrays.NoAnswer("it holds other blocks or years")
-        row |= {name: int(row[name]) for name in WHOLE}
+        row["blocks"] = int(row["blocks"])
     except (OSError, ValueError, KeyError, TypeError) as error:
         raise PlanError(
             f"{path}: is not a result of {job.label}: {error}: remove it, and run pitplan scenarios again"
