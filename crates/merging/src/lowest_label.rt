@@ -8,12 +8,13 @@
 ghost use Rattle.std.specs.Prelude.{◌≡◌, ◌<◌, ◌≤◌, ◌+◌, length, IfOk, IfErr, IfSome};
 ghost use Rattle.pit_model.specs.Mine.{arcs, source};
 ghost use Rattle.pit_model.specs.Graph.{first_of};
+ghost use Rattle.pit_model.specs.Size.{most_blocks};
 ghost use Rattle.faults.specs.Refused.{no_memory};
 ghost use Rattle.forest.specs.Forest.{size};
 ghost use Rattle.merging.specs.Order.{AreBelow};
 
 use crate::label_buckets::LabelBuckets;
-use crate::levels::blocks_by_level;
+use crate::levels::{Levels, blocks_by_level};
 use faults::Fault;
 use forest::Forest;
 use mine_graph::Graph;
@@ -29,38 +30,42 @@ enum Turn {
     Last,
 }
 
-/// The order's state: labels, current arcs and waiting roots. Contracts see only the number of blocks.
+/// The order's state: labels, current arcs and waiting roots. Contracts see only the numbers of blocks and of labels.
 #[derive(Drop)]
 pub struct LowestLabel {
-    labels: Vec<u32>,
+    /// The last label is that of finished branches. A branch that would get it is left to the closing loop.
+    labels: Vec<u16>,
     /// The place in each block's row from which the search for a lower label goes on.
     places: Vec<u16>,
     /// How many of the blocks that are in have each label.
     counts: Vec<u32>,
-    /// The blocks of a branch that a turn has found, and how many there are.
-    branch: Vec<u32>,
+    /// First room for the blocks that are in, where a turn lists those that it finds in a branch; from place `entered` on the
+    /// blocks that are not in yet, by level.
+    blocks: Vec<u32>,
     found: usize,
+    entered: usize,
+    /// The place after the last block of each level except the last, and how many levels are in.
+    ends: Vec<u32>,
+    level: usize,
     waiting: LabelBuckets,
-    /// The blocks that are not in yet, by level.
-    later: LabelBuckets,
 }
 
 impl Model for LowestLabel {
-    ghost use Rattle.std.specs.Prelude.{◌≡◌, ◌+◌, ℕ, length};
-    ghost use Rattle.merging.specs.Order.{AreOrdered};
+    ghost use Rattle.std.specs.Prelude.{◌≡◌, length};
+    ghost use Rattle.merging.specs.Order.{AreOrdered, Buckets};
 
-    ghost Value = { ℕ };
+    ghost Value = { Buckets };
 
-    ghost view = { λ o. length o.labels.items };
+    ghost view = { λ o. record { blocks = length o.labels.items; labels = length o.counts.items } };
 
-    ghost invariant = { λ o. AreOrdered (length o.labels.items) o.labels.items o.places.items o.counts.items o.branch.items o.found × (o.waiting ≡ record { blocks = length o.labels.items; labels = length o.labels.items + 2 }) × (o.later.blocks ≡ length o.labels.items) };
+    ghost invariant = { λ o. AreOrdered o.labels.items o.places.items o.counts.items o.blocks.items o.found o.entered × (o.waiting ≡ record { blocks = length o.labels.items; labels = length o.counts.items }) };
 }
 
 /// A label, among the labels of all blocks.
 #[derive(Clone, Copy)]
 struct Level<'a> {
-    labels: &'a [u32],
-    label: u32,
+    labels: &'a [u16],
+    label: u16,
 }
 
 /// Returns the first arc of a range that leads to a block with this label.
@@ -80,7 +85,7 @@ fn first_to(graph: &Graph, arcs: Range<u32>, level: Level<'_>) -> Option<u32>
 }
 
 /// Returns the least label of the predecessors in a row, or `most` if the row is empty.
-fn least_label(graph: &Graph, labels: &[u32], row: Range<u32>, most: u32) -> u32
+fn least_label(graph: &Graph, labels: &[u16], row: Range<u32>, most: u16) -> u16
     requires blocks { length labels.now ≡ graph.now.blocks }
     requires inside { row.end ≤ length graph.now.pairs }
     ensures { result ≤ most }
@@ -159,6 +164,14 @@ fn place_in(row: Range<u32>, arc: Option<u32>) -> u16
     u16::try_from(end - row.start).unwrap_or(u16::MAX)
 }
 
+/// Returns the number of labels for a mine: two more than blocks, within 16 bits.
+fn label_count(blocks: u32) -> u16
+    requires { blocks ≤ most_blocks }
+    ensures { 2 ≤ result }
+{
+    u16::try_from(blocks + 2).unwrap_or(u16::MAX)
+}
+
 impl LowestLabel {
     /// Returns the order for an opening tree: no block is in.
     ///
@@ -166,62 +179,80 @@ impl LowestLabel {
     ///
     /// If memory runs out.
     pub fn new(alloc: Global, tree: &BareTree) -> Result<LowestLabel, Fault>
-        ensures blocks { IfOk result (λ o. o ≡ tree.now.mine.blocks) }
+        ensures blocks { IfOk result (λ o. o.blocks ≡ tree.now.mine.blocks) }
         ensures no_memory { IfErr result (λ e. e ≡ no_memory) }
     {
         tree.law();
         let graph = tree.instance().graph();
-        let later = blocks_by_level(alloc, graph)?;
-        let blocks = graph.n() as usize;
+        let Levels { blocks, ends } = blocks_by_level(alloc, graph)?;
+        let labels = label_count(graph.n());
         Ok(LowestLabel {
-            labels: vec![in alloc; 0; blocks]?,
-            places: vec![in alloc; 0u16; blocks]?,
-            counts: vec![in alloc; 0; blocks + 2]?,
-            branch: vec![in alloc; 0; blocks]?,
+            labels: vec![in alloc; 0u16; blocks.len()]?,
+            places: vec![in alloc; 0u16; blocks.len()]?,
+            counts: vec![in alloc; 0; labels as usize]?,
+            waiting: LabelBuckets::new(alloc, graph.n(), labels)?,
+            blocks,
             found: 0,
-            waiting: LabelBuckets::new(alloc, graph.n(), graph.n() + 2)?,
-            later,
+            entered: 0,
+            ends,
+            level: 0,
         })
+    }
+
+    /// Returns the label of finished branches.
+    fn last_label(&self) -> u16
+        ensures { result + 1 ≡ self.now.labels }
+    {
+        (self.counts.len() - 1) as u16
     }
 
     /// Lets a block in. A strong root gets one more than the least label of its predecessors, and waits; any other block gets 0.
     fn enter(&mut self, tree: &BareTree, block: u32)
-        requires same { self.old ≡ tree.now.mine.blocks }
-        requires block { block < self.old }
+        requires same { self.old.blocks ≡ tree.now.mine.blocks }
+        requires block { block < self.old.blocks }
         ensures { self.new ≡ self.old }
     {
         let mut label = 0;
         if is_strong_root(tree, block) {
             let graph = tree.instance().graph();
-            label = least_label(graph, &self.labels, graph.arcs_of(block), graph.n()) + 1;
+            let most = self.last_label() - 1;
+            label = least_label(graph, &self.labels, graph.arcs_of(block), most) + 1;
         }
         self.labels[block as usize] = label;
         self.counts[label as usize] = self.counts[label as usize].saturating_add(1);
         self.wait(tree, block);
     }
 
+    /// Returns the place after the last block of the next level.
+    fn level_end(&self) -> usize
+        ensures { result ≤ self.now.blocks }
+    {
+        match self.ends.get(self.level) {
+            Some(end) => self.blocks.len().min(*end as usize),
+            None => self.blocks.len(),
+        }
+    }
+
     /// Lets the blocks of the next level in, and returns whether there is one.
     fn enter_level(&mut self, tree: &BareTree) -> bool
-        requires same { self.old ≡ tree.now.mine.blocks }
+        requires same { self.old.blocks ≡ tree.now.mine.blocks }
         ensures { self.new ≡ self.old }
     {
-        let Some((level, first)) = self.later.pop() else {
-            return false;
-        };
-        self.enter(tree, first);
-        for _block in 0..tree.forest().blocks() {
-            match self.later.pop_from(level) {
-                Some(block) => self.enter(tree, block),
-                None => break,
-            }
+        let from = self.entered;
+        let end = self.level_end();
+        for place in from..end {
+            let block = self.blocks[place];
+            self.enter(tree, block);
         }
-        true
+        self.entered = end;
+        self.level = self.level.saturating_add(1);
+        from < end
     }
 
     /// Lets a block wait if it is a strong root whose branch is not finished.
     fn wait(&mut self, tree: &BareTree, block: u32)
-        requires same { self.old ≡ tree.now.mine.blocks }
-        requires block { block < self.old }
+        requires same { self.old.blocks ≡ tree.now.mine.blocks }
+        requires block { block < self.old.blocks }
         ensures { self.new ≡ self.old }
     {
         if !is_strong_root(tree, block) {
@@ -231,15 +262,15 @@ impl LowestLabel {
             self.relabel(block, 1);
         }
         let label = self.labels[block as usize];
-        if label as usize <= self.labels.len() {
+        if label < self.last_label() {
             self.waiting.push(label, block);
         }
     }
 
     /// Changes the label of a block.
-    fn relabel(&mut self, block: u32, label: u32)
-        requires block { block < self.old }
-        requires label { label < self.old + 2 }
+    fn relabel(&mut self, block: u32, label: u16)
+        requires block { block < self.old.blocks }
+        requires label { label < self.old.labels }
         ensures { self.new ≡ self.old }
     {
         let old = self.labels[block as usize] as usize;
@@ -249,9 +280,9 @@ impl LowestLabel {
     }
 
     /// Returns the first arc of a block, from its current place on, that leads to a block with this label.
-    fn scan(&mut self, graph: &Graph, block: u32, label: u32) -> Option<u32>
-        requires same { self.old ≡ graph.now.blocks }
-        requires block { block < self.old }
+    fn scan(&mut self, graph: &Graph, block: u32, label: u16) -> Option<u32>
+        requires same { self.old.blocks ≡ graph.now.blocks }
+        requires block { block < self.old.blocks }
         ensures same { self.new ≡ self.old }
         ensures arc { IfSome result (λ k. (k < length graph.now.pairs) × (first_of graph.now.pairs k ≡ block)) }
     {
@@ -269,40 +300,40 @@ impl LowestLabel {
 
     /// Starts the search of a branch at its root.
     fn begin(&mut self, root: u32)
-        requires { root < self.old }
+        requires { root < self.old.blocks }
         ensures { self.new ≡ self.old }
     {
-        self.branch[0] = root;
+        self.blocks[0] = root;
         self.found = 1;
     }
 
     /// Returns the block found at a place of the search, if there is one.
     fn found_at(&self, place: usize) -> Option<u32>
-        ensures { IfSome result (λ u. u < self.now) }
+        ensures { IfSome result (λ u. u < self.now.blocks) }
     {
         if place < self.found {
-            Some(self.branch[place])
+            Some(self.blocks[place])
         } else {
             None
         }
     }
 
     /// Appends the children of a block that have this label, or all children, to the blocks found.
-    fn find_children(&mut self, forest: &Forest, block: u32, label: Option<u32>)
-        requires same { self.old ≡ size forest.now }
-        requires block { block < self.old }
+    fn find_children(&mut self, forest: &Forest, block: u32, label: Option<u16>)
+        requires same { self.old.blocks ≡ size forest.now }
+        requires block { block < self.old.blocks }
         ensures { self.new ≡ self.old }
     {
         let labels = &self.labels;
         let level = label.map(|label| Level { labels, label });
-        self.found = add_children(forest, block, level, &mut self.branch, self.found);
+        self.found = add_children(forest, block, level, &mut self.blocks, self.found);
     }
 
     /// Searches the branch of a root, along blocks with its label, for an arc to a block one label lower. Returns the block from
     /// which it leads, and the arc.
-    fn look(&mut self, tree: &BareTree, root: u32, label: u32) -> Option<(u32, u32)>
-        requires same { self.old ≡ tree.now.mine.blocks }
-        requires root { root < self.old }
+    fn look(&mut self, tree: &BareTree, root: u32, label: u16) -> Option<(u32, u32)>
+        requires same { self.old.blocks ≡ tree.now.mine.blocks }
+        requires root { root < self.old.blocks }
         requires label { 0 < label }
         ensures same { self.new ≡ self.old }
         ensures arc { IfSome result (λ r. (r.1 < arcs tree.now.mine) × (source tree.now.mine r.1 ≡ r.0)) }
@@ -320,9 +351,9 @@ impl LowestLabel {
     }
 
     /// Raises the labels of the blocks found by one, and lets their root wait.
-    fn raise(&mut self, root: u32, label: u32)
-        requires root { root < self.old }
-        requires label { label + 1 < self.old + 2 }
+    fn raise(&mut self, root: u32, label: u16)
+        requires root { root < self.old.blocks }
+        requires label { label + 1 < self.old.labels }
         ensures { self.new ≡ self.old }
     {
         for place in 0..self.labels.len() {
@@ -339,11 +370,11 @@ impl LowestLabel {
 
     /// Finishes a branch: excludes its blocks from all later turns, by a label that no other label is one below.
     fn finish(&mut self, forest: &Forest, root: u32)
-        requires same { self.old ≡ size forest.now }
-        requires root { root < self.old }
+        requires same { self.old.blocks ≡ size forest.now }
+        requires root { root < self.old.blocks }
         ensures { self.new ≡ self.old }
     {
-        let last = self.labels.len() as u32 + 1;
+        let last = self.last_label();
         self.begin(root);
         for place in 0..self.labels.len() {
             match self.found_at(place) {
@@ -359,11 +390,11 @@ impl LowestLabel {
     /// Lets exactly the strong roots of a tree wait whose branch is not finished, after a run over all levels. Labels stay, since
     /// increased values keep them lower bounds. Before that run no root waits.
     pub fn wait_anew(&mut self, tree: &BareTree)
-        requires same { self.old ≡ tree.now.mine.blocks }
+        requires same { self.old.blocks ≡ tree.now.mine.blocks }
         ensures { self.new ≡ self.old }
     {
         tree.law();
-        if !self.later.is_empty() {
+        if self.entered < self.blocks.len() {
             return;
         }
         self.waiting.clear();
@@ -374,7 +405,7 @@ impl LowestLabel {
 
     /// Lets the strong roots of the last merger's path wait.
     fn wait_along(&mut self, tree: &BareTree)
-        requires same { self.old ≡ tree.now.mine.blocks }
+        requires same { self.old.blocks ≡ tree.now.mine.blocks }
         ensures { self.new ≡ self.old }
     {
         tree.law();
@@ -385,7 +416,7 @@ impl LowestLabel {
 
     /// Merges over the arc, which leads from this block, and lets the strong roots of its path wait.
     fn merge(&mut self, tree: &mut BareTree, from: u32, arc: u32) -> Turn
-        requires same { self.old ≡ tree.old.mine.blocks }
+        requires same { self.old.blocks ≡ tree.old.mine.blocks }
         requires arc { arc < arcs tree.old.mine }
         requires source { source tree.old.mine arc ≡ from }
         ensures same { self.new ≡ self.old }
@@ -402,7 +433,7 @@ impl LowestLabel {
     /// Takes one turn. The last turn is when no root waits and all blocks are in. If no block is one label lower than the lowest
     /// strong root, its branch reaches no weak block.
     fn turn(&mut self, tree: &mut BareTree) -> Turn
-        requires same { self.old ≡ tree.old.mine.blocks }
+        requires same { self.old.blocks ≡ tree.old.mine.blocks }
         ensures same { self.new ≡ self.old }
         ensures mine { tree.new.mine ≡ tree.old.mine }
     {
@@ -414,10 +445,7 @@ impl LowestLabel {
                 Turn::Last
             };
         };
-        if label == 0
-            || self.counts[label as usize - 1] == 0
-            || label > tree.instance().graph().n()
-        {
+        if label == 0 || self.counts[label as usize - 1] == 0 || label >= self.last_label() {
             self.finish(tree.forest(), root);
             return Turn::Labelled;
         }
@@ -437,7 +465,7 @@ const MOST_TURNS: u64 = 1 << 63;
 
 /// Takes turns until the last. This is the merge loop.
 pub(crate) fn take_turns(order: &mut LowestLabel, tree: &mut BareTree)
-    requires same { order.old ≡ tree.old.mine.blocks }
+    requires same { order.old.blocks ≡ tree.old.mine.blocks }
     ensures same { order.new ≡ order.old }
     ensures mine { tree.new.mine ≡ tree.old.mine }
 {

@@ -32,7 +32,7 @@ impl Model for ParametricSolver {
 
     ghost view = { λ r. r.tree.mine };
 
-    ghost invariant = { λ r. (r.order ≡ r.tree.mine.blocks) × (length r.strong.items ≡ r.tree.mine.blocks) };
+    ghost invariant = { λ r. (r.order.blocks ≡ r.tree.mine.blocks) × (length r.strong.items ≡ r.tree.mine.blocks) };
 }
 
 impl ParametricSolver {

@@ -1,6 +1,6 @@
--- The number of blocks stays.
+-- The numbers of blocks and labels stay.
 use Rattle.std.proofs.Common.{◌≡◌}
 use Rattle.merging.proofs.lowest_label.LowestLabel.enter_level.Given as goal
 
-abbrev pub invariant-loop-block : goal.invariant-loop-block
-invariant-loop-block l = l.self ≡ l.initial.self
+abbrev pub invariant-loop-place : goal.invariant-loop-place
+invariant-loop-place l = l.self ≡ l.initial.self

@@ -1,4 +1,4 @@
--- The number of blocks stays.
+-- The numbers of blocks and labels stay.
 use Rattle.std.proofs.Common.{◌≡◌}
 use Rattle.merging.proofs.lowest_label.LowestLabel.finish.Given as goal
 
