@@ -176,6 +176,13 @@ def test_refusals_and_survivors_by_kind(mutant: edits.Mutant) -> None:
     assert crate_tests.outcome_of(mutant, "error: no such name").wrong == "not tried: error: no such name"
 
 
+def test_a_copy_has_the_proofs_of_a_module_out(tmp_path: pathlib.Path) -> None:
+    proofs.copy_crates(tmp_path, ["faults", "report"])
+    assert (tmp_path / "crates" / "report" / "proofs" / "out").is_dir()
+    assert not (tmp_path / "crates" / "report" / "out").exists()
+    assert [line.partition(":")[0] for line in (tmp_path / "crates.txt").read_text().splitlines() if line[0] != "#"] == ["faults", "report"]
+
+
 def test_a_mutant_of_a_definition_names_a_function(folder: pathlib.Path) -> None:
     named = written(folder, f"# a: b\nproofs: csr view::row_rises\n{LESS}")
     assert (named.refuser, proofs.function_of(named), tool.refuser_fault(named)) == ("csr", "view::row_rises", "")

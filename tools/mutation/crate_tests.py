@@ -12,6 +12,7 @@ import subprocess
 import tempfile
 from collections.abc import Iterator
 
+from clone import left_out
 from crates import TOP
 from mutation.edits import Mutant, planted_in
 from mutation.outcomes import Outcome
@@ -29,7 +30,7 @@ def outcome_of(mutant: Mutant, said: str) -> Outcome:
 def run(mutants: list[Mutant]) -> Iterator[Outcome]:
     with tempfile.TemporaryDirectory() as name:
         copy = pathlib.Path(name)
-        shutil.copytree(TOP / "crates", copy / "crates", ignore=shutil.ignore_patterns("out"))
+        shutil.copytree(TOP / "crates", copy / "crates", ignore=left_out)
         shutil.copy(TOP / "crates.txt", copy)
         shutil.copy(TOP / "HANDLES", copy)
         for mutant in mutants:

@@ -14,7 +14,7 @@ import subprocess
 import tempfile
 from collections.abc import Iterator
 
-from clone import keep_only
+from clone import keep_only, left_out
 from crates import TOP, in_order
 from mutation.edits import Mutant, planted_in
 from mutation.outcomes import Outcome
@@ -23,7 +23,7 @@ from mutation.outcomes import Outcome
 def copy_crates(folder: pathlib.Path, names: list[str]) -> None:
     """These crates, without what proofs have left in their folders."""
     for name in names:
-        shutil.copytree(TOP / "crates" / name, folder / "crates" / name, ignore=shutil.ignore_patterns("out"))
+        shutil.copytree(TOP / "crates" / name, folder / "crates" / name, ignore=left_out)
     shutil.copy(TOP / "crates.txt", folder)
     shutil.copy(TOP / "HANDLES", folder)
     keep_only(folder, set(names))
