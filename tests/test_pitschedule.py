@@ -72,7 +72,7 @@ def blocks_of_code(page: str, first: str) -> list[list[list[str]]]:
 
 
 def test_the_example_is_that_of_the_law_and_of_the_formats() -> None:
-    law = (TOP / "crates" / "schedule_runs" / "specs" / "ExampleTexts.antt").read_text()
+    law = (TOP / "crates" / "schedule_texts" / "specs" / "ExampleTexts.antt").read_text()
     page = (TOP / "docs" / "FORMATS.md").read_text()
     (problem,), (others,) = blocks_of_code(page, "PROBLEM"), blocks_of_code(page, "SCHEDULE 2")
     shown = {

@@ -1,24 +1,18 @@
--- Texts at fault, limits and refuted schedules compute.
+-- Limits and refuted schedules compute.
 use Rattle.std.proofs.Common.{◌≡◌, ◌↔◌, ℕ, zero, suc, ◌<◌, ◌≤◌, List, [], ◌∷◌, true, T, leb, leb→le, refl, arith, subst, ⊎_elim}
 use Rattle.std.specs.Prelude.{ℤ, pos, ◌≤ℤ◌, int_le}
 use Rattle.std.proofs.lemmas.Bool.{cases_lt}
 use Rattle.std.specs.Fmt.{digits}
 use Rattle.std.proofs.lemmas.Int.{ints}
 use Rattle.pit_model.specs.PitText.{with_decimals}
-use Rattle.minelib_reader.specs.Text.{fields_of, rows_from}
-use Rattle.minelib_reader.specs.Number.{cut_at, decimal_of, digits_of, millionths_of, signed_of}
-use Rattle.report.specs.HeadLines.{field_line, number_line, same_line}
 use Rattle.schedule_model.specs.Schedule.{mined_in_first, whole_block}
 use Rattle.schedule_model.specs.ExampleSchedules.{none, shares_of, to_dump, to_mill}
 use Rattle.scheduling.specs.Order.{AreMinedOnceBy, IsInOrderBefore, IsInOrderBy, IsMinedOnceBy, IsPairInOrderBy}
-use Rattle.schedule_texts.specs.ProblemText.{counts, titled}
-use Rattle.schedule_texts.specs.Section.{count_of, lines_from, numeric_field, numeric_fields, own_fields, same_count, section_line}
-use Rattle.schedule_texts.specs.ScheduleText.{shares_of_rows, sizes_of}
-use Rattle.schedule_texts.specs.Words.{text_of}
+use Rattle.schedule_texts.specs.ProblemText.{counts}
 use Rattle.schedule_texts.specs.declared.problem.Counts.{Counts}
-use Rattle.schedule_runs.specs.ExampleRefusals.{TextsAtFault, LimitsOfProblems, RefutedSchedules, example_sizes, some_ore}
-use Rattle.schedule_runs.specs.ExampleTexts.{example_problem}
-use Rattle.schedule_runs.specs.Limited.{HasLawful, IsInRange, IsLawfulCount, fewest, greatest, how_many, least_in, most_in, quantity_at}
+use Rattle.schedule_runs.specs.ExampleRefusals.{LimitsOfProblems, RefutedSchedules, example_sizes, some_ore, two_out_of_range}
+use Rattle.schedule_runs.specs.ExampleAnswer.{example_problem}
+use Rattle.schedule_runs.specs.Limited.{AreInRangeOf, HasLawful, IsInRange, IsLawfulCount, fewest, greatest, how_many, least_in, most_in, number_at, quantity_at, section_at, section_numbers, sizes_in}
 use Rattle.schedule_runs.specs.Refusals.{StaysWhole}
 use Rattle.schedule_runs.specs.SharesRead.{IsLawfulShare}
 use Rattle.schedule_runs.specs.declared.broken_limit.Quantity.{Quantity}
@@ -27,9 +21,8 @@ use Rattle.schedule_runs.specs.declared.broken_limit.Section.{Section}
 use Rattle.schedule_runs.specs.declared.broken_limit.Section.TheVariants as sections
 use Rattle.schedule_runs.specs.Verdicts.{verdict_text}
 
-pub texts_at_fault : TextsAtFault
-unfolding fields_of rows_from cut_at decimal_of digits_of millionths_of signed_of field_line number_line same_line count_of lines_from numeric_field numeric_fields own_fields same_count section_line titled shares_of_rows sizes_of text_of
-texts_at_fault = record { lawful = refl; other_word = refl; wider = refl; no_whole = refl; no_decimal = refl; ends = refl; goes_on = refl }
+le : (x y : ℤ) → int_le x y ≡ true → x ≤ℤ y
+le x y e = omega (arith, ints, e)
 
 -- what is lawful of a quantity, and of a number, read from both sides
 of_quantity : (quantity : Quantity) (n : ℕ) → IsLawfulCount quantity n ↔ ((fewest quantity ≤ n) × (n ≤ greatest quantity))
@@ -65,6 +58,12 @@ capacities_before =
     let c = counts 1 65536 1 0 2 0 0 in
     before_next (HasLawful c) 6 (before_next (HasLawful c) 5 (before_next (HasLawful c) 4 (before_next (HasLawful c) 3 (before_next (HasLawful c) 2 (before_next (HasLawful c) 1 (before_one (HasLawful c)
     (lawful_at c 0 tt tt)) (lawful_at c 1 tt tt)) (lawful_at c 2 tt tt)) (lawful_at c 3 tt tt)) (lawful_at c 4 tt tt)) (lawful_at c 5 tt tt)) (lawful_at c 6 tt tt)
+
+-- the sections before the uses have no number
+sections_before : (k : ℕ) → k < 3 → AreInRangeOf (sizes_in two_out_of_range.sizes) (section_at k) (section_numbers two_out_of_range (section_at k))
+sections_before =
+    let InRange : ℕ → Type 0 = λ k. AreInRangeOf (sizes_in two_out_of_range.sizes) (section_at k) (section_numbers two_out_of_range (section_at k)) in
+    before_next InRange 2 (before_next InRange 1 (before_one InRange (λ i h. absurd (omega arith))) (λ i h. absurd (omega arith))) (λ i h. absurd (omega arith))
 
 pub limits_of_problems : LimitsOfProblems
 limits_of_problems = record {
@@ -117,11 +116,20 @@ limits_of_problems = record {
   limit_of_use = of_number sections.Uses 5;
   column_of_use = of_number sections.Uses 6;
   lag_of_use = of_number sections.Uses 7;
+  use_first = record {
+    place = 3;
+    inside = omega arith;
+    is = refl;
+    before = sections_before;
+    listed = omega arith;
+    first = record {
+      broken = λ r. let z : pos 2 ≤ℤ pos 1 = r.high in omega (arith, ints, z);
+      before = before_one (λ j. IsInRange (sizes_in two_out_of_range.sizes) sections.Uses j (number_at two_out_of_range.uses j)) (record { low = le _ _ refl; high = le _ _ refl });
+    };
+  };
+  pairs = refl;
   price = λ x. (λ p. (p.least, p.most), λ p. record { least = p.0; most = p.1 });
 }
-
-le : (x y : ℤ) → int_le x y ≡ true → x ≤ℤ y
-le x y e = omega (arith, ints, e)
 
 -- what is mined by the end of a period, of both blocks
 once_by : (shares : List ℕ) (t : ℕ) → int_le (mined_in_first example_problem shares 0 (suc t)) (pos whole_block) ≡ true

@@ -6,5 +6,5 @@ pub mod OneProblem
 pub mod OneBound
 pub mod OneSchedule
 pub mod OneAnswer
-pub mod ExampleTexts
+pub mod ExampleAnswer
 pub mod ExampleRefusals

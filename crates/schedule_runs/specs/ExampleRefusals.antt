@@ -1,17 +1,15 @@
--- Texts at fault, limits at their ends, and what refutes schedules of two blocks, worked out by hand. A definition with a bound, a word, a
+-- Limits at their ends, and what refutes schedules of two blocks, worked out by hand. A definition with a bound, a word, a
 -- place or a period changed makes one of these false.
-use Rattle.std.specs.Prelude.{◌≡◌, ◌↔◌, ℕ, ◌≤◌, ℤ, pos, neg_ℤ, ◌≤ℤ◌, List, [], ◌∷◌, ◌++◌, Ok, Err, true, codes}
-use Rattle.faults.specs.declared.refusal.Refusal.TheVariants.{AfterEnd, EndsEarly, NotDecimal, NotWhole, WrongFieldCount, WrongHeader}
+use Rattle.std.specs.Prelude.{◌≡◌, ◌↔◌, ℕ, ◌≤◌, ℤ, pos, neg_ℤ, ◌≤ℤ◌, List, [], ◌∷◌, true, codes}
 use Rattle.schedule_model.specs.ExampleSchedules.{none, shares_of, to_dump, to_mill}
 use Rattle.scheduling.specs.Checked.{RefusesShares}
 use Rattle.scheduling.specs.Limits.{IsPrice}
 use Rattle.scheduling.specs.declared.parts.Sizes.{Sizes}
 use Rattle.scheduling.specs.declared.schedule_error.ScheduleError.TheVariants as errors
-use Rattle.schedule_texts.specs.ProblemText.{counts}
-use Rattle.schedule_texts.specs.ScheduleText.{shares_in}
-use Rattle.schedule_texts.specs.Section.{in_text}
-use Rattle.schedule_runs.specs.ExampleTexts.{example_problem}
-use Rattle.schedule_runs.specs.Limited.{IsFirstUnlawful, IsInRange, IsLawfulCount}
+use Rattle.schedule_texts.specs.ExampleTexts.{example_lists}
+use Rattle.schedule_texts.specs.ProblemText.{Lists, counts}
+use Rattle.schedule_runs.specs.ExampleAnswer.{example_problem}
+use Rattle.schedule_runs.specs.Limited.{IsFirstOutOfRange, IsFirstUnlawful, IsInRange, IsLawfulCount, pairs_of_nodes}
 use Rattle.schedule_runs.specs.Refusals.{RefusesListed, RefusesSums}
 use Rattle.schedule_runs.specs.Verdicts.{verdict_text}
 use Rattle.schedule_runs.specs.declared.broken_limit.Quantity.{Quantity}
@@ -21,19 +19,6 @@ use Rattle.schedule_runs.specs.declared.broken_limit.Section.TheVariants as sect
 use Rattle.schedule_runs.specs.declared.refused.Refused.TheVariants as refusals
 use Rattle.schedule_runs.specs.declared.shares.Share.{Share}
 use Rattle.schedule_runs.specs.declared.verdict.Verdict.TheVariants.{Schedule, MinedTwice, BeforeNeeded, OverLimit}
-
--- a schedule of two blocks, whose lines from the fifth on are these
-abbrev pub with_lines : List ℕ → List ℕ
-with_lines lines = codes "SCHEDULE 2\nBLOCKS 2\nPERIODS 2\nDESTINATIONS 3\n" ++ lines
-
-pub record TextsAtFault : Type 0 where
-  pub lawful : shares_in 2 2 3 (with_lines (codes "SHARES 1\nSHARE 1 0 2 0.5\n")) ≡ Ok (pos 1 ∷ pos 0 ∷ pos 2 ∷ pos 500000 ∷ [])
-  pub other_word : shares_in 2 2 3 (with_lines (codes "SHARES 1\nPRICE 1 0 2 0.5\n")) ≡ Err (in_text WrongHeader 6)
-  pub wider : shares_in 2 2 3 (with_lines (codes "SHARES 1\nSHARE 1 0 2 0.5 0\n")) ≡ Err (in_text WrongFieldCount 6)
-  pub no_whole : shares_in 2 2 3 (with_lines (codes "SHARES 1\nSHARE 1 0 2.0 0.5\n")) ≡ Err (in_text NotWhole 6)
-  pub no_decimal : shares_in 2 2 3 (with_lines (codes "SHARES 1\nSHARE 1 0 2 half\n")) ≡ Err (in_text NotDecimal 6)
-  pub ends : shares_in 2 2 3 (with_lines (codes "SHARES 1\n")) ≡ Err (in_text EndsEarly 6)
-  pub goes_on : shares_in 2 2 3 (with_lines (codes "SHARES 0\nSHARE 1 0 2 0.5\n")) ≡ Err (in_text AfterEnd 6)
 
 -- there may be so many of a quantity, and neither fewer nor more
 abbrev pub GoesFromTo : Quantity → ℕ → ℕ → Type 0
@@ -45,6 +30,10 @@ example_sizes = record { periods = 2; destinations = 3; columns = 4; limits = 5 
 -- number i of a section may go from the one to the other
 abbrev pub IsFromTo : Section → ℕ → ℤ → ℤ → Type 0
 IsFromTo section i least most = (x : ℤ) → IsInRange example_sizes section i x ↔ ((least ≤ℤ x) × (x ≤ℤ most))
+
+-- the limit of a use is none of the two, and an amount after it is too large
+abbrev pub two_out_of_range : Lists
+two_out_of_range = record example_lists { discounts = []; capacities = []; values = []; uses = pos 0 ∷ pos 2 ∷ pos 0 ∷ pos 0 ∷ []; amounts = pos 10000000000000001 ∷ [] }
 
 pub record LimitsOfProblems : Type 0 where
   pub blocks : GoesFromTo Blocks 0 4194304
@@ -69,6 +58,8 @@ pub record LimitsOfProblems : Type 0 where
   pub limit_of_use : IsFromTo sections.Uses 5 (pos 0) (pos 4)
   pub column_of_use : IsFromTo sections.Uses 6 (pos 0) (pos 3)
   pub lag_of_use : IsFromTo sections.Uses 7 (pos 0) (pos 65536)
+  pub use_first : IsFirstOutOfRange two_out_of_range sections.Uses 1
+  pub pairs : pairs_of_nodes example_lists ((1, 0) ∷ []) ≡ 6
   pub price : (x : ℤ) → IsPrice x ↔ ((pos 0 ≤ℤ x) × (x ≤ℤ pos 1000000000000000))
 
 -- most of block 1 goes to the mill in the first period

@@ -6,5 +6,5 @@ pub mod Refusals
 pub mod Runs
 pub mod OneAnswer
 pub mod Status
-pub mod ExampleTexts
+pub mod ExampleAnswer
 pub mod ExampleRefusals

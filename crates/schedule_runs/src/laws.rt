@@ -1,7 +1,7 @@
 //! Laws: runs over the same texts end alike, and examples read, break limits and are refuted so. Each is a function with an empty body whose
 //! contract is the law.
-ghost use Rattle.schedule_runs.specs.ExampleRefusals.{LimitsOfProblems, RefutedSchedules, TextsAtFault};
-ghost use Rattle.schedule_runs.specs.ExampleTexts.{TextsOfTwoBlocks};
+ghost use Rattle.schedule_runs.specs.ExampleRefusals.{LimitsOfProblems, RefutedSchedules};
+ghost use Rattle.schedule_runs.specs.ExampleAnswer.{AnswerOfTwoBlocks};
 ghost use Rattle.schedule_runs.specs.OneAnswer.{BoundIsRefusedOnce, BoundedIsBlameless, BoundsOneWay, CheckAndBoundIsRefusedOnce, CheckIsRefusedOnce, CheckedAndBoundedIsBlameless, CheckedIsBlameless, ChecksAndBoundsOneWay, ChecksOneWay};
 
 /// Two runs over the same texts that answer write the same text.
@@ -25,14 +25,9 @@ pub fn texts_have_one_refusal()
     ensures bound { BoundIsRefusedOnce }
 {}
 
-/// The texts of two blocks in two periods spell their problem, its shares and prices. Those of another mine are refused by their line.
-pub fn texts_of_two_blocks()
-    ensures { TextsOfTwoBlocks }
-{}
-
-/// Lines of a schedule's text with one field changed, one too few or one too many are refused by their line.
-pub fn texts_at_fault()
-    ensures { TextsAtFault }
+/// The lists that the text of two blocks in two periods spells are those of their problem, and the answer to it reads so.
+pub fn answer_of_two_blocks()
+    ensures { AnswerOfTwoBlocks }
 {}
 
 /// The least and the greatest lawful count of each quantity, and number of each section.

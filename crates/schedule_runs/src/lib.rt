@@ -15,8 +15,8 @@ mod verdict;
 
 pub use broken_limit::{BrokenLimit, Quantity, Section};
 pub use laws::{
-    answered_texts_are_not_refused, limits_of_problems, refuted_schedules, runs_write_one_text,
-    texts_at_fault, texts_have_one_refusal, texts_of_two_blocks,
+    answer_of_two_blocks, answered_texts_are_not_refused, limits_of_problems, refuted_schedules,
+    runs_write_one_text, texts_have_one_refusal,
 };
 pub use refused::Refused;
 pub use run::{ProblemTexts, run_bound, run_check, run_check_and_bound};
