@@ -82,7 +82,6 @@ def settled(fixed: FixedBlocks, grid: Grid, domains: SlopeDomains) -> Settled:
 
 
 def marks(grid: Grid, cells: NDArray[Any]) -> NDArray[Any]:
-    """Returns a boolean mask of these cells."""
     found = np.zeros(grid.count, dtype=bool)
     found[cells] = True
     return found

@@ -49,7 +49,6 @@ class Words:
 
     @property
     def page(self) -> int:
-        """Bytes of a page."""
         return PAGE * self.size
 
     @property
@@ -61,7 +60,6 @@ class Words:
         return {4: "single", 8: "double"}[self.size]
 
     def number(self, page: bytes, word: int) -> float:
-        """Returns a word as a number."""
         return float(np.frombuffer(page, self.dtype, 1, word * self.size)[0])
 
     def text(self, page: bytes, word: int, count: int = 1) -> str:

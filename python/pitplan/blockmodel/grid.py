@@ -58,7 +58,6 @@ class Frame:
 
     @property
     def names(self) -> tuple[str, str]:
-        """The names of the two axes."""
         if not self.azimuth:
             return "east", "north"
         east, north = (f"{round(angle % 360, 4):.10g}" for angle in (self.azimuth + 90, self.azimuth))
@@ -363,7 +362,6 @@ class Grid:
 
     @property
     def count(self) -> int:
-        """The number of cells."""
         return self.shape[0] * self.shape[1] * self.shape[2]
 
     @property

@@ -302,7 +302,6 @@ def unit_in(hint: str) -> str:
 
 
 def first_of_each(found: list[MetalGuess]) -> tuple[MetalGuess, ...]:
-    """Returns the first column of each metal."""
     return tuple({guess.metal: guess for guess in reversed(found)}.values())[::-1]
 
 
@@ -351,7 +350,6 @@ class Role:
 
     @property
     def text(self) -> str:
-        """The role as --role has it."""
         return f"{self.key}:{self.unit}" if self.unit else self.key
 
 
@@ -431,7 +429,6 @@ def changed(
 
 
 def metals_of(columns: GuessedColumns, roles: Mapping[str, Role], names: list[str]) -> tuple[MetalGuess, ...]:
-    """Returns the metals in the order of their columns."""
     wanted = [MetalGuess(role.key, column, role.unit, WHY) for column, role in roles.items() if role.is_metal]
     taken = {it.metal for it in wanted}
     kept = [it for it in columns.metals if it.column not in roles and it.metal not in taken]

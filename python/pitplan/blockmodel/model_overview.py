@@ -154,7 +154,6 @@ def grade_of(model: GuessedModel, column: str, tonnes: np.ndarray) -> Grade:
 
 
 def format_notes(model: GuessedModel) -> list[str]:
-    """Returns notes on the text."""
     said = []
     if model.form.separator != ",":
         said.append(f"the fields are separated by {NAMES[model.form.separator]}")

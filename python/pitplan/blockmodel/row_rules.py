@@ -52,7 +52,6 @@ class RuledRows:
 
     @property
     def kept_source(self) -> str:
-        """The source of the rows that are left."""
         if self.kept.all():
             return self.source
         source = self.source if isinstance(self.source, TableSource) else TableSource(self.source)

@@ -162,7 +162,6 @@ class Grade:
 
 
 def grade_of(metal: Metal, grades: np.ndarray, tonnes: np.ndarray) -> Grade:
-    """The grades of a metal, one a block, by the tonnes of the blocks."""
     return Grade(metal.name, metal.column, metal.unit, mean_of(grades, tonnes), float(grades.max()))
 
 

@@ -162,7 +162,6 @@ def file_name(file: Path, out: Path) -> str:
 
 
 def quoted(words: str) -> str:
-    """A text as TOML has it."""
     return json.dumps(words, ensure_ascii=False).replace("\x7f", "\\u007f")
 
 

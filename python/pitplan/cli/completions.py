@@ -65,7 +65,6 @@ class CompletedSubcommand:
 
     @property
     def spellings(self) -> list[str]:
-        """Those of all options."""
         return [spelling for option in self.options for spelling in option.spellings]
 
 
@@ -297,7 +296,6 @@ def colons(text: str) -> str:
 
 
 def quoted(text: str) -> str:
-    """A text as one word of a shell."""
     return "'" + text.replace("'", "'\\''") + "'"
 
 
@@ -310,7 +308,6 @@ end
 
 
 def of_fish(subcommands: list[CompletedSubcommand], top: tuple[Option, ...]) -> str:
-    """The script for fish."""
     lines = [
         f"complete -c pitplan -n __fish_use_subcommand{fish_spellings(option)} -d {fish_quoted(option.help)}"
         for option in top

@@ -503,7 +503,6 @@ def parser() -> Parser:
 
 
 def add(sub: Parser, name: str, subcommand: Subcommand) -> None:
-    """Adds the arguments of a subcommand to its parser."""
     for it in subcommand.arguments:
         sub.add_argument(*it.names, **it.reading)
     if subcommand.nested is not None:

@@ -160,7 +160,6 @@ def of_library(wanted: Library) -> Finding:
 
 
 def version_of(module: Any, name: str) -> str:
-    """Returns the version of a module, by itself or by its package."""
     found = getattr(module, "__version__", None) or getattr(module, "VTK_VERSION", None)
     if isinstance(found, str):
         return found
@@ -171,12 +170,10 @@ def version_of(module: Any, name: str) -> str:
 
 
 def numbers(version: str) -> tuple[int, ...]:
-    """Returns the numbers at the front of a version."""
     return tuple(int(it) for it in re.findall(r"\d+", version)[:3])
 
 
 def font() -> Finding:
-    """Returns the font of the figures."""
     try:
         from matplotlib.font_manager import findfont
 

@@ -56,7 +56,6 @@ def draw(answer: Answer, tables: dict[str, pd.DataFrame], stage: Path) -> list[s
 
 
 def of_shells(shells: Shells, tables: dict[str, pd.DataFrame]) -> Iterator[Drawing]:
-    """Yields the figures of shells."""
     scene, project, chosen = plans_sections.scene_of(shells), shells.plan.project, shells.selected
     yield PICTURES["pit_by_pit"], partial(write_pit_by_pit, shells.table, project.economics.currency, chosen)
     yield PICTURES["years"], partial(schedule.write_years, tables["years"], project, chosen)

@@ -90,7 +90,6 @@ class Writing:
 
     @property
     def draws(self) -> bool:
-        """Whether figures are drawn."""
         return DRAWS if self.figures is None else self.figures
 
 
@@ -231,7 +230,6 @@ def staged_input(path: Path, stage: Path) -> Path:
 
 
 def write_table(blocks: pd.DataFrame, stage: Path) -> None:
-    """Writes blocks.csv."""
     csv_writer.write(stage / names.TABLE, blocks)
 
 

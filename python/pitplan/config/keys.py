@@ -672,5 +672,4 @@ def schema(record: type) -> dict[str, Any]:
 
 
 def sentence(it: Key) -> str:
-    """What a key is, with its unit and range."""
     return "; ".join(filter(None, [it.meaning, it.unit_of(), it.kind.range]))

@@ -120,7 +120,6 @@ class Calendar:
 
     @cached_property
     def listed(self) -> tuple[Period, ...]:
-        """The entry of each period."""
         return tuple(period for period in self.periods for _ in range(period.count))
 
     @property
@@ -177,7 +176,6 @@ class Calendar:
         return self.by_year(lambda period: values(period).get(name), otherwise)
 
     def has(self, value: Callable[[Period], object]) -> bool:
-        """Whether some period has a value."""
         return any(value(period) not in (None, {}, 0, ()) for period in self.periods)
 
     @property

@@ -88,7 +88,6 @@ def key_of(key: str) -> str:
 
 
 def shown(value: Any) -> str:
-    """A value on one line."""
     if isinstance(value, bool):
         return "true" if value else "false"
     if isinstance(value, str):

@@ -105,13 +105,11 @@ class HillAxis:
         return ((self.parameter, value),) if self.is_change and value else ()
 
     def settings(self, number: int) -> tuple[Setting, ...]:
-        """The keys that are set for one of the numbers."""
         first = () if self.is_change else ((self.parameter, self.values[number]),)
         return (*first, *((name, values[number]) for name, values in self.also.items()))
 
     @property
     def keys(self) -> tuple[str, ...]:
-        """The paths of all keys that are set."""
         return tuple(name for name, _ in self.settings(0))
 
 

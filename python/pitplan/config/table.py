@@ -126,7 +126,6 @@ class Nulls:
         return self.values if rule is None else (*self.values, *rule.values)
 
     def meaning(self, column: str, otherwise: str) -> str:
-        """Returns what a null means in a column."""
         rule = self.by_column.get(column)
         return otherwise if rule is None or rule.meaning is None else rule.meaning
 

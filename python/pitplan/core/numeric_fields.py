@@ -56,7 +56,6 @@ def row_of(source: str, row: int) -> int:
 
 
 def header_row_of(source: str) -> int:
-    """Returns the row of the names."""
     return source.header_row if isinstance(source, TableSource) else 1
 
 

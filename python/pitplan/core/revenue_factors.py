@@ -44,7 +44,6 @@ def of_decimal(value: Union[int, Decimal]) -> float:
 
 
 def is_factor(value: Any) -> bool:
-    """Whether a value of a record is a revenue factor."""
     if isinstance(value, bool) or not isinstance(value, (int, float)) or not 0 <= value <= GREATEST_FACTOR:
         return False
     return of_per_mille(round(value * PER_MILLE)) == value

@@ -344,7 +344,6 @@ class Values:
 
     @cached_property
     def revenue(self) -> np.ndarray:
-        """The revenue of the best process."""
         return np.choose(self.best, [way.revenue for way in self.by_process])
 
     @cached_property

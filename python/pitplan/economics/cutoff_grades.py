@@ -108,7 +108,6 @@ def last_grade(recovery: Recovery) -> float:
 
 
 def share_at(recovery: Recovery, head: float) -> float:
-    """Returns the recovery at a head grade."""
     if not isinstance(recovery, Curve):
         return float(recovery)
     grades, shares = zip(*recovery.points)

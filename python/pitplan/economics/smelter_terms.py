@@ -31,7 +31,6 @@ def payable_share(metal: Metal) -> Decimal:
 
 
 def grade_of(terms: Smelter) -> Decimal:
-    """Returns the grade of the concentrate, which terms have that depend on it."""
     assert terms.concentrate_grade is not None
     return terms.concentrate_grade
 

@@ -51,7 +51,6 @@ class DatamineField:
 
     @property
     def count(self) -> int:
-        """Fields of the definition."""
         return max(self.parts, 1)
 
     def words(self) -> np.ndarray:

@@ -118,7 +118,6 @@ class PeriodSheet:
             place.font = fonts.Font(bold=line.bold, color=INPUT if is_number else None)
 
     def row(self, key: str) -> int:
-        """Returns the row of a line."""
         return len(self.heads) + 1 + [line.key for line in self.lines].index(key)
 
     def resolved(self, formula: str, column: int) -> str:
@@ -181,7 +180,6 @@ class CashFlowSheet:
         return self.project.economics.currency
 
     def sheet(self) -> PeriodSheet:
-        """Returns the sheet."""
         method = self.table["method"].iloc[0]
         heads = (
             f"{self.project.title}: cash flow of the schedule, {methods.NAMES.get(method, 'by block')}",
@@ -194,7 +192,6 @@ class CashFlowSheet:
         return column in self.table
 
     def given(self, column: str) -> SheetLine:
-        """Returns the line of a column of money."""
         return SheetLine(column, self.heading(column), self.currency, self.table[column].to_numpy(), total=SUM)
 
     def heading(self, column: str) -> str:
@@ -298,7 +295,6 @@ class CashFlowSheet:
 
     @property
     def cost_columns(self) -> list[str]:
-        """The columns of operating costs, in order."""
         columns = list(self.table)
         last = columns.index("rounding" if self.has("rounding") else "operating_cash_flow")
         return columns[columns.index("mining_cost_ore") : last]
@@ -505,7 +501,6 @@ class ReserveSheet:
         return [*found, "#,##0", "#,##0", "0.00", "#,##0"]
 
     def rows(self) -> Iterator[Cells]:
-        """Yields the cells of the sheet."""
         yield [f"{self.project.title}: mill feed of the schedule, {methods.NAMES.get(self.method, 'by block')}"]
         lay = f" {OPENING.capitalize()} lay on stockpiles at the start: pushback 0 of the sheet inventory."
         has_any = 0 in self.pushbacks
@@ -557,7 +552,6 @@ class ReserveSheet:
             yield [year, "", *cells]
 
     def amounts(self, place: int, conditions: list[Condition]) -> Cells:
-        """Returns the formulas of the amounts of a row."""
         found: Cells = [self.sum_of(name, conditions) for name in ("total_tonnes", "feed_tonnes")]
         letter = load("openpyxl.utils", "python3-openpyxl", "a workbook").get_column_letter
         for metal in self.project.metals:
@@ -574,7 +568,6 @@ class ReserveSheet:
         return Formula(f"=SUMIFS({','.join(parts)})")
 
     def cells_of(self, column: str) -> str:
-        """Returns the cells of a column of the sheet `inventory`."""
         letter = load("openpyxl.utils", "python3-openpyxl", "a workbook").get_column_letter
         name = letter(self.inventory.columns.get_loc(column) + 1)
         return f"{INVENTORY}!${name}$2:${name}${len(self.inventory) + 1}"

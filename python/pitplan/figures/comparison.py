@@ -30,7 +30,6 @@ SMALL = 0.1
 
 
 def write_bridge(steps: pd.DataFrame, run: str, currency: str, path: Path) -> None:
-    """Writes the bridge to a run."""
     mine = steps[steps["run"] == run]
     with matplotlib.rc_context(STYLE):
         wide = 9.0 * max(1.0, (len(mine) + 1) / BARS)

@@ -156,7 +156,6 @@ class Cube:
 
 
 def write_block_model(model: GuessedModel, path: Path) -> None:
-    """Writes the figure."""
     shown = histograms_of(model)
     with matplotlib.rc_context(STYLE):
         figure = Figure(figsize=(12, 8.6), constrained_layout=True)

@@ -44,7 +44,6 @@ def of_stockpiles(names: Iterable[str]) -> dict[str, str]:
 
 
 def of_dumps(names: Iterable[str]) -> dict[str, str]:
-    """Returns the colour of each dump by its name."""
     return {name: DUMPS[number % len(DUMPS)] for number, name in enumerate(names)}
 
 

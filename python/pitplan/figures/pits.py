@@ -122,7 +122,6 @@ def plot(table: pd.DataFrame, metal: Metal, axes: Any) -> list[Axes]:
 
 
 def plot_part(axis: Axes, table: pd.DataFrame, metal: Metal, colours: dict[str, str]) -> None:
-    """Draws a part; `colours` are those of the classes of all parts."""
     curves = table[table["mark"] == ""]
     # Without the barren rock, which would hide all else.
     rich = curves["cutoff_grade"] > 0

@@ -58,7 +58,6 @@ class LikelyScene(BlockScene):
         return levels_of(self.rules, self.grid, self.likely.shown > 0)
 
     def draw(self, cut: Cut, ax: Axes) -> None:
-        """Draws a level or a section."""
         draw(ax, self.likely.shown[cut.index], self.likely.solid[cut.index], cut.extent)
         ax.set_title(f"{cut.title[0].upper()}{cut.title[1:]}")
 

@@ -72,7 +72,6 @@ class BlockScene(ABC):
 
     @property
     def levels(self) -> list[int]:
-        """The levels that are drawn."""
         return levels_of(self.rules, self.grid, self.mined)
 
     @property

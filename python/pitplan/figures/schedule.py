@@ -68,7 +68,6 @@ def capacities_of(settings: ShellRules) -> list[tuple[str, tuple[float, ...], st
 
 
 def label_of(calendar: Calendar, count: int) -> str:
-    """Returns the label of an axis of periods."""
     if calendar.is_yearly or not count:
         return calendar.word
     ends = calendar.ends(count)
@@ -249,7 +248,6 @@ def plot_metal(feed: pd.DataFrame, metal: Metal, calendar: Calendar, ax: Axes) -
 
 
 def metal_rows(figure: Figure, count: int, place: dict[str, float], sharey: bool = False) -> list[Axes]:
-    """Returns a row of axes at a place of a figure."""
     return list(np.ravel(figure.add_gridspec(1, count, **place).subplots(sharey=sharey, squeeze=False)))
 
 

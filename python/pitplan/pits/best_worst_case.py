@@ -417,7 +417,6 @@ class Terms:
 
 
 def cases_of(settings: ShellRules) -> tuple[str, ...]:
-    """The cases of the analysis."""
     return (BEST, WORST) if settings.specified is None else (BEST, WORST, SPECIFIED)
 
 

@@ -139,7 +139,6 @@ class OreKinds:
 
     @property
     def width(self) -> int:
-        """The number of columns."""
         return HEAD + self.kinds * (1 + self.processes * (1 + len(self.names)))
 
     def feed(self, amounts: Floats) -> Floats:

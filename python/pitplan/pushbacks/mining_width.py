@@ -235,7 +235,6 @@ def grow(mask: np.ndarray, may: np.ndarray, shape: Optional[Rectangle], free: np
 
 
 def with_precedences(pit: np.ndarray, ground: MinableArea) -> np.ndarray:
-    """Returns the pit with all predecessors."""
     return ground.plan.grid.cube(closure.used_blocks(ground.plan.grid, ground.plan.domains, pit.ravel()))
 
 

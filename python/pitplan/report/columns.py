@@ -88,7 +88,6 @@ class Display:
         return found
 
     def of(self, table: pd.DataFrame, project: Project) -> Columns:
-        """The columns that are shown of a table."""
         # Ore loss and dilution make the mill feed another amount than the ore in situ.
         is_diluted = IN_SITU in self.names and bool((table["feed_tonnes"] != table[IN_SITU]).any())
         money = scaled(float(table[[it for it in self.money if it in table]].abs().max().max()))

@@ -92,7 +92,6 @@ def schedule_statements(folder: Path, project: Project, record: dict[str, Any], 
 
 
 def only(table: WrittenTable, method: str) -> WrittenTable:
-    """Returns the rows of a method."""
     return WrittenTable(table.file, table.frame[table.frame["method"] == method])
 
 
@@ -266,7 +265,6 @@ class StatementRow:
     by: float = 1.0
 
     def total(self) -> dict[str, str]:
-        """Returns the cell of all periods."""
         sums, file = self.table.frame.sum(numeric_only=True), self.table.file
         if not self.ratio:
             return cell(number(float(sums[self.column]), self.size, self.places), f"{file}: sum of {self.column}")
@@ -354,7 +352,6 @@ def recovered(table: WrittenTable, row: int, columns: dict[str, report.ShownColu
 
 
 def schedule_results(folder: Path, project: Project, shown: str) -> list[Figure]:
-    """Returns the key results of a schedule."""
     ways = read_table(folder, names.METHODS)
     row = int(ways.frame.index[ways.frame["method"] == shown][0])
     only_one = ways.frame.loc[[row]]

@@ -39,7 +39,6 @@ OF_SOME = (
 
 
 def of_table(name: str) -> str:
-    """Returns the file of a table by its name."""
     return f"{TABLES}/{name}.csv"
 
 

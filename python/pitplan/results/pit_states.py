@@ -63,7 +63,6 @@ class Stage:
 
     @property
     def name(self) -> str:
-        """The name of files and layers."""
         return self.spoken.replace(" ", "-") if self.number else "before"
 
     @property

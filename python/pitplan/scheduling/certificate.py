@@ -114,7 +114,6 @@ class Shares:
         return Shares(block[some], period[some], destination[some], sums[some])
 
     def of(self, destination: int) -> Shares:
-        """Returns the shares of a destination."""
         some = self.destination == destination
         return Shares(self.block[some], self.period[some], self.destination[some], self.share[some])
 
@@ -196,7 +195,6 @@ class Certified:
 
     @property
     def record(self) -> dict[str, Any]:
-        """What the record of the schedule says."""
         named = {"destinations": [list(it) for it in self.destinations], "limits": [list(it) for it in self.limits]}
         unit = {} if self.unit == 1 else {"money_unit": self.unit}
         return {"value": self.value, "bound": self.bound, **named, **unit}
@@ -398,7 +396,6 @@ class AmountColumns:
         self.columns: list[NDArray[np.int64]] = []
 
     def place(self, column: NDArray[np.int64]) -> int:
-        """Returns the number of a column."""
         key = np.ascontiguousarray(column).tobytes()
         if key not in self.numbers:
             self.numbers[key] = len(self.columns)
@@ -418,7 +415,6 @@ def line(word: str, numbers: NDArray[np.int64]) -> str:
 
 
 def counted(counts: Mapping[str, int]) -> list[str]:
-    """Returns a line for each count."""
     return [f"{word} {count}" for word, count in counts.items()]
 
 
@@ -447,14 +443,12 @@ def problem_text(certificate: Certificate) -> str:
 
 
 def precedence_text(predecessors: Predecessors) -> str:
-    """Returns the text of the precedences."""
     starts, blocks = predecessors.starts.tolist(), predecessors.blocks.tolist()
     rows = [(block, blocks[first:end]) for block, (first, end) in enumerate(zip(starts, starts[1:])) if end > first]
     return "".join(f"{block} {len(others)} {' '.join(map(str, others))}\n" for block, others in rows)
 
 
 def schedule_text(certificate: Certificate) -> str:
-    """Returns the text of the schedule, with the counts of its problem."""
     shares = certificate.shares
     places = zip(shares.block.tolist(), shares.period.tolist(), shares.destination.tolist(), shares.share.tolist())
     lines = [f"SHARE {block} {period} {to} {decimal(share)}" for block, period, to, share in places]
@@ -463,7 +457,6 @@ def schedule_text(certificate: Certificate) -> str:
 
 
 def prices_text(certificate: Certificate) -> str:
-    """Returns the text of the prices, with the counts of its problem."""
     counts = counted(certificate.counts("LIMITS", "PERIODS"))
     return "\n".join([f"PRICES {FORM}", *counts, *(line("PRICE", row.price) for row in certificate.rows)]) + "\n"
 

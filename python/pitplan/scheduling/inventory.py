@@ -82,7 +82,6 @@ def payable_by_destination(project: Project, metal: int, destination: pd.Series)
 
 
 def categories(rows: pd.DataFrame, project: Project, stockpiles: Sequence[str]) -> np.ndarray:
-    """Returns the category of each row."""
     column, feed = project.table.resource_class, np.full(len(rows), ORE, dtype=object)
     if column is not None:
         is_reserve = {code: project.classes.may_be_reserve(code) for code in rows[shown_name(column)].unique()}

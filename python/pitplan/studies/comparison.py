@@ -184,7 +184,6 @@ class KeyChange:
 
     @property
     def key(self) -> str:
-        """As tables name it."""
         return " ".join(self.path)
 
     @property

@@ -77,7 +77,6 @@ def with_settings(project: Project, settings: tuple[Setting, ...]) -> Project:
 
 
 def moves_slopes(name: str) -> bool:
-    """Returns whether a parameter changes slopes."""
     return name == "slopes" or name.startswith("slopes.")
 
 
@@ -107,12 +106,10 @@ def with_metals(project: Project, name: str, change: Callable[[Metal], Metal]) -
 
 
 def with_processes(project: Project, change: Callable[[Process], Process]) -> Project:
-    """Returns the project with each of its processes changed."""
     return replace(project, processes=tuple(change(process) for process in project.processes))
 
 
 def with_periods(project: Project, change: Callable[[Period], Period]) -> Project:
-    """Returns the project with each of its periods changed."""
     calendar = Calendar(tuple(change(period) for period in project.shells.calendar.periods))
     return replace(project, shells=replace(project.shells, calendar=calendar))
 
@@ -149,8 +146,6 @@ def charged(terms: Smelter, by: Decimal) -> Smelter:
 
 
 def recovery(project: Project, by: Decimal, metal: str) -> Project:
-    """Changes the recovery of a metal in all processes."""
-
     def change(process: Process) -> Process:
         changed = {name: recovered(it, by) if metal in ("", name) else it for name, it in process.recovery.items()}
         return replace(process, recovery=changed)
@@ -172,7 +167,6 @@ def mining_cost(project: Project, by: Decimal, metal: str) -> Project:
 
 
 def processing_cost(project: Project, by: Decimal, metal: str) -> Project:
-    """Changes the processing costs of all processes."""
     project = replace(
         project, economics=replace(project.economics, processing_cost=times(project.economics.processing_cost, by))
     )
@@ -205,7 +199,6 @@ def capacity(project: Project, by: Decimal, metal: str) -> Project:
 
 
 def of_period(period: Period, more: float) -> Period:
-    """Returns a period with other capacities."""
     single = {name: getattr(period, name) for name in ("mining_capacity", "processing_capacity")}
     changed = {name: None if tonnes is None else tonnes * more for name, tonnes in single.items()}
     return replace(period, **changed, capacity={name: tonnes * more for name, tonnes in period.capacity.items()})
@@ -640,7 +633,6 @@ def record(found: Sensitivity, project: str) -> dict[str, Any]:
 
 
 def recorded(found: Sensitivity, case: Case) -> dict[str, Any]:
-    """Returns the record of a case."""
     return {**case.as_json, "key": found.keys[case], "slope_domains": found.answers[case].domains}
 
 

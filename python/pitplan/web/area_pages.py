@@ -52,7 +52,6 @@ class AreaPages:
 
     @property
     def routes(self) -> list[Route]:
-        """The addresses."""
         return [
             Route("/project/area", in_words(threaded(self.drawn, 4 * MOST_BYTES)), methods=["POST"]),
             Route("/project/area-file", in_words(self.uploaded), methods=["PUT"]),

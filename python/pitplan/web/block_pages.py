@@ -41,7 +41,6 @@ class BlockPages:
 
     @property
     def routes(self) -> list[Route]:
-        """The addresses."""
         return [
             Route("/blocks", self.pages.answering(self.page)),
             Route("/blocks/model", in_words(threaded(self.model))),
@@ -52,7 +51,6 @@ class BlockPages:
         ]
 
     def page(self, request: Request) -> Response:
-        """The page, which asks for its arrays."""
         name = request.query_params.get("name", "")
         path = self.pages.workspace.place(name)
         is_project = not path.is_dir()
@@ -69,7 +67,6 @@ class BlockPages:
         return self.store.of(path)
 
     def model(self, request: Request) -> Response:
-        """The grid and the columns."""
         return JSONResponse(self.blocks(request).as_json)
 
     def cells(self, request: Request) -> Response:

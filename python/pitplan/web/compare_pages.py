@@ -72,17 +72,14 @@ class ComparePages:
 
     @property
     def routes(self) -> list[Route]:
-        """The addresses."""
         return [
             Route("/compare", self.pages.answering(self.choose), methods=["GET"]),
             Route("/compare", self.pages.answering(self.compare), methods=["POST"]),
         ]
 
     def choose(self, request: Request) -> Response:
-        """The runs to choose from."""
         return self.pages.page("compare.html", title="Compare runs", results=comparable(self.pages.workspace))
 
     def compare(self, request: Request) -> Response:
-        """Starts the comparison."""
         form = form_of(request)
         return self.pages.started(read(form, self.pages.workspace), form)

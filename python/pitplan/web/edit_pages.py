@@ -37,7 +37,6 @@ class EditPages:
 
     @property
     def routes(self) -> list[Route]:
-        """The addresses."""
         return [
             Route("/project/check", self.pages.answering(self.check, MOST_BYTES), methods=["POST"]),
             Route("/project/save", self.pages.answering(self.save, MOST_BYTES), methods=["POST"]),

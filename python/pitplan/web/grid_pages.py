@@ -37,7 +37,6 @@ class GridPages:
 
     @property
     def routes(self) -> list[Route]:
-        """The addresses."""
         return [
             Route("/project/grid", self.pages.answering(self.save, MOST_BYTES), methods=["POST"]),
             Route("/project/name-process", self.pages.answering(self.name_process), methods=["POST"]),

@@ -262,7 +262,6 @@ class FormGrid:
 
     @property
     def further(self) -> list[GridColumn]:
-        """The columns that are not shown."""
         return [column for column, is_used in zip(self.columns, self.is_used) if not is_used]
 
 
@@ -272,7 +271,6 @@ def grids_of(text: str, project: Project) -> dict[str, FormGrid]:
 
 
 def grid_of(kind: GridKind, headers: set[str], data: Mapping[str, Any], project: Project) -> FormGrid:
-    """Returns a grid of a project's text with these headers."""
     found = at(data, kind.header.split("."))
     listed = rules_in(data) if kind.name == CLASSES else found if isinstance(found, list) else []
     columns = columns_of(kind.name, project, listed)
@@ -296,7 +294,6 @@ def why_not(kind: GridKind, headers: set[str], data: Mapping[str, Any]) -> str:
 
 
 def shown(value: Any, column: GridColumn) -> str:
-    """Returns a value as a cell has it."""
     if value is None or isinstance(value, dict):
         return ""
     if isinstance(value, str):

@@ -211,7 +211,6 @@ class ImportPages:
 
     @property
     def routes(self) -> list[Route]:
-        """The addresses."""
         return [
             Route("/import", self.pages.answering(self.form)),
             Route("/import/check", in_words(threaded(self.check))),
@@ -221,7 +220,6 @@ class ImportPages:
         ]
 
     def form(self, request: Request) -> Response:
-        """The form that sends a file."""
         return self.pages.page(
             "import.html",
             title="Import a block model",

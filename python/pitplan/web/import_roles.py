@@ -111,7 +111,6 @@ class RolePages:
 
     @property
     def routes(self) -> list[Route]:
-        """The addresses."""
         return [
             Route("/import/preview", in_words(threaded(self.preview, 16 * MOST_BYTES)), methods=["POST"]),
             Route("/import/roles", self.pages.answering(self.write, 16 * MOST_BYTES), methods=["POST"]),

@@ -149,7 +149,6 @@ class Jobs:
         return found
 
     def numbers(self) -> list[int]:
-        """Returns the numbers of all jobs."""
         try:
             return [int(name) for name in os.listdir(self.folder) if name.isascii() and name.isdigit()]
         except OSError:

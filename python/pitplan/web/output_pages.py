@@ -39,7 +39,6 @@ class OutputPages:
 
     @property
     def routes(self) -> list[Route]:
-        """The addresses."""
         return [
             Route("/project/shell", self.pages.answering(self.choose), methods=["POST"]),
             Route("/result/view", self.pages.answering(self.view), methods=["POST"]),

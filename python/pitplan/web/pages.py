@@ -113,7 +113,6 @@ class Pages:
 
     @property
     def routes(self) -> list[Route]:
-        """The addresses."""
         return [
             Route("/", self.answering(self.home)),
             Route("/project", self.answering(self.project)),
@@ -232,7 +231,6 @@ class Pages:
         return RedirectResponse(f"/job?number={job.number}", status_code=303)
 
     def result(self, request: Request) -> Response:
-        """An output folder."""
         name = request.query_params.get("name", "")
         folder = self.workspace.place(name)
         found = self.workspace.result(folder)
@@ -258,7 +256,6 @@ class Pages:
         return HTMLResponse(self.tables.of((path, page), files, lambda: self.page_of_table(path, name, max(1, page))))
 
     def page_of_table(self, path: Path, name: str, page: int) -> bytes:
-        """Returns a page of a table as HTML."""
         table, head = results_page.read_table(path, page), results_page.head_of(path)
         return self.page("table.html", title=path.name, name=name, table=table, head=head).body
 
@@ -340,7 +337,6 @@ class Pages:
             return found
 
     def state_of(self, job: Job) -> dict[str, Any]:
-        """Returns what the page of a job shows."""
         log = self.jobs.log(job.number)
         return {
             "status": job.status,
@@ -372,7 +368,6 @@ class Pages:
         return bool(job.folder) and any((self.workspace.root / job.folder / record).is_file() for record in RECORDS)
 
     def cancel(self, request: Request) -> Response:
-        """Ends a job."""
         number = number_of(form_of(request).get("number", ""))
         self.jobs.cancel(number)
         return RedirectResponse(f"/job?number={number}", status_code=303)
@@ -405,7 +400,6 @@ def status_of(error: Exception, request: Request) -> tuple[int, str]:
 
 
 def form_of(request: Request) -> dict[str, str]:
-    """Returns the fields of the form of a request."""
     form: dict[str, str] = request.state.form
     return form
 
@@ -435,7 +429,6 @@ def number_of(text: str) -> int:
 
 
 def command_line(words: tuple[str, ...]) -> str:
-    """Returns a command as it is typed."""
     return shlex.join(["pitplan", *words])
 
 

@@ -202,7 +202,6 @@ class Page:
 
     @property
     def warnings(self) -> list[str]:
-        """The warnings among the notes."""
         return [it.removeprefix(WARNING) for it in self.notes if it.startswith(WARNING)]
 
     @property

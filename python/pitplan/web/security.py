@@ -94,7 +94,6 @@ class Access:
 
     @property
     def address(self) -> str:
-        """The address that opens the application."""
         if self.host:
             return f"https://{self.host}/"
         return f"http://127.0.0.1:{self.port}{ENTER}?token={self.token}"
@@ -125,7 +124,6 @@ class Access:
         return parts.scheme == ("https" if self.host else "http") and parts.netloc == headers.get("host")
 
     def is_known(self, request: Request) -> bool:
-        """Returns whether the browser has the cookie."""
         return hmac.compare_digest(request.cookies.get(self.cookie, "").encode(), self.secret.encode())
 
     def enter(self, request: Request) -> Response:

@@ -95,7 +95,6 @@ class Settings:
 
 
 def make_app(root: Path, access: Access, version: str = "") -> Starlette:
-    """Returns the application of a folder."""
     jobs = Jobs(root)
     pages = Pages(Workspace(root), jobs, version)
 

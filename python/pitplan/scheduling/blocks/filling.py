@@ -184,7 +184,6 @@ class Filling:
 
     @cached_property
     def needed(self) -> list[list[int]]:
-        """What each block needs."""
         precedences = self.problem.precedences
         bounds, needed = precedences.starts.tolist(), precedences.needed.tolist()
         return [needed[first:last] for first, last in zip(bounds, bounds[1:])]

@@ -154,7 +154,6 @@ class BlockAmounts:
 
     @staticmethod
     def of_plan(plan: Plan, grades: tuple[HeadGrade, ...]) -> BlockAmounts:
-        """Returns the amounts of all cells of a plan."""
         pays, excess = pays_of(plan), {}
         for grade in grades:
             for name in grade.limits:
@@ -163,7 +162,6 @@ class BlockAmounts:
         return BlockAmounts(flows_of(plan), excess, pays)
 
     def of_cells(self, cells: NDArray[np.int64]) -> BlockAmounts:
-        """Returns the amounts of some cells."""
         return self.each(lambda amounts: amounts[cells])
 
     def each(self, change: Callable[[NDArray[Any]], NDArray[Any]]) -> BlockAmounts:

@@ -463,5 +463,4 @@ class Assignment:
 
 
 def nothing(problem: BlockProblem) -> Assignment:
-    """The schedule that mines nothing."""
     return Assignment(np.full(problem.blocks, problem.years), np.zeros((problem.blocks, problem.destinations)))

@@ -248,7 +248,6 @@ class Statement:
         return self.total(self.revenue) - self.total(self.deductions) - self.total(self.costs) + self.rounding
 
     def total(self, lines: Lines) -> Amounts:
-        """Returns the sum of lines by period."""
         return np.asarray(sum(lines.values(), np.zeros(len(self.ends))))
 
 
@@ -312,7 +311,6 @@ def physicals(operation: Operation, sales: dict[str, Sale]) -> Lines:
 
 
 def royalties(operation: Operation, revenue: Lines) -> Lines:
-    """Returns the royalty, by revenue and by tonne of feed."""
     project, costs = operation.plan.project, operation.amounts.costs
     royalty = float(project.economics.royalty) * sum(revenue.values())
     royalty = royalty + sum(operation.fed(lines[ROYALTY], number) for number, lines in enumerate(costs.processing))
@@ -357,7 +355,6 @@ def costs_more_below(project: Project) -> bool:
 
 
 def processing_costs(operation: Operation) -> Lines:
-    """Returns the processing cost by process."""
     factors = operation.factors(PROCESSING_COST)
     return {
         f"processing_cost_{name or MILL}": operation.fed(lines[PROCESSING], number) * factors

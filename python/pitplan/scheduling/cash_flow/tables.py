@@ -222,16 +222,13 @@ class ScheduledMaterial:
 
     @cached_property
     def cells(self) -> NDArray[np.int64]:
-        """The cells of the pushbacks with tonnes."""
         return np.flatnonzero((self.schedule.pushbacks.pushback > 0) & (self.plan.values.tonnes > 0))
 
     @cached_property
     def bench(self) -> NDArray[np.int64]:
-        """The bench of each of these cells."""
         return np.asarray(benches_of_cells(self.schedule.pushbacks, self.schedule.benches, self.cells))
 
     def of_benches(self, values: NDArray[np.float64]) -> NDArray[np.float64]:
-        """Returns the sums of values of cells by bench."""
         return np.asarray(
             np.bincount(self.bench, values[self.cells], minlength=len(self.schedule.benches)), dtype=float
         )
@@ -353,7 +350,6 @@ def rows_of(finance: Finance) -> pd.DataFrame:
 
 
 def taxes(finance: Finance) -> Lines:
-    """Returns the lines of closure and tax that the project has."""
     found: Lines = {"closure_cost": finance.closure} if finance.rules.closure_cost else {}
     if finance.rules.tax_rate:
         taxable, tax = finance.taxed

@@ -111,7 +111,6 @@ class Lagrangian:
 
     @property
     def of_limits(self) -> float:
-        """The prices times the limits."""
         limits = {(it.name, it.side): it.sign * it.finite for it in self.programme.limits}
         return float(sum(price @ limits[key] for key, price in self.prices.items() if key in limits))
 

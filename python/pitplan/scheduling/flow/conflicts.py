@@ -109,7 +109,6 @@ def smallest(
 
 
 def with_units(model: FlowModel, units: Iterable[LimitOfYear]) -> FlowModel:
-    """Returns the model with these limits alone."""
     kept = set(units)
     problem = replace(model.problem, limits=limits_with(model, kept))
     dumps = tuple(

@@ -61,7 +61,6 @@ class Ore:
 
     @property
     def processes(self) -> int:
-        """The number of processes."""
         return len(self.gain)
 
     @property
@@ -441,7 +440,6 @@ def alone(values: NDArray[np.float64], process: int) -> NDArray[np.float64]:
 
 
 def column_of(plan: Plan, name: str, cells: NDArray[np.int64]) -> NDArray[np.float64]:
-    """Returns a column of the table by cell."""
     return np.asarray(plan.grid.spread(plan.table[name].to_numpy())[cells], dtype=float)
 
 

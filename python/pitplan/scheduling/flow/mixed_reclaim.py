@@ -54,7 +54,6 @@ class Pile:
 
 
 def piles_of(flows: Flows) -> list[Pile]:
-    """Returns the stockpiles of a schedule."""
     model, years, found = flows.model, flows.years, []
     ore, lots = model.ore, model.opening
     for number, it in enumerate(model.stockpiles):

@@ -357,7 +357,6 @@ class FlowModel:
 
     @property
     def limits(self) -> list[str]:
-        """The names of the limited amounts."""
         limits = self.problem.limits
         return list(dict.fromkeys([*limits.most, *limits.least]))
 

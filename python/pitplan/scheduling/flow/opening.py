@@ -86,7 +86,6 @@ def as_feed(project: Project) -> Project:
 
 
 def row_of(opening: Opening, project: Project) -> dict[str, Any]:
-    """Returns a lot as a row of the table."""
     table = project.table
     codes = {
         table.rock_type: opening.rock_type,

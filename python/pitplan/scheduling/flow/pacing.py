@@ -136,7 +136,6 @@ class Pacing:
         )
 
     def best(self, order: NDArray[np.int64]) -> Course:
-        """Returns the best course of an order of benches."""
         coarse, total = self.coarse(order), float(self.model.rock[order].sum())
         if not total:
             return coarse

@@ -253,7 +253,6 @@ def demand_every_block(at: np.ndarray, base: Base, source: str) -> None:
 
 
 def priced(project: Project, prices: dict[str, Decimal]) -> Project:
-    """Returns the project at a price deck."""
     metals = tuple(replace(metal, price=prices.get(metal.name, metal.price)) for metal in project.metals)
     return replace(project, metals=metals)
 

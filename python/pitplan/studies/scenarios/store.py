@@ -79,7 +79,6 @@ class Scenario:
 
     @property
     def is_mean(self) -> bool:
-        """Whether it is the mean of all scenarios."""
         return not self.grades
 
     @property

@@ -73,7 +73,6 @@ class ScenarioBlocks:
         return ScenarioBlocks(Minable(arrays["cells"], precedences, arrays["must_mine"]), periods)
 
     def problem(self, amounts: BlockAmounts, project: Project) -> BlockProblem:
-        """Returns the problem to schedule."""
         return self.minable.problem(amounts, project, self.periods)
 
 
@@ -94,13 +93,11 @@ def added(one: BlockAmounts, other: BlockAmounts) -> BlockAmounts:
 
 
 def arrays_of(amounts: BlockAmounts) -> dict[str, NDArray[Any]]:
-    """Returns amounts as arrays for a file."""
     flows = {f"{FLOW}{name}": it for name, it in amounts.flows.items()}
     return flows | {f"{EXCESS}{name}": it for name, it in amounts.excess.items()} | {PAYS: amounts.pays}
 
 
 def amounts_of(arrays: dict[str, NDArray[Any]]) -> BlockAmounts:
-    """Returns the amounts of a file."""
     flows, excess = (
         {name.removeprefix(kind): it for name, it in arrays.items() if name.startswith(kind)} for kind in (FLOW, EXCESS)
     )

@@ -246,7 +246,6 @@ def quantiles(schedules: Schedules) -> pd.DataFrame:
 
 
 def notes(schedules: Schedules, shared: Shared) -> list[str]:
-    """Returns notes on the schedules for the planner."""
     told, count = schedules.record(shared), len(schedules.answered)
     one, bound, value = (told[name]["mean"] for name in ("common_npv", "upper_bound", "npv"))
     left, short = (
