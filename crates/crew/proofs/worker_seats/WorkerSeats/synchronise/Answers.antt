@@ -7,12 +7,11 @@ use Rattle.tree_lock.specs.HolderState.{HolderState}
 use Rattle.crew.specs.declared.worker_seats.WorkerSeats.TheInside.{Inside}
 use Rattle.crew.specs.Working.{IsSynchronised, seated}
 use Rattle.crew.proofs.Working.{synchronised, told_as_seen}
-use Rattle.crew.proofs.worker_seats.WorkerSeats.synchronise.Given.{Over}
 use Rattle.crew.proofs.worker_seats.WorkerSeats.synchronise.Goals.{in-Some, in-None}
 use Rattle.crew.proofs.worker_seats.WorkerSeats.synchronise.Goals as goal
 
-met : (g : Over) (c : goal.Joined-self g) → IsSynchronised g.S.ListId.mine c.args.holder.now.journal (seated c.match-self.self-inside.asks c.match-self.self-inside.looks)
-met g c =
+pub returns-clause-met : goal.returns-clause-met
+returns-clause-met g c =
     let mine = g.S.ListId.mine in
     let journal = c.args.holder.now.journal in
     let same = c.settle.ensures.same in
@@ -30,7 +29,4 @@ met g c =
     ]
 
 pub invariant_of-self : goal.invariant_of-self
-invariant_of-self g c = (met g c).shown
-
-pub returns-clause-met : goal.returns-clause-met
-returns-clause-met g c = met g c
+invariant_of-self g c = (returns-clause-met g c).shown
