@@ -7,6 +7,7 @@ mod budget_bound;
 mod closing;
 mod first_mergers;
 mod label_buckets;
+mod labels;
 mod levels;
 mod lift;
 mod lowest_label;

@@ -11,9 +11,9 @@ ghost use Rattle.pit_model.specs.Graph.{first_of};
 ghost use Rattle.pit_model.specs.Size.{most_blocks};
 ghost use Rattle.faults.specs.Refused.{no_memory};
 ghost use Rattle.forest.specs.Forest.{size};
-ghost use Rattle.merging.specs.Order.{AreBelow};
 
 use crate::label_buckets::LabelBuckets;
+use crate::labels::{Wanted, add_children, first_to, least_label};
 use crate::levels::{Levels, blocks_by_level};
 use faults::Fault;
 use forest::Forest;
@@ -59,92 +59,6 @@ impl Model for LowestLabel {
     ghost view = { λ o. record { blocks = length o.labels.items; labels = length o.counts.items } };
 
     ghost invariant = { λ o. AreOrdered o.labels.items o.places.items o.counts.items o.blocks.items o.found o.entered × (o.waiting ≡ record { blocks = length o.labels.items; labels = length o.counts.items }) };
-}
-
-/// A label, among the labels of all blocks.
-#[derive(Clone, Copy)]
-struct Level<'a> {
-    labels: &'a [u16],
-    label: u16,
-}
-
-/// Returns the first arc of a range that leads to a block with this label.
-fn first_to(graph: &Graph, arcs: Range<u32>, level: Level<'_>) -> Option<u32>
-    requires labels { length level.labels.now ≡ graph.now.blocks }
-    requires arcs { arcs.end ≤ length graph.now.pairs }
-    ensures { IfSome result (λ k. (arcs.start ≤ k) × (k < arcs.end)) }
-{
-    graph.law();
-    for arc in arcs.start..arcs.end {
-        let needed = graph.needed(arc);
-        if level.labels[needed as usize] == level.label {
-            return Some(arc);
-        }
-    }
-    None
-}
-
-/// Returns the least label of the predecessors in a row, or `most` if the row is empty.
-fn least_label(graph: &Graph, labels: &[u16], row: Range<u32>, most: u16) -> u16
-    requires blocks { length labels.now ≡ graph.now.blocks }
-    requires inside { row.end ≤ length graph.now.pairs }
-    ensures { result ≤ most }
-{
-    graph.law();
-    let mut least = most;
-    for arc in row.start..row.end {
-        let label = labels[graph.needed(arc) as usize];
-        if label == 0 {
-            return 0;
-        }
-        least = least.min(label);
-    }
-    least
-}
-
-/// Returns whether a block has the label, or `true` if any label will do.
-fn has_label(level: Option<Level<'_>>, block: u32) -> bool
-    requires { IfSome level (λ l. block < length l.labels.now) }
-{
-    match level {
-        Some(level) => level.labels[block as usize] == level.label,
-        None => true,
-    }
-}
-
-/// Appends the children of a block that have this label, or all children, to the `found` blocks found so far, and returns their
-/// number then.
-fn add_children(
-    forest: &Forest,
-    block: u32,
-    level: Option<Level<'_>>,
-    branch: &mut [u32],
-    found: usize,
-) -> usize
-    requires block { block < size forest.now }
-    requires labels { IfSome level (λ l. length l.labels.now ≡ size forest.now) }
-    requires room { length branch.old ≡ size forest.now }
-    requires found { found ≤ size forest.now }
-    requires branch { AreBelow branch.old (size forest.now) }
-    ensures branch { AreBelow branch.new (size forest.now) }
-    ensures found { result ≤ size forest.now }
-{
-    forest.law();
-    let mut found = found;
-    let mut next = forest.first_child(block);
-    for _child in 0..forest.blocks() {
-        match next {
-            Some(child) if found < branch.len() => {
-                if has_label(level, child) {
-                    branch[found] = child;
-                    found += 1;
-                }
-                next = forest.next_sibling(child);
-            }
-            _ => return found,
-        }
-    }
-    found
 }
 
 /// Returns whether a block is a root with an excess above 0.
@@ -289,11 +203,11 @@ impl LowestLabel {
         graph.law();
         let row = graph.arcs_of(block);
         let from = row.start + u32::from(self.places[block as usize]);
-        let level = Level {
+        let wanted = Wanted {
             labels: &self.labels,
             label,
         };
-        let arc = first_to(graph, from..row.end, level);
+        let arc = first_to(graph, from..row.end, wanted);
         self.places[block as usize] = place_in(row, arc);
         arc
     }
@@ -325,8 +239,8 @@ impl LowestLabel {
         ensures { self.new ≡ self.old }
     {
         let labels = &self.labels;
-        let level = label.map(|label| Level { labels, label });
-        self.found = add_children(forest, block, level, &mut self.blocks, self.found);
+        let wanted = label.map(|label| Wanted { labels, label });
+        self.found = add_children(forest, block, wanted, &mut self.blocks, self.found);
     }
 
     /// Searches the branch of a root, along blocks with its label, for an arc to a block one label lower. Returns the block from

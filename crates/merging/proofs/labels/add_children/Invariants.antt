@@ -2,7 +2,7 @@
 use Rattle.std.proofs.Common.{◌≡◌, ◌<◌, ◌≤◌, ℕ, Some, length}
 use Rattle.forest.specs.Forest.{size}
 use Rattle.merging.specs.Order.{AreBelow}
-use Rattle.merging.proofs.lowest_label.add_children.Given as goal
+use Rattle.merging.proofs.labels.add_children.Given as goal
 
 abbrev pub invariant-loop-child : goal.invariant-loop-child
 invariant-loop-child l = record {

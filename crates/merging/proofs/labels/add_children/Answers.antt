@@ -2,8 +2,8 @@
 use Rattle.std.proofs.Common.{◌≡◌, ◌<◌, ℕ, Some, arith, sym, ◌∙◌}
 use Rattle.forest.specs.Forest.{size}
 use Rattle.merging.proofs.Ordering.{below_set}
-use Rattle.merging.proofs.lowest_label.add_children.Goals as goal
-use Rattle.merging.proofs.lowest_label.add_children.Goals.{then-has_label, else-has_label}
+use Rattle.merging.proofs.labels.add_children.Goals as goal
+use Rattle.merging.proofs.labels.add_children.Goals.{then-has_label, else-has_label}
 
 pub loop-child-init : goal.loop-child-init
 loop-child-init c = record {
