@@ -274,8 +274,8 @@ def divide(planned: Plan, mine: Optional[Mine] = None) -> Pushbacks:
     pushback = np.where(entry > 0, np.searchsorted(factors, entry) + 1, 0).astype(np.int16)
     if rules.min_mining_width is not None or rules.min_bottom_width is not None:
         with plan.progress.step("applying the minimum mining width"):
-            pushback, told = mining_width.widened(pushback, shells.plan, rules)
-        more = [*more, *told]
+            pushback, of_width = mining_width.widened(pushback, shells.plan, rules)
+        more = [*more, *of_width]
     shells = replace(shells, mining_cost_added=cost_added(shells.plan, pushback))
     return Pushbacks(planned, shells, pushback, (*notes, *more))
 
@@ -304,9 +304,9 @@ def notes_of_added(rules: PushbackRules, factors: tuple[float, ...], project: Pr
     if len(amounts) != len(factors):
         said = f"mining_cost_added has {len(amounts)} amounts for {len(factors)} pushbacks, of the revenue factors"
         raise PlanError(f"{project.path}: [pushbacks] {said} {factor_texts(factors)}: give one for each")
-    told = ", ".join(f"{amount:f}" for amount in amounts)
+    listed = ", ".join(f"{amount:f}" for amount in amounts)
     where = "in the annual cash flow, the NPV and schedules, but not in block values and the cash flow of shells"
-    return [f"mining cost added by pushback: {told} {project.economics.currency} per tonne, {where}"]
+    return [f"mining cost added by pushback: {listed} {project.economics.currency} per tonne, {where}"]
 
 
 def even_shells(

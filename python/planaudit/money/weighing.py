@@ -27,43 +27,41 @@ def valued(whole: Answer) -> Answer:
     """Returns the blocks that are mined at any revenue factor, with exact costs and revenue."""
     mined = (whole.said["revenue_factor"] > 0).to_numpy()
     part = replace(whole, rows=whole.rows[mined].reset_index(drop=True), said=whole.said[mined].reset_index(drop=True))
-    told: dict[str, Any] = {}
+    columns: dict[str, Any] = {}
     for way, names in zip(part.project.by_process, part.amounts_of_ways):
         exactly = money.Exactly.of(replace(part, project=way))
         amounts = [[float(amount) for amount in exactly.amounts(row)] for row in range(len(part.rows))]
-        told |= dict(zip((money.MINING, *names), np.array(amounts, dtype=np.float64).reshape(-1, 3).T))
-    return replace(part, said=pd.concat([part.said, with_best(pd.DataFrame(told), part)], axis=1))
+        columns |= dict(zip((money.MINING, *names), np.array(amounts, dtype=np.float64).reshape(-1, 3).T))
+    return replace(part, said=pd.concat([part.said, with_best(pd.DataFrame(columns), part)], axis=1))
 
 
-def with_best(told: pd.DataFrame, answer: Answer) -> pd.DataFrame:
+def with_best(amounts: pd.DataFrame, answer: Answer) -> pd.DataFrame:
     """Returns the amounts of several processes with those of the best one, and its name; of equal ones that of least revenue."""
     processes = answer.project.processes
     if not processes:
-        return told
-    revenue, cost = (told[list(names)].to_numpy() for names in zip(*answer.amounts_of_ways))
+        return amounts
+    revenue, cost = (amounts[list(names)].to_numpy() for names in zip(*answer.amounts_of_ways))
     gain = (revenue - cost).round(6)
     best = np.where(gain == gain.max(axis=1, keepdims=True), revenue, np.inf).argmin(axis=1)
-    at = np.arange(len(told)), best
+    at = np.arange(len(amounts)), best
     name = np.where(gain[at] > 0, np.array([process["name"] for process in processes], dtype=object)[best], "")
-    return told.assign(revenue=revenue[at], processing_cost=cost[at], **{PROCESS: name})
+    return amounts.assign(revenue=revenue[at], processing_cost=cost[at], **{PROCESS: name})
 
 
 def at_price(answer: Answer) -> Answer:
     """Returns the blocks with mining cost, and revenue and processing cost in each process, rounded as the project sets it: by floats, and exactly if
     these are near a half."""
-    unit, told = 10.0 ** -answer.project.economics["decimals"], dict[str, np.ndarray]()
+    decimals, columns = answer.project.economics["decimals"], dict[str, np.ndarray]()
+    unit = 10.0**-decimals
     for way, names in zip(answer.project.by_process, answer.amounts_of_ways):
         part = replace(answer, project=way)
         amounts = np.stack(money.by_floats(part)) / unit
         rounded = np.rint(amounts)
         close = np.abs(np.abs(amounts - np.floor(amounts)) - 0.5) < 1e-9 + 1e-14 * np.abs(amounts)
-        rows = np.flatnonzero(close.any(axis=0)).tolist()
-        exactly = money.Exactly.of(part) if rows else None
-        for row in rows:
-            assert exactly is not None
-            rounded[:, row] = [
-                float(amount.scaleb(answer.project.economics["decimals"])) for amount in exactly.amounts(row)
-            ]
+        if close.any():
+            exactly = money.Exactly.of(part)
+            for row in np.flatnonzero(close.any(axis=0)).tolist():
+                rounded[:, row] = [float(amount.scaleb(decimals)) for amount in exactly.amounts(row)]
         mining, revenue, cost = rounded * unit
-        told |= dict(zip((money.MINING, *names), (mining, revenue, np.where(revenue > 0, cost, 0.0))))
-    return replace(answer, said=answer.said.assign(**told))
+        columns |= dict(zip((money.MINING, *names), (mining, revenue, np.where(revenue > 0, cost, 0.0))))
+    return replace(answer, said=answer.said.assign(**columns))

@@ -371,12 +371,12 @@ class Tables:
 
     def unlike_blocks(self) -> list[str]:
         """Returns differences of years and shares of blocks from the common schedule."""
-        told, one, ground = self.schedules.whole.folder.written, self.schedules.one, self.schedules.ground
-        shares = told[matching.shares_of(ground.project)].to_numpy()
-        off = (told["year"].to_numpy() != one.year) | ~(np.abs(shares - one.share) <= SLIGHT).all(axis=1)
+        written, one, ground = self.schedules.whole.folder.written, self.schedules.one, self.schedules.ground
+        shares = written[matching.shares_of(ground.project)].to_numpy()
+        off = (written["year"].to_numpy() != one.year) | ~(np.abs(shares - one.share) <= SLIGHT).all(axis=1)
         rows = np.flatnonzero(off)[:TOLD]
         return [
-            f"{ONE}: {ground.called(row)}: year {told['year'][row]} for {one.year[row]}, or its share of a process"
+            f"{ONE}: {ground.called(row)}: year {written['year'][row]} for {one.year[row]}, or its share of a process"
             for row in rows
         ]
 
@@ -402,7 +402,7 @@ class Tables:
 
     def unlike_record(self) -> Iterator[str]:
         """Yields differences of common_schedule.json."""
-        told = json.loads((self.schedules.whole.folder.tables / RECORD).read_text(encoding="utf-8"))
+        written = json.loads((self.schedules.whole.folder.tables / RECORD).read_text(encoding="utf-8"))
         solved, one = self.solved, self.schedules.one.row
         project, periods = self.schedules.ground.project, self.schedules.whole.folder.record["years"]
         rules, grades = project.schedule, {it.name: it.grade for it in grade_limits(project)}
@@ -415,17 +415,19 @@ class Tables:
             **({"feed": grades} if grades else {}),
         }
         yield from (
-            f"{RECORD}: {name} {told[name]} for {value}" for name, value in expected.items() if told[name] != value
+            f"{RECORD}: {name} {written[name]} for {value}"
+            for name, value in expected.items()
+            if written[name] != value
         )
         known = float(solved["upper_bound"].mean() - solved["common_npv"].mean())
         due = {"npv_as_planned": one["npv"], "upper_bound_as_planned": one["upper_bound"]}
         due |= {"perfect_information": known}
-        yield from unlike(RECORD, told, due, lambda *_: CENT + 1e-8 * abs(one["upper_bound"]))
-        yield from unlike_spreads(RECORD, told, solved)
+        yield from unlike(RECORD, written, due, lambda *_: CENT + 1e-8 * abs(one["upper_bound"]))
+        yield from unlike_spreads(RECORD, written, solved)
 
 
 def unlike_spreads(where: str, said: dict[str, Any], rows: pd.DataFrame) -> Iterator[str]:
     """Yields differences of the statistics of NPVs, bounds and the common schedule."""
     for name in VALUES:
-        told, due = ({f"{name}_{word}": it for word, it in of.items()} for of in (said[name], spread(rows[name])))
-        yield from unlike(where, told, due, lambda _, amount: CENT + 1e-9 * abs(amount))
+        written, due = ({f"{name}_{word}": it for word, it in of.items()} for of in (said[name], spread(rows[name])))
+        yield from unlike(where, written, due, lambda _, amount: CENT + 1e-9 * abs(amount))
