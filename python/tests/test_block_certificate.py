@@ -6,6 +6,7 @@ import numpy as np
 import pandas as pd
 import pytest
 from helpers.block_commands import WIDE, YEARLY, wrong
+from helpers.dumps import BOTH, CASH, FAR, NEAR, THREE_YEARS, of_rocks, present
 from helpers.pushbacks import pillars
 from helpers.verified import UNVERIFIED
 
@@ -72,6 +73,49 @@ def test_a_minimum_is_a_limit_with_turned_signs(plan_folder):
     capacities = lines(folder, "problem", "CAPACITIES")
     assert [-40] * 3 in capacities
     assert record["certificate"]["bound"] == pytest.approx(record["upper_bound"], rel=1e-6)
+
+
+def test_the_capacity_of_a_dump_is_a_limit_of_what_lies_there(plan_folder):
+    """Near holds 150 t of 300. Its room saves 2 a tonne in the second year; the texts have that price in the last one, since what lies there stays."""
+    record, _, folder = certified(plan_folder, THREE_YEARS + BOTH)
+    assert record["certificate"]["value"] == pytest.approx(present(*CASH), abs=0.01)
+    assert record["certificate"]["bound"] == pytest.approx(present(*CASH), abs=0.01)
+    assert record["certificate"]["destinations"] == [["", "near", 0], ["", "far", 0], ["", "mill", 0]]
+    assert record["certificate"]["limits"][-1] == ["dumped_near", "max"]
+    assert lines(folder, "problem", "CAPACITIES")[-1] == [150] * 3
+    assert lines(folder, "prices", "PRICE")[-1] == [0, 0, pytest.approx(2 / 1.21, abs=1e-5)]
+    uses = [line for line in lines(folder, "problem", "USE") if line[1] == len(record["certificate"]["limits"]) - 1]
+    assert [(use[0], use[3]) for use in uses] == [(0, lag) for lag in range(3)]
+
+
+def test_yearly_limits_of_dumps_and_what_they_accept_are_stated(plan_folder):
+    """Near takes fresh rock alone, 60 t in the first year; the second pillar's waste is oxide."""
+    near = NEAR + 'accepts = { rock_type = "FR" }\n'
+    words = THREE_YEARS + near + FAR + "[[periods]]\ndumps = { near = { max = 60 }, far = { min = 30 } }\n[[periods]]\n"
+    record, _, folder = certified(plan_folder, words, table=of_rocks())
+    assert record["certificate"]["value"] == pytest.approx(record["npv"], rel=1e-6)
+    assert record["certificate"]["bound"] == pytest.approx(record["upper_bound"], rel=1e-6)
+    assert {("dump_near", "max"), ("dump_far", "min")} <= set(map(tuple, record["certificate"]["limits"]))
+    planted(folder / "certificate/schedule.problem", "CAPACITIES -30", "CAPACITIES -20")
+    assert wrong(folder) == {"certificate"}
+
+
+def test_a_head_grade_of_the_first_year_alone_is_stated(plan_folder):
+    """In later years the texts have what all blocks together use, which limits nothing."""
+    words = "[schedule]\nyears = 3\n[[periods]]\nfeed = { as_ppm = { max = 110 } }\n[[periods]]\n"
+    record, _, _ = certified(plan_folder, words, WIDE, pillars(**DIRTY))
+    assert record["certificate"]["value"] == pytest.approx(record["npv"], rel=1e-6)
+    assert record["certificate"]["bound"] == pytest.approx(record["upper_bound"], rel=1e-6)
+
+
+def test_must_mine_blocks_are_a_minimum_at_the_end(plan_folder):
+    """The waste of the third pillar must be mined; its ore pays for it, so the value is that without the rule."""
+    table = pillars(must=lambda i, j, k: int(i == 2 and k == 1))
+    record, _, folder = certified(plan_folder, THREE_YEARS + '[constraints]\nmust_mine = "must"\n', table=table)
+    assert record["certificate"]["value"] == pytest.approx(present(2600, 1400, 600), abs=0.01)
+    assert record["certificate"]["bound"] == pytest.approx(record["upper_bound"], rel=1e-6)
+    assert record["certificate"]["limits"][-1] == ["must_mine", "min"]
+    assert lines(folder, "problem", "CAPACITIES")[-1] == [0, 0, -1]
 
 
 def planted(path, old, new):

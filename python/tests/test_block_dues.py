@@ -12,13 +12,13 @@ from scipy.optimize import Bounds, LinearConstraint, linprog, milp
 from pitplan import PlanError
 from pitplan.config.schedule import Effort
 from pitplan.scheduling.blocks import solve
-from pitplan.scheduling.blocks.problem import Due, demand_sound as demand_problem
+from pitplan.scheduling.blocks.problem import TotalLimit, demand_sound as demand_problem
 from pitplan.scheduling.blocks.relaxation import priced, reduced, relaxed, worth_mining
 
 
 def with_dues(problem, seed):
     """The same where some years must hold a part of what the blocks have of a limit's sum, and some blocks must be dug."""
-    rng, limits, dues = np.random.default_rng(seed), [], ()
+    rng, limits, totals = np.random.default_rng(seed), [], problem.totals
     for limit in problem.limits:
         least = (
             rng.uniform(0.0, 0.25, problem.years) * limit.amounts.max(axis=1).sum() * (rng.random(problem.years) < 0.5)
@@ -26,14 +26,15 @@ def with_dues(problem, seed):
         limits.append(replace(limit, least=np.minimum(least, limit.most)))
     if rng.random() < 0.6:
         must = rng.random(problem.blocks) < 0.1
-        dues = (
-            Due(
+        totals = (
+            *totals,
+            TotalLimit(
                 "blocks that must be dug",
                 np.repeat(must[:, None], problem.destinations, axis=1).astype(float),
                 float(must.sum()),
             ),
         )
-    return replace(problem, limits=tuple(limits), dues=dues)
+    return replace(problem, limits=tuple(limits), totals=totals)
 
 
 def whole_programme(problem):
@@ -46,11 +47,11 @@ def whole_programme(problem):
         row[place[:, :, year].ravel()] = -limit.amounts.ravel()
         more.append(row)
         right.append(-limit.floor[year])
-    for due in problem.dues:
+    for total in problem.totals:
         row = np.zeros(len(gain))
-        row[place.ravel()] = -np.repeat(due.amounts[:, :, None], problem.years, axis=2).ravel()
+        row[place.ravel()] = -np.repeat(total.amounts[:, :, None], problem.years, axis=2).ravel()
         more.append(row)
-        right.append(-due.least)
+        right.append(-total.least)
     return gain, np.array([*rows, *more]), np.array([*most, *right]), upper
 
 
@@ -111,10 +112,11 @@ def test_at_any_prices_the_bound_is_above_the_optimum(batch):
         optimum = linear_optimum(problem)
         if optimum is None:
             continue
-        prices = rng.uniform(-3, 3, (len(problem.limits) + len(problem.dues), problem.years))
+        prices = rng.uniform(-3, 3, (len(problem.limits) + len(problem.totals), problem.years))
         for row, limit in zip(prices, problem.limits):
             row[:] = np.where(np.isinf(limit.most), -np.abs(row), row)
-        prices[len(problem.limits) :] = -rng.uniform(0, 50, (len(problem.dues), 1))
+        for row, total in zip(prices[len(problem.limits) :], problem.totals):
+            row[:] = rng.uniform(-50, 0) if np.isinf(total.most) else rng.uniform(0, 5)
         assert priced(without_first(problem), prices).bound >= optimum - 1e-9 * max(1.0, abs(optimum))
 
 
@@ -123,8 +125,8 @@ def keeps_dues(problem, schedule):
         taken = (limit.amounts * schedule.share).sum(axis=1)
         for year in range(problem.years):
             assert taken[schedule.year == year].sum() >= limit.floor[year] * (1 - 1e-8) - 1e-8
-    for due in problem.dues:
-        assert (due.amounts * schedule.share).sum() >= due.least * (1 - 1e-8)
+    for total in problem.totals:
+        assert total.least * (1 - 1e-8) <= (total.amounts * schedule.share).sum() <= total.most * (1 + 1e-8)
 
 
 @pytest.mark.parametrize("batch", range(2))
@@ -205,7 +207,7 @@ def test_a_block_that_must_be_dug_is_dug_with_its_cone_as_late_as_may_be():
     """It loses 4, what lies over it 2: in the last of three years, halved twice, -1.5; beside it 8 are earned at once."""
     values = np.array([-4.0, -2.0, 8.0])[:, None] * 0.5 ** np.arange(3)
     problem = problem_of(values, [(0, 1)], ([1, 1, 1], [2, 2, 2]))
-    problem = replace(problem, dues=(Due("blocks that must be dug", np.array([[1.0], [0.0], [0.0]]), 1.0),))
+    problem = replace(problem, totals=(TotalLimit("blocks that must be dug", np.array([[1.0], [0.0], [0.0]]), 1.0),))
     found = solve(problem)
     assert (
         found.schedule.year.tolist() == [2, 2, 0]
@@ -226,3 +228,10 @@ def test_a_least_that_is_none_is_refused(least, said):
     problem = problem_of(np.ones((1, 2)), [], ([1], [2, 2]))
     with pytest.raises(PlanError, match=said):
         demand_problem(replace(problem, limits=(replace(problem.limits[0], least=np.array(least)),)))
+
+
+@pytest.mark.parametrize(("least", "most"), [(3.0, 2.0), (-1.0, 2.0), (np.nan, 2.0), (np.inf, np.inf)])
+def test_a_total_that_no_schedule_can_hold_is_refused(least, most):
+    problem = problem_of(np.ones((1, 2)), [])
+    with pytest.raises(PlanError, match="all: expected amounts by block and destination of 0 or more, a minimum"):
+        demand_problem(replace(problem, totals=(TotalLimit("all", np.ones((1, 1)), least, most),)))

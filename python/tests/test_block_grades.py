@@ -99,6 +99,7 @@ def test_a_looser_grade_and_another_destination_never_lower_the_bound(batch):
             tight,
             values=tight.values[:, :-1],
             limits=tuple(replace(it, amounts=it.amounts[:, :-1]) for it in tight.limits),
+            totals=tuple(replace(it, amounts=it.amounts[:, :-1]) for it in tight.totals),
         )
         bounds.append(relaxed(without_first(fewer), EXACT).bound)
         slack = 1e-6 * max(1.0, abs(bounds[0]))

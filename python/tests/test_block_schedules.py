@@ -25,7 +25,7 @@ from pitplan.scheduling.blocks.filling import (
     sequences,
     with_best_shares,
 )
-from pitplan.scheduling.blocks.problem import Assignment, nothing
+from pitplan.scheduling.blocks.problem import Assignment, TotalLimit, nothing
 from pitplan.scheduling.blocks.relaxation import reduced, relaxed
 from pitplan.scheduling.blocks.window_milp import window_of
 
@@ -153,6 +153,17 @@ def test_destinations_are_shared_where_that_earns_more():
     assert better.share.tolist() == [[0, 1], [pytest.approx(0.5), pytest.approx(0.5)]] and better.value(
         problem
     ) == pytest.approx(11)
+
+
+def test_a_total_that_is_used_up_leaves_other_choices():
+    """The near dump holds 0.3 t, as the first two blocks fill it up to rounding. In the second year a block goes to the mill, where it earns most."""
+    dumps_and_mill = np.array([[0.0, -1.0, -9.0], [0.0, -1.0, -9.0], [0.0, -1.0, 5.0]])
+    problem = problem_of(np.repeat(dumps_and_mill[:, :, None], 2, axis=2), [])
+    near = TotalLimit("near", np.array([[0.1, 0, 0], [0.2, 0, 0], [0.2, 0, 0]]), most=0.3)
+    problem = replace(problem, totals=(near,))
+    assert near.used(np.eye(3)[[0, 0, 1]]) > 0.3
+    schedule = schedule_of(problem, np.array([0, 0, 1]), np.array([0, 0, 1]))
+    assert with_best_shares(problem, schedule).share.tolist() == [[1, 0, 0], [1, 0, 0], [0, 0, 1]]
 
 
 def test_orders_hold_each_block_behind_what_it_needs():

@@ -8,6 +8,7 @@ import openpyxl
 import pandas as pd
 import pytest
 from conftest import PROJECT, rows
+from helpers.dumps import BOTH, CASH, FAR, NEAR, THREE_YEARS, of_rocks, present
 from helpers.flows import OfWholeBenches, Statement, mine_of, mines, model_of, processes, stockpiles
 from helpers.pushbacks import PUSHBACKS, UPRIGHT, pillars, with_pushbacks
 from helpers.random_tests import examples
@@ -24,18 +25,6 @@ from pitplan.scheduling.flow import scheduler
 from pitplan.scheduling.flow.bound import Lagrangian, upper_bound
 from pitplan.scheduling.flow.programme import FlowProgramme
 from pitplan.studies.scenarios.blocks.problem import demand_apt
-
-# Three pillars of 100 t of waste over 100 t of ore earn 2600, 1400 and 600 without dumps; one is mined a year.
-THREE_YEARS = "[schedule]\nyears = 3\n"
-NEAR = '[[dumps]]\nname = "near"\ncost = 1\n'
-FAR = '[[dumps]]\nname = "far"\ncost = 3\n'
-# Near takes the waste of the first pillar and half of that of the second.
-BOTH = NEAR + "capacity = 150\n" + FAR
-CASH = [2600 - 100, 1400 - 50 - 150, 600 - 300]
-
-
-def present(*cash):
-    return sum(amount / 1.1**year for year, amount in enumerate(cash, 1))
 
 
 @pytest.fixture
@@ -115,12 +104,6 @@ def test_a_table_of_periods_has_limits_of_dumps(scheduled, plan_folder):
     pitplan.write_schedule(path, writing=UNVERIFIED)
     assert taken(path.parent / "plan/schedule") == {"near": [60, 100, 100], "far": [40, 0, 0]}
     assert wrong(path.parent / "plan/schedule") == set()
-
-
-def of_rocks():
-    """The waste of the first and the third pillar is fresh, that of the second oxide with 0.4 % of sulphur, the ore oxide without."""
-    table = pillars(rock=lambda i, j, k: "FR" if k and i != 1 else "OX")
-    return table.assign(s_pct=np.where((table["z"] > 10) & (table["x"] == 15), 0.4, 0.0))
 
 
 def test_dumps_accept_rock_by_code_and_grade(scheduled):
@@ -447,14 +430,8 @@ def test_rock_of_shells_that_no_dump_accepts_is_refused(plan_folder):
         pitplan.write_shells(path)
 
 
-def test_blocks_refuse_dumps(plan_folder):
-    path = plan_folder(pillars(), PUSHBACKS + BOTH)
-    with pytest.raises(PlanError, match=r"\[\[dumps\]\]: found dumps, expected none by block"):
-        pitplan.write_block_schedule(path)
-
-
 def test_scenarios_by_block_refuse_dumps(plan_folder):
-    with pytest.raises(PlanError, match=r"\[\[dumps\]\]: found dumps, expected none by block"):
+    with pytest.raises(PlanError, match=r"\[\[dumps\]\]: the mean of scenarios has no codes"):
         demand_apt(load(plan_folder(pillars(), PUSHBACKS + BOTH)))
 
 

@@ -247,7 +247,7 @@ def test_a_program_that_no_build_recorded_proves_nothing(copied, tmp_path):
             TEXT.replace("price = 8000\n", "price = 8000\nprices = [8000, 9000]\n"),
             "prices or costs that differ by year",
         ),
-        ('[[dumps]]\nname = "far"\ncost = 0.1\n', TEXT, "dumps"),
+        ('[[dumps]]\nname = "far"\ncost = 0.1\n', TEXT, "dumps of pushbacks"),
     ],
 )
 def test_what_no_certificate_can_state_is_refused(tmp_path, words, text, why):

@@ -99,7 +99,7 @@ def write_block_schedule(
         Without the library libpitshell.so, or openpyxl.
     PlanError
         If the project asks for what no schedule by block supports, has too many blocks, or a result differs from its recalculation. With a
-        certificate also if values differ by year, years have costs or blocks must be mined.
+        certificate also if values differ by year or years have costs.
     ProgramError
         If pitschedule does not prove the certificate.
     """
@@ -108,18 +108,15 @@ def write_block_schedule(
     # Its modules import the library themselves.
     from pitplan.scheduling.blocks import tables
     from pitplan.scheduling.blocks.from_plan import demand_of_blocks
-    from pitplan.scheduling.blocks.tables import demand_free
 
     project = read(project)
     demand_of_blocks(project)
     if certificate:
-        certificates.demand_statable(project)
+        certificates.demand_statable(project, by_block=True)
     target = project.folder / "block_schedule" if folder is None else Path(folder)
     with begun(project, target, writing) as run:
         # First, since it refuses what is too large.
         planned = tables.collected(run.mine.plan, writing.progress)
-        if certificate:
-            demand_free(planned.problem)
         with drawing_imported(writing.draws):
             shells = Shells.solved(run.mine.plan, run.mine)
         schedule = tables.scheduled(planned, shells, writing.progress)

@@ -668,7 +668,7 @@ def plot_block_metals(made: BlockSchedule, axes: Any) -> list[Axes]:
 def feed_of(made: BlockSchedule) -> pd.DataFrame:
     """Returns year, process, feed_tonnes, head_grade_METAL and recovered_METAL."""
     operation, parts = BlockOperation(made), []
-    for number, process in enumerate(made.planned.destinations[1:]):
+    for number, process in enumerate(made.planned.destinations.processes):
         feed = operation.fed(operation.amounts.feed, number)
         found = {"year": np.arange(1, made.count + 1), "process": process, "feed_tonnes": feed}
         for metal in operation.plan.project.metals:
@@ -680,7 +680,7 @@ def feed_of(made: BlockSchedule) -> pd.DataFrame:
 
 
 def draw_bars(ax: Axes, made: BlockSchedule, size: float) -> None:
-    """Draws the in-situ tonnes of each year by process, and waste; a text if nothing is mined."""
+    """Draws the in-situ tonnes of each year by process, and waste by dump; a text if nothing is mined."""
     years, calendar = made.years, made.planned.limits.calendar
     ax.set_xlabel(label_of(calendar, len(years)))
     if years.empty:
@@ -690,12 +690,17 @@ def draw_bars(ax: Axes, made: BlockSchedule, size: float) -> None:
         return
     operation, below = BlockOperation(made), np.zeros(len(years))
     tonnes = operation.plan.values.tonnes
-    for number, (process, colour) in enumerate(palette.of_processes(made.planned.destinations[1:]).items()):
+    for number, (process, colour) in enumerate(palette.of_processes(made.planned.destinations.processes).items()):
         high = operation.fed(tonnes, number) / size
         ax.bar(years["year"], high, 0.8, bottom=below, color=colour, label=process, linewidth=0)
         below = below + high
-    waste = (years["total_tonnes"] / size - below).clip(lower=0)
-    ax.bar(years["year"], waste, 0.8, bottom=below, color=palette.WASTE, label="waste", linewidth=0)
+    for number, (dump, colour) in enumerate(palette.of_dumps(it.name for it in operation.plan.project.dumps).items()):
+        high = operation.placed(tonnes, number) / size
+        ax.bar(years["year"], high, 0.8, bottom=below, color=colour, label=f"waste to {dump}", linewidth=0)
+        below = below + high
+    if not operation.plan.project.dumps:
+        waste = (years["total_tonnes"] / size - below).clip(lower=0)
+        ax.bar(years["year"], waste, 0.8, bottom=below, color=palette.WASTE, label="waste", linewidth=0)
     ax.xaxis.set_major_locator(MaxNLocator(integer=True))
     ax.set_xlim(0.4, float(years["year"].max()) + 0.6)
 

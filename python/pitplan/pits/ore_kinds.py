@@ -45,10 +45,15 @@ def accepted(plan: Plan, cells: NDArray[np.int64]) -> NDArray[np.bool_]:
     PlanError
         If none accepts some rock, with its codes and tonnes.
     """
-    masks = [accepted_by(it.accepts, plan.table, plan.project) for it in plan.project.dumps]
-    found = np.stack([plan.grid.spread(mask)[cells] for mask in masks], axis=1).astype(bool)
+    found = accepting(plan, cells)
     demand_accepted(plan, cells[~found.any(axis=1) & (plan.values.tonnes[cells] > 0)])
     return found
+
+
+def accepting(plan: Plan, cells: NDArray[np.int64]) -> NDArray[np.bool_]:
+    """Returns whether each dump accepts each cell, shape (cells, dumps), also where none accepts it."""
+    masks = [accepted_by(it.accepts, plan.table, plan.project) for it in plan.project.dumps]
+    return np.stack([plan.grid.spread(mask)[cells] for mask in masks], axis=1).astype(bool)
 
 
 def demand_accepted(plan: Plan, cells: NDArray[np.int64]) -> None:

@@ -625,7 +625,11 @@ MULTIPLIERS = TableDeclaration(
     "bound.csv",
     "of a schedule: a row per limit and year; the upper bound follows from these",
     (
-        Column("limit", TEXT, "the amount that is limited, as in `years.csv`; `must_mine` for must-mine blocks"),
+        Column(
+            "limit",
+            TEXT,
+            "the amount that is limited, as in `years.csv`; `must_mine` for must-mine blocks; of dumps as in `limits.csv`",
+        ),
         Column("side", TEXT, "`max`, `min` for a minimum, or `running`: a maximum that shows whether the mine runs"),
         Column("year", COUNT, "from 1; 0 for all years"),
         Column(
@@ -758,6 +762,7 @@ BLOCK_TABLE = TableDeclaration(
         replace(BIN, when="with a schedule of pushbacks"),
         Column("share_mined", SHARE, "share of the block that is mined", when="with a schedule of pushbacks"),
         Column("share_PROCESS", SHARE, "share of the block that a process takes", when="with a schedule"),
+        Column("share_DUMP", SHARE, "share of the block that lies in a dump", when="by block, with `[[dumps]]`"),
         replace(FIRST, name="free_revenue_factor", holds="without the constraints", when="of `pitplan pit`"),
         replace(
             PROCESSED, name="free_process_revenue_factor", holds="without the constraints", when="of `pitplan pit`"

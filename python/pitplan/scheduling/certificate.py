@@ -228,11 +228,11 @@ def money_unit(amounts: Iterable[NDArray[np.float64]], prices: Iterable[NDArray[
     return 10 ** max(0, math.ceil(math.log10(greatest))) if greatest > 1 else 1
 
 
-def demand_statable(project: Project) -> None:
-    """Raises PlanError if no certificate can state the money of a project."""
+def demand_statable(project: Project, by_block: bool = False) -> None:
+    """Raises PlanError if no certificate can state the money of a project, or the dumps of a schedule of pushbacks."""
     money = of_project(project)
     for is_found, what in (
-        (bool(project.dumps), "dumps"),
+        (bool(project.dumps) and not by_block, "dumps of pushbacks"),
         (bool(money.columns), "costs of years"),
         (any(len(set(by_year)) > 1 for by_year in money.premiums.values()), "prices or costs that differ by year"),
     ):
@@ -270,16 +270,16 @@ class StatedLimit:
     ----------
     limit : LimitOfYears
     terms : tuple of Term
-    is_least : bool
-        Whether it is a minimum, with turned signs.
+    is_loose : bool
+        Whether rounded shares may use more: of a minimum, with turned signs, and of a dump.
     """
 
     limit: LimitOfYears
     terms: tuple[Term, ...]
-    is_least: bool = False
+    is_loose: bool = False
 
     def row(self, shares: Shares) -> CertificateLimit:
-        """Returns the limit of the texts. The capacity of a minimum is not below what the schedule uses by more than rounding.
+        """Returns the limit of the texts. A loose capacity is not below what the schedule uses by more than rounding.
 
         Raises
         ------
@@ -288,7 +288,7 @@ class StatedLimit:
         """
         limit, terms = self.limit, self.terms
         used, price = usage(terms, shares, len(limit.most)), np.maximum(limit.price, 0)
-        loose = slack(terms, shares, len(limit.most)) + 1 if self.is_least else 0.0
+        loose = slack(terms, shares, len(limit.most)) + 1 if self.is_loose else 0.0
         greatest = sum(int(np.maximum(term.amounts, 0).sum()) for term in terms)
         capacity = np.where(np.isfinite(limit.most), limit.capacity, greatest)
         if (used > capacity + loose).any():
@@ -303,7 +303,7 @@ class StatedLimit:
     def kept(self, shares: Shares) -> Shares:
         """Returns shares that use less of the limit in each year in which they exceed it: a millionth of each block goes to waste, of those that use most
         first."""
-        if self.is_least:
+        if self.is_loose:
             return shares
         most = np.where(np.isfinite(self.limit.most), self.limit.capacity, np.inf)
         over = usage(self.terms, shares, len(most)) - most

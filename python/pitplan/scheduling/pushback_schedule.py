@@ -435,7 +435,8 @@ class PushbackSchedule(Schedule):
         found = {"feed": tables.feed_table(self), "flows": self.material_flows, "cutoffs": tables.cutoff_table(self)}
         found["inventory"] = inventory.inventory_table(self)
         found |= {"stockpiles": tables.stockpile_table(self)} if self.is_stocked else {}
-        return found | ({"dumps": tables.dump_table(self)} if self.model.dumps else {})
+        last, dumps = {method: flows.years for method, flows in self.flows.items()}, self.model.dumps
+        return found | ({"dumps": tables.dump_table(self.material_flows, last, dumps)} if dumps else {})
 
     @property
     def as_shells(self) -> Shells:

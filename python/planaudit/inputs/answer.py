@@ -21,6 +21,7 @@ from planaudit.inputs.matching import (
     PUSHBACK,
     TableRows,
     beside,
+    dump_shares_of,
     is_as_written,
     own_columns,
     own_name,
@@ -53,6 +54,7 @@ def read_shells(
     schedule = read_table(folder / "tables/schedule.csv", ["method"]) if "schedule" in record else None
     is_by_block = "by_block" in record
     shares = shares_of(project) if is_by_block or schedule is not None else []
+    shares += dump_shares_of(project) if is_by_block else []
     more = [
         *([PUSHBACK] if pushbacks is not None else []),
         *([YEAR] if schedule is not None or is_by_block else []),
@@ -362,7 +364,17 @@ def read(written: Path, folder: Optional[Path] = None, table: Optional[pd.DataFr
             why = f"slope_domains: found {found}, expected {expected} as in the project"
             raise AuditError(f"{written / PLAN}: {why}: run pitplan shells again")
         own = [own_name(name) for name in (*project.columns, project.table["tonnes"])]
-        results = (*said_of(project), *FREE, PUSHBACK, YEAR, BIN, MINED, *shares_of(project), *own)
+        results = (
+            *said_of(project),
+            *FREE,
+            PUSHBACK,
+            YEAR,
+            BIN,
+            MINED,
+            *shares_of(project),
+            *dump_shares_of(project),
+            *own,
+        )
         blocks = read_blocks(written / "tables/blocks.csv", project, results)
         rows = rows_of(project, blocks, record["grid"], table)
         return (read_shells if "shells" in record else read_pits)(written, record, project, blocks, rows)

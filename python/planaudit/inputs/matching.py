@@ -41,6 +41,11 @@ def shares_of(project: Project) -> list[str]:
     return [f"{SHARE}{name}" for name in [process["name"] for process in project.processes] or ["mill"]]
 
 
+def dump_shares_of(project: Project) -> list[str]:
+    """Returns the columns of blocks.csv of a schedule by block with the share of a block that goes to each dump."""
+    return [f"{SHARE}{dump['name']}" for dump in project.dumps]
+
+
 def said_of(project: Project) -> tuple[str, ...]:
     """Returns the columns of results in blocks.csv for a project."""
     hauled = HAULED if project.haulage else ()

@@ -12,15 +12,17 @@ import pandas as pd
 from planaudit.inputs.answer import Answer
 from planaudit.inputs.matching import own_name
 from planaudit.inputs.tables import YEAR
-from planaudit.rules import Checks
-from planaudit.schedules import cash_flow, grade_tonnage, inventory, price_paths
-from planaudit.schedules.limits import shares_of
+from planaudit.rules import TOLD, Checks, Rule, rule
+from planaudit.schedules import cash_flow, dumps, grade_tonnage, inventory, price_paths
+from planaudit.schedules.limits import placed_of, shares_of
 from planaudit.schedules.lots import MILL, BlockAmounts
 from planaudit.schedules.material_flow import PIT, WASTE, MaterialFlow
 
 CASE = "block"
 # A share that the tolerance of a solver alone may leave.
 SLIGHT = 1e-9
+# The last decimals of all shares of a block.
+SHARE = 1e-6
 
 
 @dataclass(frozen=True)
@@ -50,7 +52,8 @@ def flow_of(answer: Answer) -> MaterialFlow:
     """Returns a row per mined block and destination that takes a share of it, with its amounts. No amount is rounded."""
     blocks = SingleBlocks(answer)
     shares = [(name or MILL, share[blocks.inside]) for name, share in shares_of(answer)]
-    shares.append((WASTE, 1.0 - np.sum([share for _, share in shares], axis=0)))
+    placed = [(name, share[blocks.inside]) for name, share in placed_of(answer)]
+    shares += placed or [(WASTE, 1.0 - np.sum([share for _, share in shares], axis=0))]
     year = answer.said[YEAR].to_numpy()[blocks.inside]
     parts = []
     for destination, share in shares:
@@ -64,16 +67,29 @@ def flow_of(answer: Answer) -> MaterialFlow:
 
 
 def checks_of(answer: Answer) -> Checks:
-    """Returns the checks of inventory.csv, cash_flow.csv, valuation.csv and grade_tonnage.csv, and of price paths if there are any."""
+    """Returns the checks of inventory.csv, cash_flow.csv, valuation.csv and grade_tonnage.csv, and of dumps and price paths if there are any."""
     flow = flow_of(answer)
     found: Checks = {
         "inventory": lambda: [inventory.rule_of([*untaken(flow), *inventory.unlike_rows(flow)])],
         "cash flow": lambda: [cash_flow.verify(flow, [CASE])],
         "grade tonnage": lambda: [grade_tonnage.verify(answer)],
     }
+    if answer.project.dumps:
+        found = {**found, "dumps": lambda: [verify_dumps(flow)]}
     if not answer.project.price_paths:
         return found
     return {**found, "price paths": lambda: [price_paths.verify(answer, CASE, recovered_of(flow))]}
+
+
+def verify_dumps(flow: MaterialFlow) -> Rule:
+    """Verifies that each mined block goes to dumps that accept it or to processes, within the limits of dumps, and dumps.csv."""
+    answer, blocks = flow.answer, flow.blocks
+    whole = np.sum([share for _, share in (*shares_of(answer), *placed_of(answer))], axis=0)[blocks.inside]
+    lost = blocks.inside[np.abs(whole - 1.0) > SHARE]
+    found = [f"{answer.called(row)}: its shares of dumps and processes do not add up to 1" for row in lost]
+    found += dumps.differences(flow)
+    holds = "each mined block goes whole to dumps that accept it and to processes, and no dump takes or holds more than its limits"
+    return rule("dumps", holds, found[:TOLD], len(found))
 
 
 def recovered_of(flow: MaterialFlow) -> dict[str, np.ndarray]:

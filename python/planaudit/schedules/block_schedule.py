@@ -20,7 +20,7 @@ from planaudit.money.period_costs import capex, fixed_cost, has_costs, mining_fa
 from planaudit.rules import TOLD, Checks, Rule, rule
 from planaudit.schedules import block_flow, block_grades, bounds, certificate, methods as ways_table
 from planaudit.schedules.discounts import discount, present_costs
-from planaudit.schedules.limits import amounts_of, limits_of, minima_of, shares_of
+from planaudit.schedules.limits import amounts_of, limits_of, minima_of, placed_of, shares_of
 from planaudit.schedules.periods import counted
 from planaudit.schedules.pushback_schedule import CENT
 
@@ -62,6 +62,8 @@ def flows_of(answer: Answer) -> pd.DataFrame:
     shares, said = shares_of(answer), answer.said
     frame, amounts = amounts_of(answer, shares), zip(shares, answer.amounts_of_ways)
     gain = sum(share * (said[revenue] - said[cost]).to_numpy() for (_, share), (revenue, cost) in amounts)
+    placed = zip(placed_of(answer), answer.project.dumps)
+    gain -= sum((share * dump["cost"] for (_, share), dump in placed), np.zeros(len(said))) * answer.tonnes
     return frame.assign(cash_flow=gain - said["mining_cost"].to_numpy() + more_by_years(answer, frame))
 
 

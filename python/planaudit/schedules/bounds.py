@@ -9,18 +9,20 @@ from __future__ import annotations
 from collections.abc import Iterator
 from dataclasses import dataclass
 from functools import cached_property
-from typing import Any
+from typing import Any, Optional
 
 import numpy as np
 import pandas as pd
 
 from planaudit.blocks import constraints
 from planaudit.inputs.answer import Answer
+from planaudit.inputs.codes import refused
+from planaudit.inputs.project import Section
 from planaudit.inputs.tables import TABLES, read_prices
 from planaudit.money import ore_costs
 from planaudit.money.period_costs import differing, mining_factor, premiums
 from planaudit.rules import Rule, rule
-from planaudit.schedules import block_grades
+from planaudit.schedules import block_grades, dumps
 from planaudit.schedules.closure import Closure, maximum_closure
 from planaudit.schedules.discounts import discount, present_costs
 from planaudit.schedules.limits import amounts_of, at, limits_of, minima_of, shares_of
@@ -92,6 +94,19 @@ class Bound:
         found |= {(name, MAX, year): most for (name, year), most in of_grades.items()}
         if self.must.any():
             found[MUST_MINE, MIN, 0] = float(np.count_nonzero(self.must))
+        return found | self.limits_of_dumps
+
+    @property
+    def limits_of_dumps(self) -> dict[tuple[str, str, int], float]:
+        """What dumps take in each year, and what they hold in all: of year 0."""
+        found: dict[tuple[str, str, int], float] = {}
+        for name, (least, most) in dumps.limits_of(self.answer.project, self.years).items():
+            if name.startswith(dumps.DUMPED):
+                found[name, MAX, 0] = float(most[-1])
+                continue
+            for side, of_years, is_limited in ((MAX, most, np.isfinite(most)), (MIN, least, least > 0)):
+                if is_limited.any():
+                    found |= {(name, side, year): float(amount) for year, amount in enumerate(of_years, 1)}
         return found
 
     @property
@@ -125,22 +140,30 @@ class Bound:
     @cached_property
     def of_limits(self) -> float:
         """The prices times the limits, less the costs of years. A maximum at a price below 0 counts as 0: its minimum. Maxima and costs count
-        as many years as is best, from the first: what is mined in none of the later years uses nothing there."""
-        running, minimums = -np.array([present_costs(self.answer, year) for year in self.every_year]), 0.0
+        as many years as is best, from the first: what is mined in none of the later years uses nothing there. The capacity of a dump counts once.
+        """
+        running, always = -np.array([present_costs(self.answer, year) for year in self.every_year]), 0.0
         for it in self.prices.itertuples(index=False):
             amount = it.price * self.limits[it.limit, it.side, it.year]
-            if it.side == MIN:
-                minimums += amount
+            if it.side == MIN or (it.year == 0 and it.price > 0):
+                always += amount
             elif it.price > 0:
                 running[it.year - 1] += amount
-        return minimums + float(running.cumsum().max())
+        return always + float(running.cumsum().max())
 
     @cached_property
     def earned(self) -> np.ndarray:
         """What each block earns in each year where it earns most, less the prices of what it uses, shape (rows, years)."""
-        best = np.full((len(self.answer.rows), self.years), -np.inf)
-        for name in (None, *(name for name, _ in shares_of(self.answer))):
-            best = np.maximum(best, self.earned_as(name))
+        answer, best = self.answer, np.full((len(self.answer.rows), self.years), -np.inf)
+        if not answer.project.dumps:
+            best = self.earned_as(None)
+        for dump in answer.project.dumps:
+            # Nothing of air lies anywhere.
+            is_taken = ~refused(answer.rows, answer.project, dump["accepts"]) | (answer.tonnes == 0)
+            best = np.where(is_taken[:, None], np.maximum(best, self.earned_as(None, dump)), best)
+        for (name, _), (revenue, _) in zip(shares_of(answer), answer.amounts_of_ways):
+            is_taken = (answer.said[revenue] > 0).to_numpy() | (not answer.project.dumps)
+            best = np.where(is_taken[:, None], np.maximum(best, self.earned_as(name)), best)
         return best
 
     @cached_property
@@ -148,13 +171,18 @@ class Bound:
         """The costs of ore that periods multiply, shape (processes, rows)."""
         return ore_costs.of_blocks(self.answer)
 
-    def earned_as(self, process: str | None) -> np.ndarray:
-        """Returns the same of blocks that are all sent to one process, or are waste."""
+    def earned_as(self, process: str | None, dump: Optional[Section] = None) -> np.ndarray:
+        """Returns the same of blocks that are all sent to one process, or are waste, in a dump if there are any."""
         answer, said, names = self.answer, self.answer.said, [name for name, _ in shares_of(self.answer)]
         shares = [(name, np.full(len(said), float(name == process))) for name in names]
         amounts, cash, pays = amounts_of(answer, shares), -said["mining_cost"].to_numpy(), np.zeros(len(said), bool)
         amounts = amounts.assign(**dict(it for grade in block_grades.graded(answer, shares) for it in grade.excess()))
         amounts = amounts.assign(**dict.fromkeys(differing(answer.project), 0.0))
+        for it in answer.project.dumps:
+            tonnes = answer.tonnes if it is dump else np.zeros(len(said))
+            amounts = amounts.assign(**{f"{dumps.DUMP}{it['name']}": tonnes, f"{dumps.DUMPED}{it['name']}": tonnes})
+        if dump is not None:
+            cash = cash - dump["cost"] * answer.tonnes
         if process is not None:
             amounts = amounts.assign(**{name: it[names.index(process)] for name, it in self.costs.items()})
             revenue, cost = answer.amounts_of_ways[names.index(process)]
@@ -174,7 +202,10 @@ class Bound:
                 found += it.price * self.must[:, None]
                 continue
             used = amounts[it.limit].to_numpy()
-            if it.side == MIN and not is_of_all(self.answer, it.limit):
+            if it.limit.startswith(dumps.DUMPED):
+                found += it.price * used[:, None]
+                continue
+            if it.side == MIN and not it.limit.startswith(dumps.DUMP) and not is_of_all(self.answer, it.limit):
                 used = np.where(pays, used, 0.0)
             found[:, it.year - 1] += it.price * used
         return found

@@ -14,12 +14,14 @@ import numpy as np
 import pandas as pd
 
 from planaudit.inputs.answer import Answer
+from planaudit.inputs.codes import refused
 from planaudit.inputs.matching import SHARE
 from planaudit.inputs.tables import TABLES, YEAR, read_table
 from planaudit.rules import TOLD, Rule, rule
-from planaudit.schedules.bounds import MIN, MUST_MINE, Bound
+from planaudit.schedules.bounds import MAX, MIN, Bound
 from planaudit.schedules.certificate_texts import FOLDER, KEY, MONEY, NAME, ROUNDING, UNFIT, UNIT, Texts
 from planaudit.schedules.discounts import discount
+from planaudit.schedules.dumps import DUMP, DUMPED
 
 # Millionths by which a share may differ, since shares are rounded and then reduced until they keep the limits.
 MOVED = 5
@@ -55,8 +57,26 @@ class BlockCertificate:
 
     @cached_property
     def values(self) -> np.ndarray:
-        """The value of each block as waste and in each process, shape (blocks, destinations)."""
+        """The value of each block in each destination, shape (blocks, destinations)."""
         return np.column_stack([amounts for _, amounts in sorted(self.texts.terms().items())])
+
+    @property
+    def destinations(self) -> list[str]:
+        """The destinations by name: dumps, or waste without a name, and the processes."""
+        project = self.answer.project
+        waste = [dump["name"] for dump in project.dumps] or [""]
+        return [*waste, *([process["name"] for process in project.processes] or ["mill"])]
+
+    @cached_property
+    def dumped(self) -> list[np.ndarray]:
+        """What each block costs in each dump, by dump; in its cheapest one where the dump does not accept it, each of shape (blocks,)."""
+        answer = self.answer
+        is_open = np.stack([~refused(answer.rows, answer.project, it["accepts"]) for it in answer.project.dumps])
+        costs = np.where(is_open, np.array([it["cost"] for it in answer.project.dumps])[:, None], np.inf)
+        costs = np.where(is_open, costs, costs.min(axis=0)) * np.where(answer.tonnes > 0, answer.tonnes, 1.0)
+        costs = np.where(answer.tonnes > 0, costs, 0.0)
+        ids = answer.said["id"].to_numpy()
+        return [pd.Series(it, index=ids).reindex(self.written.index, fill_value=0.0).to_numpy() for it in costs]
 
     @cached_property
     def shares(self) -> np.ndarray:
@@ -69,7 +89,12 @@ class BlockCertificate:
         """Yields the blocks whose values differ from blocks.csv."""
         mining = self.written["mining_cost"].to_numpy()
         ways = [self.written[revenue] - self.written[cost] for revenue, cost in self.answer.amounts_of_ways]
-        own = np.column_stack([-mining, *(way.to_numpy() - mining for way in ways)])
+        as_waste = self.dumped if self.answer.project.dumps else [np.zeros(len(mining))]
+        own = np.column_stack([*(-mining - cost for cost in as_waste), *(way.to_numpy() - mining for way in ways)])
+        for number, (revenue, _) in enumerate(self.answer.amounts_of_ways, len(as_waste)):
+            # What a process gains nothing from goes to its cheapest dump.
+            barren = (self.written[revenue] <= 0).to_numpy()
+            own[barren, number] = own[barren, : len(as_waste)].max(axis=1)
         if own.shape != self.values.shape:
             yield f"values of {self.values.shape[1]} destinations for {own.shape[1]}"
             return
@@ -78,13 +103,14 @@ class BlockCertificate:
 
     def unlike_shares(self) -> Iterator[str]:
         """Yields the blocks whose years or shares differ from blocks.csv."""
-        names = [process["name"] for process in self.answer.project.processes] or ["mill"]
         year = self.written[YEAR].to_numpy()
         own = np.zeros_like(self.shares)
         mined = np.flatnonzero(year > 0)
-        for number, name in enumerate(names, 1):
-            own[mined, year[mined] - 1, number] = self.written[SHARE + name].to_numpy()[mined]
-        own[mined, year[mined] - 1, 0] = 1 - own[mined, year[mined] - 1].sum(axis=1)
+        for number, name in enumerate(self.destinations):
+            if name:
+                own[mined, year[mined] - 1, number] = self.written[SHARE + name].to_numpy()[mined]
+        # Air lies in no dump of blocks.csv; without dumps the rest of a block is waste.
+        own[mined, year[mined] - 1, 0] += 1 - own[mined, year[mined] - 1].sum(axis=1)
         for block in np.flatnonzero((np.abs(own - self.shares) > MOVED * UNIT).any(axis=(1, 2))):
             yield f"block {self.written.index[block]}: shares differ from those of year {year[block]} in blocks.csv"
 
@@ -97,21 +123,28 @@ class BlockCertificate:
         if np.abs(self.texts.discounts - factors).max() > UNIT:
             yield "discount factors differ"
         capacities, prices = self.texts.lines("problem", "CAPACITIES"), self.texts.prices
-        sides = [key for key in dict.fromkeys(zip(bound.prices["limit"], bound.prices["side"])) if key[0] != MUST_MINE]
-        names = ["", *([process["name"] for process in self.answer.project.processes] or ["mill"])]
-        record = {"limits": [list(it) for it in sides], "destinations": [["", name, 0] for name in names]}
+        sides = list(dict.fromkeys(zip(bound.prices["limit"], bound.prices["side"])))
+        record = {"limits": [list(it) for it in sides], "destinations": [["", name, 0] for name in self.destinations]}
         yield from (f"{name} {told[KEY][name]} for {due}" for name, due in record.items() if told[KEY][name] != due)
         if len(sides) != len(capacities) or len(sides) != len(prices):
             yield f"{len(capacities)} limits and {len(prices)} rows of prices for {len(sides)}"
             return
         for number, ((name, side), of_years, paid) in enumerate(zip(sides, capacities, prices)):
             sign = -1 if side == MIN else 1
-            own = np.array([sign * bound.limits[name, side, year] for year in bound.every_year])
             own_prices = bound.prices[(bound.prices["limit"] == name) & (bound.prices["side"] == side)][
                 "price"
             ].to_numpy()
-            # What the texts have of a minimum may be less by rounding.
-            loose = ROUNDING * self.texts.sizes(number) * (side == MIN)
+            if (name, side, 0) in bound.limits:
+                # A limit of all years is one of what is used by the end of each; a minimum is due at the end.
+                is_last = np.array(bound.every_year) == bound.years
+                own = np.where(is_last | (side == MAX), sign * bound.limits[name, side, 0], 0.0)
+                own_prices = own_prices * is_last
+            else:
+                own = np.array([sign * bound.limits[name, side, year] for year in bound.every_year])
+            # Without a limit the capacity is what all blocks together use at most, or more.
+            own = np.where(np.isinf(own), np.maximum(of_years, self.texts.most_used(number)), own)
+            # What the texts have of a minimum or a dump may be off by rounding.
+            loose = ROUNDING * self.texts.sizes(number) * (side == MIN or name.startswith((DUMP, DUMPED)))
             if (np.abs(of_years - own) > loose + UNIT).any():
                 yield f"{name} {side}: capacities {of_years.tolist()} for {own.tolist()}"
             if (np.abs(paid - np.maximum(sign * own_prices, 0)) > self.texts.cent).any():

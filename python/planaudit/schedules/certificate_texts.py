@@ -106,6 +106,10 @@ class Texts:
             found[key] = found.get(key, 0.0) + self.amounts[:, row[-2]] * unit
         return found
 
+    def most_used(self, limit: int) -> float:
+        """Returns what blocks use of a limit at most, each where it uses most."""
+        return float(np.maximum(np.max(list(self.terms(limit).values()), axis=0), 0.0).sum())
+
     @property
     def prices(self) -> np.ndarray:
         """The price of each limit in each period, shape (limits, periods)."""

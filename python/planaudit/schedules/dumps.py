@@ -1,4 +1,4 @@
-"""Verifies the dumps of a schedule of pushbacks from flows.csv, and dumps.csv."""
+"""Verifies the dumps of a schedule from its flows, and dumps.csv."""
 
 from __future__ import annotations
 
@@ -74,6 +74,9 @@ def refused(flow: MaterialFlow, dump: Section) -> Iterator[str]:
     """Yields lots that are placed although the dump does not accept all of their blocks."""
     placed = (flow.rows["destination"] == dump["name"]) & (flow.rows["total_tonnes"] > AMOUNT)
     for row in flow.rows[placed & (flow.whole[f"unaccepted {dump['name']}"] > 0)].itertuples():
+        if "block" in flow.keys:
+            yield f"blocks.csv: {flow.answer.called(row.block)}: {dump['name']} does not accept it"
+            continue
         at = f"{row.method}, year {row.year}, pushback {row.pushback}, bench {row.bench:.10g}, bin {row.bin}"
         yield f"flows.csv: {at}: {dump['name']} does not accept these blocks"
 
@@ -85,9 +88,9 @@ def beyond(flow: MaterialFlow, method: str, last: int) -> Iterator[str]:
         for year, low, high in zip(amounts.index, least, most):
             amount, loose = amounts[year], slack[year]
             if amount > high * (1 + SHARE) + loose:
-                yield f"flows.csv: {method}, year {year}: {name} {amount:.10g} t above {high:.10g}"
+                yield f"{method}, year {year}: {name} {amount:.10g} t above {high:.10g}"
             if amount < low * (1 - SHARE) - loose:
-                yield f"flows.csv: {method}, year {year}: {name} {amount:.10g} t below {low:.10g}"
+                yield f"{method}, year {year}: {name} {amount:.10g} t below {low:.10g}"
 
 
 def unlike_balance(flow: MaterialFlow, at: tuple[str, str], rows: pd.DataFrame) -> Iterator[str]:

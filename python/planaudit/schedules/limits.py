@@ -23,6 +23,11 @@ def shares_of(answer: Answer) -> Shares:
     return [(name, answer.said[SHARE + column].to_numpy()) for name, column in names.items()]
 
 
+def placed_of(answer: Answer) -> Shares:
+    """Returns the share of each block that goes to a dump, by dump."""
+    return [(dump["name"], answer.said[SHARE + dump["name"]].to_numpy()) for dump in answer.project.dumps]
+
+
 def amounts_of(answer: Answer, shares: Shares) -> pd.DataFrame:
     """Returns what each block adds to each limited amount, by the shares of it that go to processes."""
     columns = {"total_tonnes": answer.tonnes, "feed_tonnes": sum(share for _, share in shares) * answer.feed}

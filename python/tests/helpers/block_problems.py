@@ -1,5 +1,6 @@
 """Small problems of scheduling blocks, and their optima by plain programmes of scipy."""
 
+from dataclasses import replace
 from itertools import product
 
 import numpy as np
@@ -7,7 +8,7 @@ import pytest
 from scipy.optimize import Bounds, LinearConstraint, linprog, milp
 
 from pitplan.config.schedule import Effort
-from pitplan.scheduling.blocks.problem import BlockLimit, BlockPrecedences, BlockProblem, nodes_of
+from pitplan.scheduling.blocks.problem import BlockLimit, BlockPrecedences, BlockProblem, TotalLimit, nodes_of
 
 EXACT = Effort(1e-9)
 
@@ -54,7 +55,17 @@ def random_problem(seed, most=60, years=4, destinations=3):
         amounts = rng.integers(0, 20, (blocks, destinations))
         shares = np.where(rng.random(years) < 0.15, np.inf, rng.uniform(0.05, 0.5, years))
         limits.append((amounts, shares * max(amounts.max(axis=1).sum(), 1)))
-    return problem_of(values, pairs, *limits)
+    return with_totals(problem_of(values, pairs, *limits), seed)
+
+
+def with_totals(problem, seed):
+    """The same where, of three problems in ten, all years together hold a twentieth to a half of what blocks add to a sum in some destinations."""
+    rng = np.random.default_rng([seed, 1])
+    if rng.random() < 0.7:
+        return problem
+    amounts = rng.integers(0, 20, problem.values.shape[:2]) * (rng.random(problem.destinations) < 0.7)
+    most = rng.uniform(0.05, 0.5) * max(float(amounts.max(axis=1).sum()), 1.0)
+    return replace(problem, totals=(TotalLimit("total", amounts.astype(float), most=most),))
 
 
 def programme(problem, first=None):
@@ -78,6 +89,9 @@ def programme(problem, first=None):
     for limit, year in product(problem.limits, range(years)):
         if np.isfinite(limit.most[year]):
             add(limit.most[year], (place[:, :, year], limit.amounts))
+    for total in problem.totals:
+        if np.isfinite(total.most):
+            add(total.most, (place, np.repeat(total.amounts[:, :, None], years, axis=2)))
     upper = np.ones(shape)
     if first is not None:
         upper[np.broadcast_to(np.arange(years) < first[:, None, None], shape)] = 0.0

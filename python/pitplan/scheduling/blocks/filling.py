@@ -134,7 +134,11 @@ class Room:
         # Python's own lists: a block at a time, numpy's arrays are slower.
         self.left = [(limit.most * (1 + SUM_ERROR)).tolist() for limit in problem.limits]
         self.amounts = [limit.amounts.tolist() for limit in problem.limits]
-        self.dues = [due.amounts.tolist() for due in problem.dues]
+        self.owed = [total.amounts.tolist() for total in problem.totals if total.least > 0]
+        # What is left of each total that has a most, with its amounts.
+        held = [total for total in problem.totals if np.isfinite(total.most)]
+        self.held = [total.amounts.tolist() for total in held]
+        self.left_in_all = [total.most * (1 + SUM_ERROR) for total in held]
         self.signed = [k for k, limit in enumerate(problem.limits) if limit.signed]
         # Of sums that have a least, by their numbers, what each year holds above it: below 0 where it lacks.
         self.above = {
@@ -148,11 +152,20 @@ class Room:
         for amounts, left in zip(self.amounts, self.left):
             if amounts[block][destination] > left[year]:
                 return False
+        return not self.held or self.fits_in_all(block, destination)
+
+    def fits_in_all(self, block: int, destination: int) -> bool:
+        """Whether the totals have room, in whichever year."""
+        for amounts, left_in_all in zip(self.held, self.left_in_all):
+            if amounts[block][destination] > left_in_all:
+                return False
         return True
 
     def take(self, block: int, destination: int, year: int, sign: int = 1) -> None:
         for amounts, left in zip(self.amounts, self.left):
             left[year] -= sign * amounts[block][destination]
+        for number, amounts in enumerate(self.held):
+            self.left_in_all[number] -= sign * amounts[block][destination]
         for number, above in self.above.items():
             above[year] += sign * self.amounts[number][block][destination]
 
@@ -166,7 +179,7 @@ class Room:
             stays = other if now[0] == then[0] else 0.0
             if stays < amount and above[now[0]] + stays < 0:
                 return False
-        return all(due[block][then[1]] >= due[block][now[1]] for due in self.dues)
+        return all(owed[block][then[1]] >= owed[block][now[1]] for owed in self.owed)
 
 
 @dataclass(frozen=True)
@@ -175,7 +188,8 @@ class Filling:
 
     problem     what is scheduled
     preference  by block and year its destinations, the one to be tried first before the others: shape (blocks, years, destinations)
-    waits       whether a block waits for a year in which its first destination has room, before it goes to another in an earlier one
+    waits       whether a block waits for a year in which the first destination whose totals have room has it too, before it goes to another in an
+                earlier one
     """
 
     problem: BlockProblem
@@ -207,6 +221,9 @@ class Filling:
     def place(self, block: int, years: range, room: Room) -> tuple[int, int] | None:
         """The first year with room for the block, and the destination."""
         preferred = self.preferred[block]
+        if self.waits and room.held:
+            # No year has room where a total has none.
+            preferred = [sorted(of_year, key=lambda it: not room.fits_in_all(block, it)) for of_year in preferred]
         first = ((year, preferred[year][0]) for year in years if self.waits)
         tried = chain(first, ((year, destination) for year in years for destination in preferred[year]))
         for year, destination in tried:
@@ -264,11 +281,14 @@ def without_losses(problem: BlockProblem, schedule: Assignment, stays: NDArray[n
 def preferences(problem: BlockProblem, prices: NDArray[np.float64]) -> NDArray[np.int64]:
     """By block and year its destinations, first those that earn most less the prices of what they take.
 
-    prices  of a unit of each limit in each year: shape (limits, years)
+    prices  of a unit of each limit in each year, and of each total: shape (limits and totals, years)
     """
     worth = problem.values.copy()
-    for limit, by_year in zip(problem.limits, prices):
-        worth -= limit.amounts[:, :, None] * by_year
+    # A least in all years is due wherever a block goes.
+    held = [np.isfinite(it.most) for it in problem.totals]
+    for amounts, by_year, counts in zip(problem.sums, prices, [True] * len(problem.limits) + held):
+        if counts:
+            worth -= amounts[:, :, None] * by_year
     return np.argsort(-worth, axis=1, kind="stable").transpose(0, 2, 1)
 
 
@@ -389,11 +409,12 @@ def moved(filling: Filling, ranks: Ranks, schedule: Assignment) -> Assignment:
 def with_best_shares(problem: BlockProblem, schedule: Assignment) -> Assignment:
     """The schedule that mines the same blocks in the same years and earns most by where they go; the same schedule if none is found that is
     better, or keeps signed limits that it misses."""
-    share = schedule.share.copy()
+    share, is_held = schedule.share.copy(), any(np.isfinite(it.most) for it in problem.totals)
     for year in range(problem.years if problem.destinations > 1 else 0):
         blocks = np.flatnonzero(schedule.year == year)
         if len(blocks):
-            share[blocks] = best_shares(problem, blocks, year, share[blocks])
+            others = np.where(schedule.year[:, None] == year, 0.0, share) if is_held else None
+            share[blocks] = best_shares(problem, blocks, year, share[blocks], others=others)
     best = Assignment(schedule.year, share)
     if not best.is_allowed(problem):
         return schedule
@@ -413,22 +434,37 @@ class YearLimit(NamedTuple):
 
 
 def limits_of_year(
-    problem: BlockProblem, blocks: NDArray[np.int64], year: int, share: NDArray[np.float64]
+    problem: BlockProblem,
+    blocks: NDArray[np.int64],
+    year: int,
+    share: NDArray[np.float64],
+    *,
+    others: Optional[NDArray[np.float64]],
 ) -> list[YearLimit]:
     """The limits on the blocks of a year, among them that it holds no less of what is owed than by the given shares."""
     found = [YearLimit(it.amounts[blocks], float(it.most[year])) for it in problem.limits if np.isfinite(it.most[year])]
+    for total in (it for it in problem.totals if np.isfinite(it.most)):
+        left = total.most - (0.0 if others is None else total.used(others))
+        found.append(YearLimit(total.amounts[blocks], max(left, 0.0)))
     owed = [(it.amounts[blocks], float(it.floor[year])) for it in problem.limits if it.floor[year] > 0]
-    owed += [(due.amounts[blocks], np.inf) for due in problem.dues]
+    owed += [(total.amounts[blocks], np.inf) for total in problem.totals if total.least > 0]
     return found + [YearLimit(it, min(least, float((it * share).sum())), -1.0) for it, least in owed]
 
 
 def best_shares(
-    problem: BlockProblem, blocks: NDArray[np.int64], year: int, share: NDArray[np.float64]
+    problem: BlockProblem,
+    blocks: NDArray[np.int64],
+    year: int,
+    share: NDArray[np.float64],
+    *,
+    others: Optional[NDArray[np.float64]] = None,
 ) -> NDArray[np.float64]:
     """The shares of the blocks of a year that earn most, shape (blocks, destinations); where HiGHS finds none the given ones, which keep the
     limits. Without a limit that binds each goes where it earns most, and of two destinations with one such limit by gain per unit of it.
+
+    others  the shares of all blocks in other years, which also use the totals; None: none
     """
-    gain, limits = problem.values[blocks, :, year], limits_of_year(problem, blocks, year, share)
+    gain, limits = problem.values[blocks, :, year], limits_of_year(problem, blocks, year, share, others=others)
     whole = np.eye(problem.destinations)[gain.argmax(axis=1)]
     exceeded = [limit for limit in limits if not limit.holds(whole)]
     if not exceeded:
@@ -567,9 +603,9 @@ def divided(problem: BlockProblem) -> Divided:
     own = np.broadcast_to(whole, (problem.blocks, *whole.shape))
     shares = np.concatenate([own, np.stack(levels, axis=1)], axis=1)
     of_parts = tuple(replace(it, amounts=mixed(shares, it.amounts)) for it in problem.limits)
-    dues = tuple(replace(it, amounts=mixed(shares, it.amounts)) for it in problem.dues)
+    totals = tuple(it.each(lambda amounts: mixed(shares, amounts)) for it in problem.totals)
     values = np.einsum("bkd,bdt->bkt", shares, problem.values)
-    return Divided(replace(problem, values=values, limits=of_parts, dues=dues), shares)
+    return Divided(replace(problem, values=values, limits=of_parts, totals=totals), shares)
 
 
 def mixed(shares: NDArray[np.float64], amounts: NDArray[np.float64]) -> NDArray[np.float64]:

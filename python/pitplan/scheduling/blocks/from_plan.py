@@ -3,7 +3,7 @@
 from __future__ import annotations
 
 from collections.abc import Callable, Sequence
-from dataclasses import dataclass
+from dataclasses import dataclass, replace
 from typing import Any
 
 import numpy as np
@@ -16,17 +16,18 @@ from pitplan.config.schedule import FEED, MOST_YEARS, TOTAL, ScheduleRules, Sum
 from pitplan.core.tolerances import SUM_ERROR
 from pitplan.economics.period_costs import MINING_COST, of_project
 from pitplan.errors import WARNING, PlanError
+from pitplan.pits import ore_kinds
 from pitplan.pits.best_worst_case import year_discounts
 from pitplan.plan import MILLION, Plan
 from pitplan.pushbacks.bench_table import CASH, ORE, ROCK
 from pitplan.scheduling.bench_sequencing import Limits, costs_of_years
 from pitplan.scheduling.flow.material import content_of
-from pitplan.scheduling.limits import GRADE, SUM, GradeLimit, all_limits_of, grade_limits, periods_of
+from pitplan.scheduling.limits import DUMP, DUMPED, GRADE, SUM, GradeLimit, all_limits_of, grade_limits, periods_of
 from pitplan.slopes import closure
 from pitplan.slopes.domains import ABSENT, slices
 
 from .filling import greatest_of_predecessors, ranks_of
-from .problem import Assignment, BlockLimit, BlockPrecedences, BlockProblem, Due, demand_room, upward
+from .problem import Assignment, BlockLimit, BlockPrecedences, BlockProblem, TotalLimit, demand_room, upward
 
 ADDED_COST = "[pushbacks] mining_cost_added"
 
@@ -36,9 +37,6 @@ def demand_of_blocks(project: Project) -> None:
     if project.schedule is not None and project.schedule.stockpiles:
         why = "found one, expected none by block: ore goes to a process in the year in which it is mined"
         raise PlanError(f"{project.path}: [schedule] stockpile: {why}: remove it, or schedule pushbacks")
-    if project.dumps:
-        why = "found dumps, expected none by block: their capacities in all years have no price in its upper bound"
-        raise PlanError(f"{project.path}: [[dumps]]: {why}: remove them, or schedule pushbacks")
 
 
 def of_pushbacks(project: Project) -> list[str]:
@@ -80,7 +78,7 @@ class HeadGrade:
     name : str
         Its column in years.csv, such as head_grade_mill_as_ppm.
     destination : int
-        The number of the process among the destinations; waste is 0.
+        The number of the process among the destinations.
     limits : dict of str to GradeLimit
         The limits by name, such as grade_mill_as_ppm_max; one for each value that some period has.
     content, feed : array, shape (cells,)
@@ -124,7 +122,8 @@ def head_grades(plan: Plan) -> tuple[HeadGrade, ...]:
         sides = {it.name: it for it in mine}
         pays = values.by_process[number].revenue > 0
         content = content_of(plan, mine[0], cells)
-        found.append(HeadGrade(f"head_{prefix}", 1 + number, sides, content, values.feed, pays))
+        destination = len(destinations_of(plan.project).waste) + number
+        found.append(HeadGrade(f"head_{prefix}", destination, sides, content, values.feed, pays))
     return tuple(found)
 
 
@@ -135,8 +134,47 @@ Flows = dict[str, NDArray[np.float64]]
 
 
 @dataclass(frozen=True)
+class Destinations:
+    """Where blocks go.
+
+    Attributes
+    ----------
+    waste : tuple of str
+        The dumps; without `[[dumps]]` waste.
+    processes : tuple of str
+        Of a project that names none its mill.
+    """
+
+    waste: tuple[str, ...]
+    processes: tuple[str, ...]
+
+    def __len__(self) -> int:
+        return len(self.names)
+
+    @property
+    def names(self) -> tuple[str, ...]:
+        """All in the order of arrays: those of waste, then the processes."""
+        return (*self.waste, *self.processes)
+
+    @property
+    def shown(self) -> dict[str, int]:
+        """The numbers of destinations by the names of their shares in blocks.csv: of dumps and processes. The rest of a block is waste."""
+        return {name: number for number, name in enumerate(self.names) if name != WASTE}
+
+    def columns(self, as_waste: NDArray[Any], *in_processes: NDArray[Any]) -> NDArray[Any]:
+        """Returns what cells hold as waste, the same wherever it goes, and in each process, shape (cells, destinations)."""
+        return np.stack([*[as_waste] * len(self.waste), *in_processes], axis=1)
+
+
+def destinations_of(project: Project) -> Destinations:
+    """Returns where blocks of a project go."""
+    waste = tuple(it.name for it in project.dumps) or (WASTE,)
+    return Destinations(waste, tuple(process.name for process in project.processes) or (MILL,))
+
+
+@dataclass(frozen=True)
 class BlockAmounts:
-    """What blocks hold in each destination: waste, and each process. Arrays have shape (blocks, destinations).
+    """What blocks hold in each destination. Arrays have shape (blocks, destinations).
 
     Attributes
     ----------
@@ -163,6 +201,13 @@ class BlockAmounts:
 
     def of_cells(self, cells: NDArray[np.int64]) -> BlockAmounts:
         return self.each(lambda amounts: amounts[cells])
+
+    def as_sent(self, goes: NDArray[np.int64]) -> BlockAmounts:
+        """Returns the amounts of blocks that go elsewhere than they are sent: to these destinations, shape (blocks, destinations)."""
+        flows, excess = (
+            {name: np.take_along_axis(it, goes, axis=1) for name, it in of.items()} for of in (self.flows, self.excess)
+        )
+        return replace(self, flows=flows, excess=excess)
 
     def each(self, change: Callable[[NDArray[Any]], NDArray[Any]]) -> BlockAmounts:
         """Returns the amounts with each array changed."""
@@ -196,16 +241,23 @@ class BlockAmounts:
         above = [BlockLimit(name, flows[name], most) for name, most in zip(limits.most, limits.of_years(years).T)]
         # What yields nothing there is not sent to a process for the sake of a least amount.
         below = [
-            BlockLimit(
-                name, np.where(self.pays | (flows[name][:, :1] > 0), flows[name], 0.0), np.full(years, np.inf), least
-            )
+            minimum(name, np.where(self.pays | (flows[name][:, :1] > 0), flows[name], 0.0), least)
             for name, least in limits.least_of_years(years).items()
         ]
+        for name in [f"{DUMP}{it.name}" for it in project.dumps]:
+            least, most = limits.dumped(name.removeprefix(DUMP), years)
+            above += [BlockLimit(name, flows[name], most)] if np.isfinite(most).any() else []
+            below += [minimum(name, flows[name], least)] if least.any() else []
         graded = [
             BlockLimit(it.name, self.excess[it.name], np.where(it.in_years(years), 0.0, np.inf), signed=True)
             for it in grade_limits(project)
         ]
         return (*above, *below, *graded)
+
+
+def minimum(name: str, amounts: NDArray[np.float64], least: NDArray[np.float64]) -> BlockLimit:
+    """Returns a limit of years that is a minimum alone."""
+    return BlockLimit(name, amounts, np.full_like(least, np.inf), least)
 
 
 @dataclass(frozen=True)
@@ -243,11 +295,16 @@ class Minable:
         precedences = self.precedences.starts, self.precedences.needed
         return pitshell.solve(upward(cash).amounts, precedences, fixed, millionths=True).in_pit
 
-    def dues(self, destinations: int) -> tuple[Due, ...]:
-        """Returns that the must-mine blocks are mined in some year; nothing where none exist."""
-        count = int(self.must_mine.sum())
-        of_each = np.repeat(self.must_mine[:, None], destinations, axis=1).astype(float)
-        return (Due(f"{count:,} must-mine blocks", of_each, float(count)),) if count else ()
+    def totals(self, amounts: BlockAmounts, project: Project) -> tuple[TotalLimit, ...]:
+        """Returns that the must-mine blocks are mined in some year, where any exist, and the capacities of dumps."""
+        count, found = int(self.must_mine.sum()), []
+        if count:
+            of_each = np.repeat(self.must_mine[:, None], amounts.destinations, axis=1).astype(float)
+            found.append(TotalLimit(f"{count:,} must-mine blocks", of_each, float(count)))
+        for it in project.dumps:
+            if it.capacity is not None:
+                found.append(TotalLimit(f"{DUMPED}{it.name}", amounts.flows[f"{DUMP}{it.name}"], most=it.capacity))
+        return tuple(found)
 
     def problem(self, amounts: BlockAmounts, project: Project, years: int) -> BlockProblem:
         """Returns the problem of these blocks, with their amounts, over some periods."""
@@ -256,7 +313,7 @@ class Minable:
             values=amounts.cash(project, years) * year_discounts(project.shells, years),
             precedences=self.precedences,
             limits=amounts.limits(project, years),
-            dues=self.dues(amounts.destinations),
+            totals=self.totals(amounts, project),
             costs=costs_of_years(money, project.shells, years) if money.columns else None,
             word=project.shells.calendar.word,
         )
@@ -272,6 +329,8 @@ class PlannedBlocks:
     minable : Minable
     amounts : BlockAmounts
     problem : BlockProblem
+    goes : int array, shape (blocks, destinations)
+        Where each block goes that is sent to each destination.
     grades : tuple of HeadGrade
         Head grades that are limited.
     """
@@ -280,6 +339,7 @@ class PlannedBlocks:
     minable: Minable
     amounts: BlockAmounts
     problem: BlockProblem
+    goes: NDArray[np.int64]
     grades: tuple[HeadGrade, ...] = ()
 
     @property
@@ -288,8 +348,7 @@ class PlannedBlocks:
         return self.minable.cells
 
     @property
-    def destinations(self) -> tuple[str, ...]:
-        """Waste, and each process by its name."""
+    def destinations(self) -> Destinations:
         return destinations_of(self.plan.project)
 
     @property
@@ -298,9 +357,17 @@ class PlannedBlocks:
         return all_limits_of(self.plan.project, self.plan.project.schedule or ScheduleRules())
 
     def with_barren_waste(self, schedule: Assignment) -> Assignment:
-        """The schedule with blocks as waste that would go to a process where they yield nothing. They cost as much there, and add to no minimum."""
-        share = np.where(self.amounts.pays, schedule.share, 0.0)
-        share[:, 0] = schedule.share.sum(axis=1) - share[:, 1:].sum(axis=1)
+        """Returns the schedule with blocks as waste that would go to a process where they yield nothing, and in dumps that accept them.
+
+        Raises
+        ------
+        PlanError
+            If no dump accepts a block that is mined.
+        """
+        if self.plan.project.dumps:
+            ore_kinds.accepted(self.plan, self.cells[schedule.year < self.problem.years])
+        share = np.zeros_like(schedule.share)
+        np.add.at(share, (np.arange(len(share))[:, None], self.goes), schedule.share)
         return Assignment(schedule.year, share)
 
 
@@ -313,10 +380,37 @@ def of_plan(plan: Plan) -> PlannedBlocks:
     minable = Minable.of_plan(plan, (of_all.greatest_cash(project) > 0) | owing(plan, of_all))
     demand_room(len(minable.cells), len(minable.precedences.needed), f"{project.path}: ")
     amounts = of_all.of_cells(minable.cells)
+    goes = taken(plan, minable.cells, amounts.pays)
+    # Without dumps a process in which a block yields nothing costs what waste costs.
+    amounts = amounts.as_sent(goes) if project.dumps else amounts
     pit = minable.pit(amounts, project)
     demand_small(plan, minable.cells[pit])
+    if project.dumps:
+        ore_kinds.accepted(plan, minable.cells[pit])
     years = periods_of(project, project.schedule or ScheduleRules()) or years_of([amounts.held(pit)], project)
-    return PlannedBlocks(plan, minable, amounts, minable.problem(amounts, project, years), grades)
+    return PlannedBlocks(plan, minable, amounts, minable.problem(amounts, project, years), goes, grades)
+
+
+def taken(plan: Plan, cells: NDArray[np.int64], pays: NDArray[np.bool_]) -> NDArray[np.int64]:
+    """Returns where each cell goes that is sent to each destination, shape (cells, destinations): to the cheapest dump that accepts it, or to waste without
+    dumps, from a process in which it yields nothing and from a dump that does not accept it.
+
+    Parameters
+    ----------
+    plan : Plan
+    cells : int array, shape (cells,)
+    pays : bool array, shape (cells, destinations)
+        Whether each cell yields anything there.
+    """
+    dumps = plan.project.dumps
+    if not dumps:
+        accepts = np.ones((len(cells), 1), dtype=bool)
+        cheapest = np.zeros(len(cells), dtype=np.int64)
+    else:
+        accepts = ore_kinds.accepting(plan, cells)
+        cheapest = np.where(accepts, [it.cost for it in dumps], np.inf).argmin(axis=1)
+    stays = np.concatenate([accepts, pays[:, accepts.shape[1] :]], axis=1)
+    return np.where(stays, np.arange(stays.shape[1]), cheapest[:, None])
 
 
 def demand_small(plan: Plan, cells: NDArray[np.int64]) -> None:
@@ -357,14 +451,8 @@ def owing(plan: Plan, amounts: BlockAmounts) -> NDArray[np.bool_]:
 
 def pays_of(plan: Plan) -> NDArray[np.bool_]:
     """Whether a cell yields anything in each destination."""
-    return np.stack(
-        [np.zeros(plan.grid.count, dtype=bool), *(way.revenue > 0 for way in plan.values.by_process)], axis=1
-    )
-
-
-def destinations_of(project: Project) -> tuple[str, ...]:
-    """Waste, and the processes: of a project that names none, its mill."""
-    return (WASTE, *([process.name for process in project.processes] or [MILL]))
+    nothing = np.zeros(plan.grid.count, dtype=bool)
+    return destinations_of(plan.project).columns(nothing, *(way.revenue > 0 for way in plan.values.by_process))
 
 
 def flows_of(plan: Plan) -> Flows:
@@ -372,38 +460,38 @@ def flows_of(plan: Plan) -> Flows:
     flows, rules = of_money(plan), plan.project.schedule
     if MINING_COST in of_project(plan.project).differing:
         flows[MINING_COST] = np.repeat(plan.values.mining[:, None] / MILLION, flows[CASH].shape[1], axis=1)
+    to = destinations_of(plan.project)
     for name, costs in plan.multiplied_amounts.items():
-        flows[name] = np.column_stack([np.zeros(plan.grid.count), *costs])
+        flows[name] = to.columns(np.zeros(plan.grid.count), *costs)
+    for number, dump in enumerate(plan.project.dumps):
+        tonnes = flows[f"{DUMP}{dump.name}"] = np.zeros_like(flows[CASH])
+        tonnes[:, number] = plan.values.tonnes
+        flows[CASH][:, number] -= dump.cost * plan.values.tonnes
     return flows | {f"{SUM}{it.name}": sum_of(plan, it) for it in (rules.limits if rules else ())}
 
 
 def sum_of(plan: Plan, asked: Sum) -> NDArray[np.float64]:
     """What each cell adds to a sum in each destination."""
-    values, (_, *processes) = plan.values, destinations_of(plan.project)
+    values, to = plan.values, destinations_of(plan.project)
     amounts = plan.grid.spread(plan.table[asked.column].to_numpy())
     if asked.per_tonne:
         amounts = amounts * (values.tonnes if asked.of == TOTAL else values.undiluted)
-    counts = [asked.of == TOTAL, *(asked.of in (TOTAL, FEED, name) for name in processes)]
+    counts = [asked.of == TOTAL] * len(to.waste) + [asked.of in (TOTAL, FEED, name) for name in to.processes]
     return amounts[:, None] * np.array(counts, dtype=float)
 
 
 def of_money(plan: Plan) -> Flows:
-    """Tonnes, metals and cash of each cell as waste, and in each process."""
-    values, processes = plan.values, plan.project.processes
-    nothing, columns = np.zeros(plan.grid.count), {ROCK: [plan.values.tonnes] * (1 + len(plan.values.by_process))}
-    columns[ORE] = [nothing, *[values.feed] * len(values.by_process)]
-    for number, process in enumerate(processes, 1):
-        columns[f"{ORE}_{process.name}"] = [
-            values.feed if place == number else nothing for place in range(1 + len(processes))
-        ]
-    columns |= {
-        f"recovered_{name}": [nothing, *(way.metal[name] for way in values.by_process)] for name in values.metal
-    }
-    columns[CASH] = [
-        -values.mining / MILLION,
-        *((way.revenue - way.cost - values.mining) / MILLION for way in values.by_process),
-    ]
-    return {name: np.stack(amounts, axis=1) for name, amounts in columns.items()}
+    """Tonnes, metals and cash of each cell as waste, and in each process; dumps cost nothing."""
+    values, to, ways = plan.values, destinations_of(plan.project), plan.values.by_process
+    nothing = np.zeros(plan.grid.count)
+    found = {ROCK: to.columns(values.tonnes, *[values.tonnes] * len(ways))}
+    found[ORE] = to.columns(nothing, *[values.feed] * len(ways))
+    for number, process in enumerate(plan.project.processes):
+        of_ways = (values.feed if place == number else nothing for place in range(len(ways)))
+        found[f"{ORE}_{process.name}"] = to.columns(nothing, *of_ways)
+    found |= {f"recovered_{name}": to.columns(nothing, *(way.metal[name] for way in ways)) for name in values.metal}
+    gains = ((way.revenue - way.cost - values.mining) / MILLION for way in ways)
+    return found | {CASH: to.columns(-values.mining / MILLION, *gains)}
 
 
 def precedences_of(plan: Plan, cells: NDArray[np.int64]) -> BlockPrecedences:

@@ -7,7 +7,7 @@ problem (PCPSP) of Espinoza, Goycoolea, Moreno and Newman (MineLib: a library of
 
 from __future__ import annotations
 
-from collections.abc import Iterator, Sequence
+from collections.abc import Callable, Iterator, Sequence
 from dataclasses import dataclass, replace
 from fractions import Fraction
 from functools import cached_property
@@ -94,12 +94,21 @@ class BlockLimit:
 
 
 @dataclass(frozen=True)
-class Due:
-    """The least of a sum that all years together must hold; amounts as of a limit."""
+class TotalLimit:
+    """The least of a sum that all years together must hold, and the most that they may; amounts as of a limit."""
 
     name: str
     amounts: NDArray[np.float64]
-    least: float
+    least: float = 0.0
+    most: float = np.inf
+
+    def each(self, change: Callable[[NDArray[np.float64]], NDArray[np.float64]]) -> TotalLimit:
+        """The same with its amounts changed."""
+        return replace(self, amounts=change(self.amounts))
+
+    def used(self, share: NDArray[np.float64]) -> float:
+        """The sum over blocks that go to destinations in these shares."""
+        return float((self.amounts * share).sum())
 
 
 @dataclass(frozen=True)
@@ -142,7 +151,7 @@ class BlockProblem:
             years)
     precedences what must be mined in the same year or before
     limits  what a year may hold
-    dues    what all years must hold together
+    totals  what all years must, or may, hold together
     costs   what each year up to the last in which a block is mined costs, discounted, in money, 0 or more: shape (years,); None: nothing
     word    what messages call a year: period if some are not years
     """
@@ -150,7 +159,7 @@ class BlockProblem:
     values: NDArray[np.float64]
     precedences: BlockPrecedences
     limits: tuple[BlockLimit, ...]
-    dues: tuple[Due, ...] = ()
+    totals: tuple[TotalLimit, ...] = ()
     costs: Optional[NDArray[np.float64]] = None
     word: str = YEAR
 
@@ -161,20 +170,20 @@ class BlockProblem:
 
     @property
     def sums(self) -> list[NDArray[np.float64]]:
-        """The amounts of all limits and dues, in this order."""
-        return [*(it.amounts for it in self.limits), *(it.amounts for it in self.dues)]
+        """The amounts of all limits and totals, in this order."""
+        return [*(it.amounts for it in self.limits), *(it.amounts for it in self.totals)]
 
     @property
     def owes(self) -> bool:
         """Whether something is the least that must be held."""
-        return any(due.least > 0 for due in self.dues) or any((limit.floor > 0).any() for limit in self.limits)
+        return any(total.least > 0 for total in self.totals) or any((limit.floor > 0).any() for limit in self.limits)
 
     @property
     def owing(self) -> NDArray[np.bool_]:
         """The blocks that add to a sum that has a least: a truth for each, shape (blocks,)."""
         found = np.zeros(self.blocks, dtype=bool)
         owed = [it.amounts for it in self.limits if (it.floor > 0).any()] + [
-            due.amounts for due in self.dues if due.least > 0
+            total.amounts for total in self.totals if total.least > 0
         ]
         for amounts in owed:
             found |= (amounts > 0).any(axis=1)
@@ -203,14 +212,14 @@ class BlockProblem:
     def in_order(self, order: NDArray[np.int64]) -> BlockProblem:
         """The same problem with its blocks in an order."""
         limits = tuple(replace(it, amounts=it.amounts[order]) for it in self.limits)
-        dues = tuple(replace(it, amounts=it.amounts[order]) for it in self.dues)
-        return BlockProblem(self.values[order], self.precedences.in_order(order), limits, dues, self.costs, self.word)
+        totals = tuple(it.each(lambda amounts: amounts[order]) for it in self.totals)
+        return BlockProblem(self.values[order], self.precedences.in_order(order), limits, totals, self.costs, self.word)
 
     def of_blocks(self, kept: NDArray[np.bool_]) -> BlockProblem:
         """The problem of these blocks alone, which need none of the others."""
         limits = tuple(replace(it, amounts=it.amounts[kept]) for it in self.limits)
-        dues = tuple(replace(it, amounts=it.amounts[kept]) for it in self.dues)
-        return BlockProblem(self.values[kept], self.precedences.within(kept), limits, dues, self.costs, self.word)
+        totals = tuple(it.each(lambda amounts: amounts[kept]) for it in self.totals)
+        return BlockProblem(self.values[kept], self.precedences.within(kept), limits, totals, self.costs, self.word)
 
 
 def demand_sound(problem: BlockProblem) -> None:
@@ -241,11 +250,12 @@ def demand_sound(problem: BlockProblem) -> None:
             raise PlanError(
                 f"{limit.name}: the minimum of {problem.word} {year + 1} is {floor[year]:.10g}, above its maximum of {limit.most[year]:.10g}"
             )
-    for due in problem.dues:
-        is_whole = due.amounts.shape == shape[:2] and np.isfinite(due.amounts).all() and not (due.amounts < 0).any()
-        if not is_whole or not 0 <= due.least < np.inf:
+    for total in problem.totals:
+        amounts = total.amounts
+        is_whole = amounts.shape == shape[:2] and np.isfinite(amounts).all() and not (amounts < 0).any()
+        if not is_whole or not 0 <= total.least <= total.most or np.isinf(total.least):
             raise PlanError(
-                f"{due.name}: expected amounts by block and destination of 0 or more, and a minimum of 0 or more"
+                f"{total.name}: expected amounts by block and destination of 0 or more, a minimum of 0 or more, and a maximum no less"
             )
 
 
@@ -438,8 +448,8 @@ class Assignment:
         floors = np.array([limit.floor for limit in problem.limits]).reshape(len(problem.limits), problem.years)
         short = [np.maximum(floors - self.sums(problem), 0.0) / np.where(floors > 0, floors, 1.0)]
         short += [
-            np.array([max(due.least - float((due.amounts * self.share).sum()), 0.0) / (due.least or 1.0)])
-            for due in problem.dues
+            np.array([max(total.least - total.used(self.share), 0.0) / (total.least or 1.0)])
+            for total in problem.totals
         ]
         shares = np.concatenate([part.ravel() for part in short])
         return float(shares[shares > SUM_ERROR].sum())
@@ -454,12 +464,14 @@ class Assignment:
         return self.is_allowed(problem) and not self.lacking(problem)
 
     def is_allowed(self, problem: BlockProblem) -> bool:
-        """Whether no block is mined before one that it needs, each goes whole to destinations, and no year is above a limit except for a
-        hair."""
+        """Whether no block is mined before one that it needs, each goes whole to destinations, and no year, nor all together, is above a limit
+        except for a hair."""
         is_mined = self.year < problem.years
         whole = np.abs(self.share.sum(axis=1) - is_mined) <= SUM_ERROR
         ordered = self.year[problem.precedences.users] >= self.year[problem.precedences.needed]
-        return bool(whole.all() and (self.share >= 0).all() and ordered.all() and not self.exceeded(problem).any())
+        within = all(it.used(self.share) <= it.most * (1 + SUM_ERROR) for it in problem.totals)
+        is_kept = within and not self.exceeded(problem).any()
+        return bool(whole.all() and (self.share >= 0).all() and ordered.all() and is_kept)
 
 
 def nothing(problem: BlockProblem) -> Assignment:

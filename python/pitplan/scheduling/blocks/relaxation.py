@@ -23,7 +23,18 @@ from pitplan.core.tolerances import SOLVER_SHARE, SUM_ERROR, ZERO_PRICE
 from pitplan.errors import PlanError
 
 from .filling import Ranks, cone_sums, greatest_of_predecessors, ranks_of
-from .problem import ROUNDING, BlockProblem, Nodes, Whole, by_end, least_float, nodes_of, upward, worth_of
+from .problem import (
+    MOST_UNKNOWNS,
+    ROUNDING,
+    BlockProblem,
+    Nodes,
+    Whole,
+    by_end,
+    least_float,
+    nodes_of,
+    upward,
+    worth_of,
+)
 
 # Groups merge when ROUNDS_KEPT rounds give them equal shares, rounded to SHARES decimals.
 ROUNDS_KEPT, SHARES = 5, 9
@@ -90,7 +101,7 @@ def renumbered(label: NDArray[np.int64], most: int) -> Groups:
 # take, and one below 0 is earned for the least that it must take; so each price times what it takes
 # is at most the price times that limit. So a bound needs no optimum of the prices, and it holds for any
 # floats: what a block earns at them is rounded upward, by more than the floats may have lost. Where blocks earn
-# nothing but prices, a bound below 0 shows that no schedule keeps what is due: it would earn 0.
+# nothing but prices, a bound below 0 shows that no schedule keeps the minimums: it would earn 0.
 #
 # Each year is solved for itself first. If the pit of each year lies within that of the next, all of them are the
 # closure; if it does not, these years are solved together, unless they are more than the library takes: the
@@ -130,8 +141,8 @@ class Earned:
 
 
 def priced(nodes: Nodes, prices: NDArray[np.float64]) -> Priced:
-    """The closure at prices by limit and year, and behind them by due, the same in all years: shape (limits and dues, years). A price is 0
-    or less where the most is infinite, and of dues, and 0 or more of signed limits."""
+    """The closure at prices by limit and year, and behind them by total, the same in all years: shape (limits and totals, years). A price is 0
+    or less where the most is infinite, and 0 or more of signed limits."""
     earned = earned_at(nodes, prices)
     gain = by_end(earned.worths.amounts)
     parts = [solved(nodes, gain, year, year + 1) for year in range(nodes.problem.years)]
@@ -203,11 +214,11 @@ def sold(nodes: Nodes, prices: NDArray[np.float64]) -> Fraction:
     for limit, by_year in zip(problem.limits, prices):
         for year in np.flatnonzero(by_year > 0).tolist():
             running[year] += Fraction(float(by_year[year])) * Fraction(float(limit.most[year]))
-    of_dues = (
-        Fraction(float(by_year[0])) * Fraction(due.least)
-        for due, by_year in zip(problem.dues, prices[len(problem.limits) :])
+    of_totals = (
+        Fraction(float(by_year[0])) * Fraction(total.least if by_year[0] <= 0 else total.most)
+        for total, by_year in zip(problem.totals, prices[len(problem.limits) :])
     )
-    return sum(of_minimums, Fraction(0)) + max(accumulate(running)) + sum(of_dues, Fraction(0))
+    return sum(of_minimums, Fraction(0)) + max(accumulate(running)) + sum(of_totals, Fraction(0))
 
 
 # The linear relaxation where all nodes of a group are mined to one share: a small linear programme, whose prices of the
@@ -225,7 +236,7 @@ class Restricted:
 
     share   of each group: shape (groups,)
     value   discounted, in money; where it is sought what is due the shares that lack of it together, below 0
-    prices  of a unit of each limit in each year, in money, below 0 where the least is due, and of each due: shape (limits and dues, years)
+    prices  of a unit of each limit in each year, in money, below 0 where the least is due, and of each total: shape (limits and totals, years)
     """
 
     share: NDArray[np.float64]
@@ -235,7 +246,7 @@ class Restricted:
 
 @dataclass(frozen=True)
 class Place:
-    """A limit of a year, or a due, of all years: its number, behind those of limits of dues; the year, None of a due; the amount; and 1
+    """A limit of a year, or of all years: its number, those of totals behind those of limits; the year, None of a total; the amount; and 1
     where that is the most, -1 where it is the least."""
 
     number: int
@@ -304,26 +315,25 @@ class Master:
             for year in years
             if limit.floor[year] > 0
         ]
-        return [
-            *above,
-            *below,
-            *(Place(len(limits) + k, None, due.least, -1) for k, due in enumerate(problem.dues) if due.least > 0),
-        ]
+        totals = list(enumerate(problem.totals, len(limits)))
+        owed = [Place(number, None, total.least, -1) for number, total in totals if total.least > 0]
+        held = [Place(number, None, total.most, 1) for number, total in totals if np.isfinite(total.most)]
+        return [*above, *below, *owed, *held]
 
-    def solve(self, groups: Groups, seeks_dues: bool = False) -> Restricted:
+    def solve(self, groups: Groups, seeks_minimums: bool = False) -> Restricted:
         """The optimum of these groups; or the least that lacks of what is due, at any earnings. Raises PlanError where HiGHS finds
         none."""
         # What leads in a circle is mined to one share.
         pairs = pairs_of(groups, self.nodes)
         count, component = connected_components(pairs, connection="strong")
         joined = groups.of_groups(component)
-        gain = np.bincount(joined.label, self.gain, minlength=joined.count) * (not seeks_dues)
+        gain = np.bincount(joined.label, self.gain, minlength=joined.count) * (not seeks_minimums)
         order = order_rows(least_pairs(joined_pairs(pairs, component, count)))
         most = np.array([place.amount for place in self.places], dtype=float)
         sign = np.array([place.sign for place in self.places], dtype=float)
         unit, used = float(np.abs(gain).max(initial=0.0)) or 1.0, self.limits(joined)
         scale = scale_of(most, used)
-        more = lacking(sign) if seeks_dues else self.running()
+        more = lacking(sign) if seeks_minimums else self.running()
         limits = hstack([csr_matrix(used * (sign / scale)[:, None]), more.limits])
         rows = vstack([limits, block_diag([order, more.rows])], format="csr")
         found = linprog(
@@ -359,12 +369,12 @@ class Master:
     def shows_running(self, place: Place) -> bool:
         """Whether a place is the most of a year above 0, which only a year that runs uses."""
         limits = self.nodes.problem.limits
-        return place.sign > 0 and place.amount > 0 and not limits[place.number].signed
+        return place.year is not None and place.sign > 0 and place.amount > 0 and not limits[place.number].signed
 
     def prices(self, of_places: NDArray[np.float64]) -> NDArray[np.float64]:
-        """By limit and year, and by due; of a limit with both a most and a least what is left of their two prices."""
+        """By limit and year, and by total; of a limit with both a most and a least what is left of their two prices."""
         problem = self.nodes.problem
-        found = np.zeros((len(problem.limits) + len(problem.dues), problem.years))
+        found = np.zeros((len(problem.limits) + len(problem.totals), problem.years))
         for place, price in zip(self.places, of_places):
             found[place.number, slice(None) if place.year is None else place.year] += price
         return found
@@ -490,7 +500,7 @@ class Relaxation:
 
     bound        in money: no schedule earns more
     cumulative   the share of each block that is mined by the end of each year: shape (blocks, years)
-    prices       of a unit of each limit in each year, in money, and of each due, in the last round: shape (limits and dues, years)
+    prices       of a unit of each limit in each year, in money, and of each total, in the last round: shape (limits and totals, years)
     multipliers  those at which the closure gave the bound
     rounds       what each round found
     groups       the last groups
@@ -516,12 +526,12 @@ def relaxed(
     with each round. An interruption (Ctrl-C), or a programme that HiGHS cannot solve, ends it with what it has, once there is a round. The
     first groups are those given, or by nested pits.
 
-    Raises PlanError where no schedule keeps what is due, HiGHS finds no optimum of the first round or the nodes are too many, and
+    Raises PlanError where no schedule keeps the minimums, HiGHS finds no optimum of the first round or the nodes are too many, and
     KeyboardInterrupt within the first round.
     """
     groups = first_groups(nodes) if groups is None else groups
     if nodes.problem.owes:
-        groups = keeping_dues(nodes, groups)
+        groups = keeping_minimums(nodes, groups)
     solver = RelaxationSolver(nodes, Master(nodes), groups, time.monotonic())
     try:
         for found in solver:
@@ -584,16 +594,16 @@ class RelaxationSolver:
         )
 
 
-def keeping_dues(nodes: Nodes, groups: Groups) -> Groups:
-    """The groups divided until the relaxation over them keeps what is due.
+def keeping_minimums(nodes: Nodes, groups: Groups) -> Groups:
+    """The groups divided until the relaxation over them keeps the minimums.
 
-    By the same rounds, where blocks earn nothing and what lacks of a due costs its share: then the prices of a round at which the closure's
-    bound is below 0 show that nothing keeps all dues. Raises PlanError then.
+    By the same rounds, where blocks earn nothing and what lacks of a minimum costs its share: then the prices of a round at which the closure's
+    bound is below 0 show that nothing keeps all minimums. Raises PlanError then.
     """
     nothing = replace(nodes, problem=replace(nodes.problem, values=np.zeros_like(nodes.problem.values), costs=None))
     master = Master(nothing)
     while True:
-        found = master.solve(groups, seeks_dues=True)
+        found = master.solve(groups, seeks_minimums=True)
         if found.value >= -SOLVER_SHARE:
             return groups
         closure = priced(nothing, found.prices)
@@ -611,7 +621,8 @@ def owed_by(nodes: Nodes, prices: NDArray[np.float64]) -> str:
     for limit, by_year in zip(problem.limits, prices):
         years = [str(year + 1) for year in np.flatnonzero(by_year < -ZERO_PRICE)]
         named += [f"{limit.name} in {problem.word}{'s' * (len(years) > 1)} {', '.join(years)}"] if years else []
-    named += [due.name for due, by_year in zip(problem.dues, prices[len(problem.limits) :]) if by_year[0] < -ZERO_PRICE]
+    of_totals = zip(problem.totals, prices[len(problem.limits) :])
+    named += [total.name for total, by_year in of_totals if by_year[0] < -ZERO_PRICE]
     return "; ".join(named) or "all limits together"
 
 

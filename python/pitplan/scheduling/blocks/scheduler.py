@@ -42,7 +42,7 @@ class Scheduled:
     nodes        of the relaxation: such a block by a year in which it can be mined
     rounds       of the relaxation
     interrupted  whether the run was ended before it was through
-    multipliers  prices of a unit of each limit and due by year, in money, from which the bound follows: shape (limits and dues, years)
+    multipliers  prices of a unit of each limit and total by year, in money, from which the bound follows: shape (limits and totals, years)
     """
 
     schedule: Assignment
@@ -82,13 +82,15 @@ def solve(problem: BlockProblem, effort: Optional[Effort] = None, progress: Prog
         return Scheduled(nothing(problem), 0.0, 0.0, 0, 0)
     progress.say(f"computing the upper bound: {part.problem.blocks:,} blocks, {len(part.nodes):,} nodes")
     until = Effort(RELAXED, effort.seconds if effort else None)
-    part, relaxation = relaxed_as_required(problem, part, until, progress, tell=lambda found: progress.say(told(found)))
+    part, relaxation = relaxed_as_required(
+        problem, part, until, progress, tell=lambda found: progress.say(line_of(found))
+    )
     search = Search(part, relaxation, progress)
     try:
         if not relaxation.interrupted:
             search.fill()
             search.move()
-            search.keep_dues(began)
+            search.keep_minimums(began)
             if effort is not None:
                 search.windows(effort, began)
     except KeyboardInterrupt:
@@ -98,7 +100,7 @@ def solve(problem: BlockProblem, effort: Optional[Effort] = None, progress: Prog
     return search.scheduled(problem, relaxation.interrupted)
 
 
-def told(found: Round) -> str:
+def line_of(found: Round) -> str:
     relaxation = f"relaxation {found.value:,.0f} over {found.groups:,} groups"
     return f"round {found.number}: bound {found.bound:,.0f}, {relaxation}, gap {100 * found.gap:.3f} %, {found.seconds:.0f} s"
 
@@ -183,7 +185,7 @@ class Search:
                 self.offer(better)
                 self.offer(with_best_shares(self.problem, better))
 
-    def keep_dues(self, began: float) -> None:
+    def keep_minimums(self, began: float) -> None:
         """Solves windows again while something lacks of what must be held at least, and less does."""
         effort = Effort(0.0, time.monotonic() - began + DUE_SECONDS)
         for size in sizes_of(self.problem) if self.best.lacking(self.problem) else []:
@@ -194,20 +196,16 @@ class Search:
         """Raises PlanError where something lacks of what must be held at least."""
         if not self.best.lacking(self.problem):
             return
-        problem, sums, told = self.problem, self.best.sums(self.problem), []
+        problem, sums, missed = self.problem, self.best.sums(self.problem), []
         for limit, by_year in zip(problem.limits, sums):
             short = np.flatnonzero(by_year < limit.floor * (1 - SUM_ERROR))
-            told += [
+            missed += [
                 f"{problem.word} {year + 1} has {by_year[year]:,.10g} of {limit.name} for {limit.floor[year]:,.10g}"
                 for year in short[:MOST_NAMED]
             ]
-        told += [
-            due.name
-            for due in problem.dues
-            if float((due.amounts * self.best.share).sum()) < due.least * (1 - SUM_ERROR)
-        ]
+        missed += [it.name for it in problem.totals if it.used(self.best.share) < it.least * (1 - SUM_ERROR)]
         why = "no schedule of whole blocks was found that meets the minimums; one with parts of blocks does"
-        raise PlanError(f"{why}: {'; '.join(told)}: reduce the minimums, or increase [schedule] milp seconds")
+        raise PlanError(f"{why}: {'; '.join(missed)}: reduce the minimums, or increase [schedule] milp seconds")
 
     def windows(self, effort: Effort, began: float) -> None:
         """Solves window after window again, larger ones once none has become better, until the gap is reached or the seconds are over."""

@@ -44,11 +44,13 @@ from pitplan.scheduling.certificate import (
     write,
 )
 from pitplan.scheduling.flow.material import column_of
+from pitplan.scheduling.flow.tables import dump_table
+from pitplan.scheduling.limits import DUMP
 from pitplan.scheduling.methods import BLOCK, notes_of_gap
 from pitplan.scheduling.schedule import Schedule
 
 from .from_plan import PlannedBlocks, of_plan, unapplied
-from .problem import Assignment, BlockLimit, BlockProblem
+from .problem import Assignment, BlockLimit, BlockProblem, TotalLimit
 from .scheduler import Scheduled, gap_of, solve
 
 if TYPE_CHECKING:
@@ -110,8 +112,9 @@ class BlockSchedule(Schedule):
 
     @property
     def material_tables(self) -> dict[str, pd.DataFrame]:
-        """The inventory."""
-        return {"inventory": inventory_table(self)}
+        """The inventory, and with `[[dumps]]` what each takes and holds."""
+        found, dumps = {"inventory": inventory_table(self)}, self.plan.project.dumps
+        return found | ({"dumps": dump_table(inventory_flows(self), {BLOCK: self.count}, dumps)} if dumps else {})
 
     @property
     def grade_tonnage(self) -> pd.DataFrame:
@@ -147,7 +150,7 @@ class BlockSchedule(Schedule):
         certificate, problem = self.certificate, self.planned.problem
         write(certificate, self.planned.cells.tolist(), stage)
         proved = checked(stage, program, certificate.unit)
-        destinations = tuple(("", "" if it == WASTE else it, 0) for it in self.planned.destinations)
+        destinations = tuple(("", "" if it == WASTE else it, 0) for it in self.planned.destinations.names)
         return replace(self, certified=replace(proved, destinations=destinations, limits=sides_of(problem)))
 
     @property
@@ -165,14 +168,12 @@ class BlockSchedule(Schedule):
 
     def beside(self, blocks: pd.DataFrame) -> pd.DataFrame:
         """Rows of blocks, by `id`, with the year of each, from 1, 0 where it is not mined; and share_NAME, the share of it that goes to each
-        process, share_mill where the project names none. The rest of it is waste."""
+        dump and process, share_mill where the project names none. The rest of it is waste."""
         problem, schedule = self.planned.problem, self.found.schedule
         columns: dict[str, NDArray[Any]] = {
             "year": np.where(schedule.year < problem.years, schedule.year + 1, 0).astype(np.int16)
         }
-        for number, name in enumerate(self.planned.destinations):
-            if number:
-                columns[SHARE + name] = schedule.share[:, number]
+        columns |= {SHARE + name: schedule.share[:, number] for name, number in self.planned.destinations.shown.items()}
         grid, ids = self.plan.grid, blocks["id"].to_numpy()
         found = {}
         for name, values in columns.items():
@@ -193,7 +194,9 @@ class BlockSchedule(Schedule):
         mined = np.arange(problem.blocks), slice(None), np.minimum(schedule.year, problem.years - 1)
         flows, count = self.planned.amounts.flows | {CASH: cash[mined]}, self.count
         table = pd.DataFrame({"case": BLOCK, "revenue_factor": BASE_PRICE, "year": np.arange(1, count + 1)})
-        for name, amounts in [(name, amounts) for name, amounts in flows.items() if is_shown(name)]:
+        for name, amounts in flows.items():
+            if not is_shown(name) or name.startswith(DUMP):
+                continue
             of_blocks = (amounts * schedule.share).sum(axis=1)
             table[name] = np.bincount(schedule.year, of_blocks, minlength=problem.years + 1)[:count]
         earned = table.pop(CASH)
@@ -235,11 +238,12 @@ class BlockSchedule(Schedule):
         if not prices.size:
             return pd.DataFrame(columns=["limit", "side", "year", "price"])
         rows = [
-            (limit.name, "max" if limit.signed or np.isfinite(limit.most).all() else "min", year, price)
+            (limit.name, "max" if limit.signed or np.isfinite(limit.most).any() else "min", year, price)
             for limit, by_year in zip(problem.limits, prices)
             for year, price in enumerate(by_year, 1)
         ]
-        rows += [(MUST_MINE, "min", 0, by_year[0]) for _, by_year in zip(problem.dues, prices[len(problem.limits) :])]
+        of_totals = zip(problem.totals, prices[len(problem.limits) :])
+        rows += [(*name_and_side(total), 0, by_year[0]) for total, by_year in of_totals]
         return pd.DataFrame(rows, columns=["limit", "side", "year", "price"])
 
     @property
@@ -321,27 +325,33 @@ def scheduled(planned: PlannedBlocks, shells: Shells, progress: Progress = silen
 def inventory_table(blocks: BlockSchedule) -> pd.DataFrame:
     """Returns the inventory of a schedule by block: that of `scheduling.inventory.summed`, without pushbacks."""
     plan = blocks.planned.plan
+    return inventory.summed(inventory_flows(blocks), plan.project, [BLOCK])
+
+
+def inventory_flows(blocks: BlockSchedule) -> pd.DataFrame:
+    """Returns a row per block with tonnes and destination that takes a share of it."""
     parts = [inventory_rows(blocks, number) for number in range(len(blocks.planned.destinations))]
-    return inventory.summed(pd.concat(parts, ignore_index=True), plan.project, [BLOCK])
+    return pd.concat(parts, ignore_index=True)
 
 
 def inventory_rows(blocks: BlockSchedule, number: int) -> pd.DataFrame:
     """Returns a row per block with tonnes whose share goes to a destination, by its number."""
     planned, schedule = blocks.planned, blocks.found.schedule
-    plan, destination = planned.plan, planned.destinations[number]
+    plan, destination = planned.plan, planned.destinations.names[number]
+    process = number - len(planned.destinations.waste)
     mined = (schedule.year < planned.problem.years) & (plan.values.tonnes[planned.cells] > 0)
     some = np.flatnonzero(mined & (schedule.share[:, number] > SUM_ERROR))
     cells, share = planned.cells[some], schedule.share[some, number]
     found = {"method": BLOCK, "year": schedule.year[some] + 1, "bench": plan.grid.toes()[level_of(plan, cells)]}
     found |= codes_of(plan, cells) | {"source": PIT, "destination": destination}
-    tonnes, fed = plan.values.tonnes[cells] * share, np.zeros(len(share)) if destination == WASTE else share
+    tonnes, fed = plan.values.tonnes[cells] * share, np.zeros(len(share)) if process < 0 else share
     found |= {"total_tonnes": tonnes}
     found["feed_tonnes"] = plan.values.feed[cells] * fed
     for metal in plan.project.metals:
         grade = column_of(plan, metal.column, cells) * float(GRADE_UNITS[metal.unit])
         found[f"in_situ_{metal.name}"] = grade * tonnes
         found[f"contained_{metal.name}"] = grade * plan.values.undiluted[cells] * fed
-        recovered = np.zeros(1) if destination == WASTE else plan.values.by_process[number - 1].metal[metal.name][cells]
+        recovered = np.zeros(1) if process < 0 else plan.values.by_process[process].metal[metal.name][cells]
         found[f"recovered_{metal.name}"] = recovered * fed
     return pd.DataFrame(found)
 
@@ -373,39 +383,40 @@ def of_schedule(
     problem : BlockProblem
     schedule : Assignment
     multipliers : ndarray
-        The price of each limit in each year, below 0 for minimums: shape (limits, years).
+        The price of each limit in each year, below 0 for minimums, and behind them of each total: shape (limits and totals, years).
     discounts : ndarray
         The discount factor of each year: shape (years,).
 
     Raises
     ------
     PlanError
-        If values differ by year in more than the discount factor, if blocks must be mined, or if years have costs.
+        If values differ by year in more than the discount factor, or if years have costs.
     """
-    demand_free(problem)
     if problem.running_costs.any():
         raise PlanError(f"{WHOLE}: it cannot state costs of years")
     values = problem.values[:, :, 0] / discounts[0]
     if not np.allclose(values[:, :, None] * discounts, problem.values, rtol=SUM_ERROR, atol=BLOCK_MONEY):
         raise PlanError(f"{WHOLE}: it cannot state prices or costs that differ by year")
-    prices = multipliers if multipliers.size else np.zeros((len(problem.limits), problem.years))
+    count = len(problem.limits)
+    prices = multipliers if multipliers.size else np.zeros((count + len(problem.totals), problem.years))
     unit = money_unit([values], [np.abs(prices)])
     limits = [it for limit, paid in zip(problem.limits, prices / unit) for it in stated(limit, paid)]
+    limits += [stated_total(total, paid) for total, paid in zip(problem.totals, prices[count:] / unit)]
     rows, shares = rows_of(limits, shares_of(schedule, problem.years))
     predecessors = Predecessors(problem.precedences.starts, problem.precedences.needed)
     worth = millionths(values / unit)
     return Certificate(worth.shape[1], terms_of(worth), millionths(discounts), rows, predecessors, shares, unit)
 
 
-def demand_free(problem: BlockProblem) -> None:
-    """Raises PlanError if blocks must be mined, which the texts cannot state."""
-    if problem.dues:
-        raise PlanError(f"{WHOLE}: it cannot state that blocks must be mined: schedule without a certificate")
-
-
 def sides_of(problem: BlockProblem) -> tuple[tuple[str, str], ...]:
     """Returns name and side of the limits of the texts, in their order."""
-    return tuple((limit.name, side) for limit in problem.limits for side in sides(limit))
+    of_years = [(limit.name, side) for limit in problem.limits for side in sides(limit)]
+    return (*of_years, *map(name_and_side, problem.totals))
+
+
+def name_and_side(total: TotalLimit) -> tuple[str, str]:
+    """Returns what bound.csv calls a total, and its side."""
+    return (MUST_MINE, "min") if total.least else (total.name, "max")
 
 
 def sides(limit: BlockLimit) -> list[str]:
@@ -437,8 +448,22 @@ def stated(limit: BlockLimit, prices: NDArray[np.float64]) -> list[StatedLimit]:
     for side in sides(limit):
         sign, bound = (1.0, limit.most) if side == "max" else (-1.0, limit.floor)
         terms = used_terms(millionths(sign * limit.amounts, down=True))
-        found.append(StatedLimit(LimitOfYears(limit.name, sign * bound, sign * prices), terms, side == "min"))
+        # Waste that one dump takes goes to no other.
+        is_loose = side == "min" or limit.name.startswith(DUMP)
+        found.append(StatedLimit(LimitOfYears(limit.name, sign * bound, sign * prices), terms, is_loose))
     return found
+
+
+def stated_total(total: TotalLimit, prices: NDArray[np.float64]) -> StatedLimit:
+    """Returns a total as a limit of what is used by the end of each year, with turned signs if it is a minimum. It has a price in the last year alone,
+    in which a minimum is due."""
+    name, side = name_and_side(total)
+    sign, bound = (1.0, total.most) if side == "max" else (-1.0, total.least)
+    last = np.arange(len(prices)) == len(prices) - 1
+    most = np.where(last | (side == "max"), sign * bound, 0.0)
+    amounts = used_terms(millionths(sign * total.amounts, down=True))
+    terms = tuple(replace(term, lag=lag) for term in amounts for lag in range(len(prices)))
+    return StatedLimit(LimitOfYears(name, most, sign * prices * last), terms, is_loose=True)
 
 
 def used_terms(amounts: NDArray[np.int64]) -> tuple[Term, ...]:

@@ -22,7 +22,7 @@ from pitplan.scheduling.highs import Programme
 from pitplan.scheduling.highs_process import solve
 
 from .filling import ranks_of
-from .problem import Assignment, BlockLimit, BlockProblem, Due
+from .problem import Assignment, BlockLimit, BlockProblem, TotalLimit
 from .relaxation import earliest_years
 
 # A window has about MOST_UNKNOWNS integer unknowns at most, at first FEWER, and at most MOST_YEARS years unless all blocks fit.
@@ -83,10 +83,13 @@ class Window:
             for year in np.flatnonzero(limit.floor > 0):
                 shares = limit.amounts[:, None, :] * (np.arange(self.years) == year)[None, :, None] / limit.floor[year]
                 rows.append(hstack([csr_matrix((1, self.place.size)), csr_matrix(shares.reshape(1, -1))], format="csr"))
-        for due in self.part.dues:
-            shares = np.repeat(due.amounts[:, None, :] / due.least, self.years, axis=1)
-            rows.append(hstack([csr_matrix((1, self.place.size)), csr_matrix(shares.reshape(1, -1))], format="csr"))
+        rows += [self.of_total(total, total.least) for total in self.part.totals if total.least > 0]
         return vstack(rows, format="csr")
+
+    def of_total(self, total: TotalLimit, unit: float) -> csr_matrix:
+        """The row of what shares add to a total in all years, in a unit."""
+        shares = np.repeat(total.amounts[:, None, :] / unit, self.years, axis=1)
+        return hstack([csr_matrix((1, self.place.size)), csr_matrix(shares.reshape(1, -1))], format="csr")
 
     def bounds(self) -> tuple[NDArray[np.int64], NDArray[np.int64]]:
         """For each free block the first year in which its fixed predecessors are mined and its free ones fit into the capacity that is left.
@@ -136,12 +139,15 @@ class Window:
             self.left(limit, limit.most[years] - sums, limit.floor[years] - sums)
             for limit, sums in zip(self.problem.limits, taken)
         ]
-        owed = [(due, due.least - float((due.amounts * others).sum())) for due in self.problem.dues]
-        dues = tuple(
-            Due(due.name, due.amounts[self.blocks], least) for due, least in owed if least > SUM_ERROR * due.least
-        )
+        totals = tuple(self.left_of_total(total, total.used(others)) for total in self.problem.totals)
         precedences = self.problem.precedences.within(self.number >= 0)
-        return BlockProblem(self.problem.values[self.blocks, :, years], precedences, tuple(limits), dues)
+        return BlockProblem(self.problem.values[self.blocks, :, years], precedences, tuple(limits), totals)
+
+    def left_of_total(self, total: TotalLimit, used: float) -> TotalLimit:
+        """A total of the free blocks, with what the use of the others leaves of its least and its most."""
+        least = total.least - used
+        due = least if least > SUM_ERROR * total.least else 0.0
+        return TotalLimit(total.name, total.amounts[self.blocks], due, max(total.most - used, 0.0))
 
     def left(self, limit: BlockLimit, most: NDArray[np.float64], least: NDArray[np.float64]) -> BlockLimit:
         """A limit of the free blocks, with what the others leave of its most and its least. Of a signed one these may be below 0."""
@@ -151,7 +157,7 @@ class Window:
         return BlockLimit(limit.name, amounts, np.maximum(most, 0.0), np.maximum(least, 0.0))
 
     def limits(self) -> tuple[csr_matrix, NDArray[np.float64]]:
-        """A row for each limit and year that has one, as shares of the greatest amount of a block."""
+        """A row for each limit and year that has one, and for each total, as shares of the greatest amount of a block."""
         truths, rows, left = csr_matrix((self.years, self.place.size)), [csr_matrix((0, self.width))], [np.zeros(0)]
         for limit in self.part.limits:
             some, unit = np.isfinite(limit.most), float(np.abs(limit.amounts).max(initial=0.0)) or 1.0
@@ -159,6 +165,10 @@ class Window:
             shares = shares.reshape(self.years, -1) / unit
             rows.append(hstack([truths, csr_matrix(shares)], format="csr")[some])
             left.append(limit.most[some] / unit)
+        for total in (it for it in self.part.totals if np.isfinite(it.most)):
+            unit = float(total.amounts.max(initial=0.0)) or 1.0
+            rows.append(self.of_total(total, unit))
+            left.append(np.array([total.most / unit]))
         return vstack(rows, format="csr"), np.concatenate(left)
 
     def due(self, latest: NDArray[np.int64]) -> tuple[csr_matrix, NDArray[np.float64]]:

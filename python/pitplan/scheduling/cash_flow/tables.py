@@ -174,7 +174,7 @@ class BlockOperation(Operation):
     @property
     def share(self) -> NDArray[np.float64]:
         """The share of each block that goes to each process, shape (blocks, processes)."""
-        return self.blocks.found.schedule.share[:, 1:]
+        return self.blocks.found.schedule.share[:, len(self.blocks.planned.destinations.waste) :]
 
     def by_year(self, values: NDArray[np.float64]) -> Amounts:
         """Returns the sums of values of blocks that may be mined by the period in which they are."""
@@ -193,6 +193,16 @@ class BlockOperation(Operation):
     def recovered(self, metal: str) -> Amounts:
         ways = enumerate(self.plan.values.by_process)
         return np.stack([self.fed(way.metal[metal], process) for process, way in ways])
+
+    def placed(self, values: NDArray[np.float64], dump: int) -> Amounts:
+        """Returns what a dump takes, by its number."""
+        return self.by_year(values[self.blocks.planned.cells] * self.blocks.found.schedule.share[:, dump])
+
+    @property
+    def dump_costs(self) -> Lines:
+        dumps, tonnes = self.plan.project.dumps, self.plan.values.tonnes
+        costs = [it.cost * self.placed(tonnes, number) for number, it in enumerate(dumps)]
+        return {"dump_cost": np.sum(costs, axis=0)} if dumps else {}
 
 
 def block_finances(blocks: BlockSchedule) -> list[Finance]:

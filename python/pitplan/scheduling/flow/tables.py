@@ -2,7 +2,7 @@
 
 from __future__ import annotations
 
-from collections.abc import Iterator
+from collections.abc import Iterator, Mapping, Sequence
 from dataclasses import dataclass
 from functools import cached_property
 from typing import TYPE_CHECKING, Any, Optional
@@ -304,14 +304,23 @@ def balance_of(schedule: PushbackSchedule, method: str, name: str, flows: pd.Dat
     return table.reset_index()[["method", "stockpile", "year", *columns]]
 
 
-def dump_table(schedule: PushbackSchedule) -> pd.DataFrame:
+def dump_table(flows: pd.DataFrame, last: Mapping[str, int], dumps: Sequence[Dump]) -> pd.DataFrame:
     """Returns one row per method, dump and year: in_tonnes, closing_tonnes in the dump at the end of the year, and room_tonnes that its capacity
-    leaves then; empty without a capacity."""
-    flows, found = schedule.material_flows, []
-    for method in schedule.flows:
-        years = pd.RangeIndex(1, schedule.flows[method].years + 1, name="year")
+    leaves then; empty without a capacity.
+
+    Parameters
+    ----------
+    flows : DataFrame
+        With method, year, destination and total_tonnes.
+    last : mapping of str to int
+        The last year of each method.
+    dumps : sequence of Dump
+    """
+    found = []
+    for method, count in last.items():
+        years = pd.RangeIndex(1, count + 1, name="year")
         mine = flows[flows["method"] == method]
-        for it in schedule.model.dumps:
+        for it in dumps:
             placed = mine[mine["destination"] == it.name].groupby("year")["total_tonnes"].sum()
             placed = placed.reindex(years, fill_value=0.0)
             held = placed.cumsum()

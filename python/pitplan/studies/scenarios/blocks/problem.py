@@ -121,6 +121,7 @@ def demand_of_scenarios(project: Project) -> None:
             it.min for it in rules.limits
         ),
         "[[periods]] minimum: a common schedule cannot meet it in each scenario": calendar.has(lambda it: it.minimum),
+        "[[dumps]]: the mean of scenarios has no codes by which dumps accept blocks": bool(project.dumps),
         "[[metals]] prices: a scenario has one price for all years": any(metal.prices for metal in project.metals),
         "[[periods]] prices: a scenario has one price for all years": calendar.has(lambda it: it.prices),
     }

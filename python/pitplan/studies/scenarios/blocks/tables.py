@@ -184,7 +184,7 @@ class Schedules:
     def by_block(self, shared: Shared, blocks: pd.DataFrame) -> pd.DataFrame:
         """Returns the rows of blocks.csv, by id, with the year in the common schedule (0: none) and the share that is planned for each process."""
         order = np.argsort(shared.grid.rows)
-        names = destinations_of(shared.project)[1:]
+        names = destinations_of(shared.project).processes
         shares = {f"{SHARE}{name}": share for name, share in zip(names, self.one.share[order].round(9).T)}
         return pit_probability.written(blocks).assign(year=self.one.year[order], **shares)
 
