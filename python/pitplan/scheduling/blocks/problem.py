@@ -29,6 +29,8 @@ from pitplan.errors import PlanError
 # the same in any unit: the library's millionths stand for it here.
 
 BITS = 50
+# An integer programme has about this number of blocks times years at most.
+MOST_UNKNOWNS = 5_000
 # Half the distance from 1 to the next float: the greatest error, as a share, of one sum or product.
 ROUNDING = 2.0**-53
 

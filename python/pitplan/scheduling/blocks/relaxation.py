@@ -724,9 +724,10 @@ def reduced(problem: BlockProblem, required: Optional[NDArray[np.bool_]] = None)
 
 
 def first_required(problem: BlockProblem) -> NDArray[np.bool_]:
-    """Returns the blocks that may be required from the first: with a minimum, which may not be met without them, all that take from a signed
-    limit; otherwise none."""
-    return problem.easing if problem.owes else np.zeros(problem.blocks, dtype=bool)
+    """Returns the blocks that may be required from the first: all that take from a signed limit with a minimum, which may not be met without them, and if
+    one integer programme has all blocks, which finds the best schedule with them; otherwise none."""
+    is_asked = problem.owes or problem.blocks * problem.years <= MOST_UNKNOWNS
+    return problem.easing if is_asked else np.zeros(problem.blocks, dtype=bool)
 
 
 @dataclass

@@ -22,13 +22,21 @@ from pitplan.scheduling.highs import Programme
 from pitplan.scheduling.highs_process import solve
 
 from .filling import ranks_of
-from .problem import Assignment, BlockLimit, BlockProblem, TotalLimit
+from .problem import MOST_UNKNOWNS, Assignment, BlockLimit, BlockProblem, TotalLimit
 from .relaxation import earliest_years
 
-# A window has about MOST_UNKNOWNS integer unknowns at most, at first FEWER, and at most MOST_YEARS years unless all blocks fit.
-FEWER, MOST_UNKNOWNS, MOST_YEARS = 2_500, 5_000, 4
+# A window has at first about FEWER integer unknowns at most, and at most MOST_YEARS years unless all blocks fit.
+FEWER, MOST_YEARS = 2_500, 4
 # The penalty of a minimum that is missed entirely, as a multiple of what all free blocks earn or cost.
 LACKING = 10.0
+
+
+class Running(NamedTuple):
+    """Whether the mine runs in years: their costs, and rows, at most 0, of the unknowns of blocks and of those of these years."""
+
+    costs: NDArray[np.float64]
+    mined: csr_matrix
+    runs: csr_matrix
 
 
 @dataclass(frozen=True)
@@ -64,15 +72,39 @@ class Window:
         soonest, latest = self.bounds()
         parts = [*self.shares(), self.order(), self.limits(), self.due(latest)]
         allowed = np.arange(self.first, self.last) >= soonest[:, None]
-        matrix, owed = vstack([matrix for matrix, _ in parts], format="csr"), self.owed()
+        matrix, owed, running = vstack([matrix for matrix, _ in parts], format="csr"), self.owed(), self.running()
         # What lacks of a least costs more than all blocks could earn.
         penalty = LACKING * max(float(np.abs(gain).sum()) / unit, 1.0)
+        more = owed.shape[0] + len(running.costs)
+        rows = bmat(
+            [[matrix, None, None], [-owed, -eye(owed.shape[0]), None], [running.mined, None, running.runs]],
+            format="csr",
+        )
         return Programme(
-            gain=np.concatenate([np.zeros(truths), gain / unit, np.full(owed.shape[0], -penalty)]),
-            matrix=bmat([[matrix, None], [-owed, -eye(owed.shape[0])]], format="csr") if owed.shape[0] else matrix,
-            most=np.concatenate([*(most for _, most in parts), -np.ones(owed.shape[0])]),
-            upper=np.concatenate([allowed.ravel().astype(float), np.ones(len(gain) + owed.shape[0])]),
-            whole=np.arange(truths + len(gain) + owed.shape[0]) < truths,
+            gain=np.concatenate(
+                [np.zeros(truths), gain / unit, np.full(owed.shape[0], -penalty), -running.costs / unit]
+            ),
+            matrix=rows,
+            most=np.concatenate(
+                [*(most for _, most in parts), -np.ones(owed.shape[0]), np.zeros(running.runs.shape[0])]
+            ),
+            upper=np.concatenate([allowed.ravel().astype(float), np.ones(len(gain) + more)]),
+            whole=np.arange(truths + len(gain) + more) < truths,
+        )
+
+    def running(self) -> Running:
+        """The years of the window after all other blocks are mined: each costs if a free block is mined in it or later."""
+        others = self.schedule.year[(self.number < 0) & (self.schedule.year < self.problem.years)]
+        years = np.arange(max(self.first, int(others.max(initial=-1)) + 1), self.last) - self.first
+        years = years if self.problem.costs is not None else years[:0]
+        count, blocks = len(years), len(self.blocks)
+        mined = eye(self.years, format="csr")[years] - eye(self.years, k=-1, format="csr")[years]
+        later = eye(count - 1, count) * -1 + eye(count - 1, count, k=1) if count > 1 else csr_matrix((0, count))
+        of_blocks = hstack([kron(eye(blocks), mined), csr_matrix((blocks * count, self.width - self.place.size))])
+        return Running(
+            self.problem.running_costs[self.first + years],
+            vstack([of_blocks, csr_matrix((later.shape[0], self.width))], format="csr"),
+            vstack([kron(np.ones((blocks, 1)), -eye(count)), later], format="csr"),
         )
 
     def owed(self) -> csr_matrix:
