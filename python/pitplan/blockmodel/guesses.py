@@ -449,11 +449,8 @@ class GuessedModel:
 
     Attributes
     ----------
-    file : Path
-    form : TableFormat
     frame : DataFrame
         The rows that are blocks; nan for a null.
-    columns : GuessedColumns
     nulls : dict of str to NullGuess
         By column.
     rows : int
@@ -494,8 +491,6 @@ class TableRows:
 
     Attributes
     ----------
-    file : Path
-    form : TableFormat
     frame : DataFrame
         Numbers as numbers, everything else as text.
     cleaned : dict

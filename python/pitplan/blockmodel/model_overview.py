@@ -55,7 +55,6 @@ class Overview:
 
     Attributes
     ----------
-    notes : list of str
     columns : list of tuple of str
         The fields of each column, in the order of HEADINGS.
     warnings : list of str

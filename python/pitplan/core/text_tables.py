@@ -625,8 +625,6 @@ def read_parts(file: Path, form: TableFormat, options: Mapping[str, Any]) -> Opt
 
     Parameters
     ----------
-    file : Path
-    form : TableFormat
     options : mapping
         Those of `pandas.read_csv`; `dtype` has the columns of texts.
     """

@@ -56,7 +56,6 @@ class Recognised:
 
     Attributes
     ----------
-    notes, warnings : list of str
     columns : list of dict
         Column, role, unit, nulls, least, mean, greatest, why and set (the role as `--role` has it), as texts.
     figure : str

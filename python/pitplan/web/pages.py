@@ -80,8 +80,6 @@ class Pages:
 
     Parameters
     ----------
-    workspace : Workspace
-    jobs : Jobs
     version : str
         That of pitplan, at the foot of each page.
     """
