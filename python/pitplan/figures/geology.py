@@ -13,7 +13,7 @@ from matplotlib.colors import BoundaryNorm, ListedColormap
 from matplotlib.patches import Patch
 from numpy.typing import NDArray
 
-from pitplan.blockmodel.guesses import GuessedModel, least_gap, size_of, turned_grid
+from pitplan.blockmodel.guesses import GuessedModel
 from pitplan.config.economics import GRADE_SIGNS
 from pitplan.core.tolerances import SIDE_ERROR
 from pitplan.plan import Plan
@@ -149,7 +149,7 @@ def write_block_model(model: GuessedModel, path: Path) -> None:
     with figure_file(path, 12, 8.6) as figure:
         above, below = figure.subfigures(2, 1, height_ratios=(1, 1.7))
         for axis, (name, unit) in zip(np.ravel(above.subplots(1, len(shown), squeeze=False)), shown):
-            plot_histogram(axis, model.frame[name].to_numpy(dtype=np.float64), f"{name}, {unit}")
+            plot_histogram(axis, model.values(name), f"{name}, {unit}")
         plan, section = below.subplots(1, 2)
         plot_maps(model, plan, section)
 
@@ -202,8 +202,7 @@ def plot_maps(model: GuessedModel, plan: Axes, section: Axes) -> None:
 
 def cube_of(model: GuessedModel, column: str) -> Cube:
     """Returns the means of a column by cells of the box; cells of several sizes lie in blocks of the largest."""
-    turned = turned_grid(model)
-    values = model.frame[column].to_numpy(dtype=np.float64)
+    turned, values = model.turned, model.values(column)
     places = [along(model, axis) for axis in "xyz"]
     names = ("east", "north")
     if turned:
@@ -224,12 +223,12 @@ def cube_of(model: GuessedModel, column: str) -> Cube:
 
 def along(model: GuessedModel, axis: str) -> tuple[np.ndarray, float, float]:
     """Returns the block of each row along an axis, from 0; the edge of the first, and the size of a block, in metres."""
-    values = model.frame[model.columns.centres[axis].column].to_numpy(dtype=np.float64)
+    values = model.centres(axis)
     if axis in model.columns.sizes:
-        sizes = model.frame[model.columns.sizes[axis].column].to_numpy(dtype=np.float64)
+        sizes = model.sides(axis)
         size, edge = float(sizes.max()), float((values - sizes / 2).min())
     else:
-        known, _ = size_of(model)
-        size = known["xyz".index(axis)] if known else least_gap(model, axis) or 1.0
+        known, _ = model.size
+        size = known["xyz".index(axis)] if known else model.least_gap(axis) or 1.0
         edge = float(values.min()) - size / 2
     return np.floor((values - edge) / size + SIDE_ERROR).astype(np.int64), edge, size
