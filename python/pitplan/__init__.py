@@ -36,10 +36,10 @@ Functions write what the subcommands write, by default into the output folder of
 sensitivity. `gather(folder)` gathers scenarios that other machines have solved.
 
 Functions `plot_...` draw on your own axes, return them, and leave the backend of matplotlib unchanged. Import their module first, as
-`import pitplan.figures.pit_by_pit`. They take:
+`import pitplan.figures.pits`. They take:
 
-- `pit_by_pit`: `shells.table`
-- `annual.plot_years`: `shells.years`
+- `pits.plot_pit_by_pit`: `shells.table`
+- `schedule.plot_years`: `shells.years`
 - `plans_sections`: its `scene_of(shells)`
 - `pushbacks`: its `scene_of(pushbacks)`
 - `scenarios`: `found.likely(1.0)` or `found.table`

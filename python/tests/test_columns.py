@@ -219,7 +219,7 @@ def test_each_column_that_is_shown_has_a_heading(name):
 
 
 def test_a_column_that_is_shown_and_is_in_no_table_is_an_error():
-    with pytest.raises(KeyError, match="shells.csv: npv is shown, but is no column"):
+    with pytest.raises(KeyError, match="shells.csv has no column npv"):
         report.Display(columns.SHELLS, ("npv",), ()).column("npv")
 
 

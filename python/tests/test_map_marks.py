@@ -15,7 +15,7 @@ from pitplan import PlanError
 from pitplan.blockmodel.grid import Grid
 from pitplan.config.project import FigureRules
 from pitplan.figures import map_marks, plans_sections, pushbacks, scenarios
-from pitplan.figures.style import ALSO, also_as, finish, panels
+from pitplan.figures.style import ALSO, also_as, finish, panels_file
 
 METALS = '[[metals]]\nname = "gold"\ncolumn = "au"\nunit = "gram_per_tonne"\nprice = 60\nrecovery = 0.9\n[slopes]\n'
 
@@ -135,9 +135,9 @@ def test_sections_and_levels_are_those_asked_for():
     )
 
 
-def test_a_picture_of_two_maps_has_no_empty_frames():
-    figure, axes = panels(100.0, 100.0, 3)
-    assert len(axes) == 3 and [ax.axison for ax in figure.axes] == [True, True, True, False]
+def test_a_picture_of_three_maps_has_no_empty_frames(tmp_path):
+    with panels_file(tmp_path / "maps.png", 100.0, 100.0, 3) as axes:
+        assert len(axes) == 3 and [ax.axison for ax in axes[0].figure.axes] == [True, True, True, False]
 
 
 def pushback_scene(rules=FigureRules()):

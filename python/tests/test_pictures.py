@@ -175,13 +175,10 @@ def at_a_zone(origin=(430010.0, 6512012.5, 806.25)):
     return grid, np.where(inside, 1.0, 0.0)
 
 
-def drawn_of(monkeypatch, module, draw):
+def drawn_of(monkeypatch, draw):
     """The figure that a picture would write, drawn."""
     figures = []
-    for place in (module, style):
-        monkeypatch.setattr(
-            place, "finish", lambda figure, path: (FigureCanvasAgg(figure).draw(), figures.append(figure))
-        )
+    monkeypatch.setattr(style, "finish", lambda figure, path: (FigureCanvasAgg(figure).draw(), figures.append(figure)))
     draw()
     return figures[0]
 
@@ -204,7 +201,7 @@ def test_plans_and_sections_have_coordinates_in_full(monkeypatch):
     metal = pitplan.config.project.Metal(name="copper", column="cu", unit="percent", price=0, recovery=1)
     scene = plans_sections.Scene(grid, factor, np.ones(grid.shape, dtype=bool), np.ones(grid.shape), metal, 1.0)
     for draw in (plans_sections.write_plans, plans_sections.write_sections):
-        figure = drawn_of(monkeypatch, plans_sections, lambda draw=draw: draw(scene, None))
+        figure = drawn_of(monkeypatch, lambda draw=draw: draw(scene, None))
         demand_plain_coordinates(figure)
         titles = [axis.get_title(loc="left") for axis in figure.axes]
     # Row 10 from 6512012.5 by 25 m, and column 12 from 430010 by 20 m.
@@ -214,7 +211,7 @@ def test_plans_and_sections_have_coordinates_in_full(monkeypatch):
 
 @pytest.mark.parametrize("draw", [pushbacks.write_plans, pushbacks.write_sections])
 def test_pushbacks_have_coordinates_in_full_and_nothing_overlaps(monkeypatch, draw):
-    figure = drawn_of(monkeypatch, pushbacks, lambda: draw(pushback_scene(), None))
+    figure = drawn_of(monkeypatch, lambda: draw(pushback_scene(), None))
     demand_plain_coordinates(figure)
     boxes = [axis.get_tightbbox() for axis in figure.axes]
     assert not any(one.overlaps(other) for k, one in enumerate(boxes) for other in boxes[:k])
@@ -237,7 +234,7 @@ def test_what_is_dug_of_pushbacks_is_rock_that_is_in_one():
 
 def test_sections_of_pushbacks_are_as_high_as_the_ground_is_deep(monkeypatch):
     """150 m of the lesser side, 480 m: each of two maps 5.2 inches wide is so much less high, with 1.6 inches for what is written."""
-    figure = drawn_of(monkeypatch, pushbacks, lambda: pushbacks.write_sections(pushback_scene(), None))
+    figure = drawn_of(monkeypatch, lambda: pushbacks.write_sections(pushback_scene(), None))
     assert figure.get_size_inches().tolist() == pytest.approx([12, 5.2 * 150 / 480 + 1.6])
 
 
@@ -252,7 +249,7 @@ def test_what_plans_and_sections_show_of_pushbacks(panels):
     assert (np.ma.getmaskarray(drawn) == ~inside).all() and (drawn[inside] == expected[inside]).all()
     assert level.get_title(loc="left") + level.get_title() == "Pushbacks on the level 787.5 to 800 m"
     # Shown from the bottom up: the deepest of the row's blocks has 6 levels, of which the sixth is one block wide and more.
-    drawn = pushbacks.plot_from_west_to_east(scene, 14, west_east).images[1].get_array()
+    drawn = pushbacks.plot_section(scene, scene.from_west_to_east(14), west_east).images[1].get_array()
     assert [int(np.ma.count(line)) for line in drawn[::-1]] == [max(0, 2 * (12 - 4 - 2 * k) - 1) for k in range(12)]
     assert set(np.ma.compressed(drawn)) == {2}
 
@@ -261,7 +258,7 @@ def test_probabilities_have_coordinates_in_full(monkeypatch):
     grid, factor = at_a_zone()
     likely = scenarios.Likely(grid, factor, np.ones(grid.shape, dtype=bool), 1.0, 3)
     for draw in (scenarios.write_plans, scenarios.write_sections):
-        figure = drawn_of(monkeypatch, scenarios, lambda draw=draw: draw(likely, None))
+        figure = drawn_of(monkeypatch, lambda draw=draw: draw(likely, None))
         demand_plain_coordinates(figure)
         titles = [axis.get_title(loc="left") for axis in figure.axes]
     assert titles[:2] == ["West to east (A) at north 6512262.5", "South to north (B) at east 430250"]
@@ -305,25 +302,25 @@ EACH = {
     "level": (1, lambda axes, project: [plans_sections.plot_level(scene(), 2, axes[0])]),
     "shells": (
         1,
-        lambda axes, project: [
-            plans_sections.plot_shells(scene(), scene().plane(scene().from_west_to_east(10)), axes[0])
-        ],
+        lambda axes, project: [plans_sections.plot_shells(scene(), scene().from_west_to_east(10), axes[0])],
     ),
     "grades": (
         1,
-        lambda axes, project: [
-            plans_sections.plot_grades(scene(), scene().plane(scene().from_south_to_north(12)), axes[0])
-        ],
+        lambda axes, project: [plans_sections.plot_grades(scene(), scene().from_south_to_north(12), axes[0])],
     ),
     "pushbacks on the ground": (1, lambda axes, project: [pushbacks.plot_surface(pushback_scene(), axes[0])]),
     "pushbacks on a level": (1, lambda axes, project: [pushbacks.plot_level(pushback_scene(), 2, axes[0])]),
     "pushbacks along a row": (
         1,
-        lambda axes, project: [pushbacks.plot_from_west_to_east(pushback_scene(), 10, axes[0])],
+        lambda axes, project: [
+            pushbacks.plot_section(pushback_scene(), pushback_scene().from_west_to_east(10), axes[0])
+        ],
     ),
     "pushbacks along a column": (
         1,
-        lambda axes, project: [pushbacks.plot_from_south_to_north(pushback_scene(), 12, axes[0])],
+        lambda axes, project: [
+            pushbacks.plot_section(pushback_scene(), pushback_scene().from_south_to_north(12), axes[0])
+        ],
     ),
     "plans of pushbacks": (4, lambda axes, project: pushbacks.plot_plans(pushback_scene(), axes)),
     "sections of pushbacks": (2, lambda axes, project: pushbacks.plot_sections(pushback_scene(), axes)),

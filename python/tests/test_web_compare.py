@@ -9,7 +9,7 @@ from helpers.pushbacks import UPRIGHT, pillars
 from starlette.testclient import TestClient
 
 import pitplan
-from pitplan.web import compare_pages
+from pitplan.web import output_pages
 from pitplan.web.jobs import Jobs
 from pitplan.web.run_form import WrongForm
 from pitplan.web.security import Access
@@ -83,16 +83,16 @@ def test_runs_are_chosen_and_compared(root, client):
 )
 def test_a_wrong_choice_is_refused_with_the_field(root, form, why):
     with pytest.raises(WrongForm, match=why):
-        compare_pages.read(form, Workspace(root))
+        output_pages.comparison(form, Workspace(root))
 
 
 def test_a_run_outside_is_not_there(root):
     with pytest.raises(NotThere):
-        compare_pages.read({"base": "low", "other-1": "../elsewhere"}, Workspace(root))
+        output_pages.comparison({"base": "low", "other-1": "../elsewhere"}, Workspace(root))
 
 
 def test_without_a_bridge_nothing_is_run(root):
-    found = compare_pages.read({"base": "low", "other-1": "high"}, Workspace(root))
+    found = output_pages.comparison({"base": "low", "other-1": "high"}, Workspace(root))
     assert found.words == ("compare", "low", "high", "--out=low-compared", "--no-bridge")
 
 

@@ -454,8 +454,6 @@ def of_table(frame: pd.DataFrame, project: Project, source: str = "table", any_s
 
     Parameters
     ----------
-    frame : DataFrame
-    project : Project
     source : str
         How errors name the table.
     any_size : bool

@@ -6,6 +6,7 @@ import codecs
 import re
 from collections.abc import Iterable, Mapping, Sequence
 from dataclasses import dataclass, field
+from functools import cached_property
 from pathlib import Path
 from typing import Optional
 
@@ -445,15 +446,12 @@ NEEDED = ("tonnes", "density", "volume", "rock_percent")
 
 @dataclass(frozen=True)
 class GuessedModel:
-    """A table with its guessed columns.
+    """A table with its guessed columns, and what follows from them.
 
     Attributes
     ----------
-    file : Path
-    form : TableFormat
     frame : DataFrame
         The rows that are blocks; nan for a null.
-    columns : GuessedColumns
     nulls : dict of str to NullGuess
         By column.
     rows : int
@@ -467,8 +465,20 @@ class GuessedModel:
     nulls: dict[str, NullGuess]
     rows: int
 
+    def values(self, column: str) -> np.ndarray:
+        """Returns the numbers of a column."""
+        return self.frame[column].to_numpy(dtype=np.float64)
+
     def numbers(self, key: str) -> np.ndarray:
-        return self.frame[self.columns.named[key].column].to_numpy(dtype=np.float64)
+        """Returns the numbers of the column of a role, such as tonnes."""
+        return self.values(self.columns.named[key].column)
+
+    def centres(self, axis: str) -> np.ndarray:
+        return self.values(self.columns.centres[axis].column)
+
+    def sides(self, axis: str) -> np.ndarray:
+        """Returns the size of each row's cell along an axis."""
+        return self.values(self.columns.sizes[axis].column)
 
     @property
     def source(self) -> TableSource:
@@ -480,12 +490,107 @@ class GuessedModel:
         named = self.columns.named
         if "tonnes" in named:
             return ["tonnes"]
-        has_parts = has_several_sizes(self)
-        return [key for key in ("density", "volume") if key in named and not (key == "volume" and has_parts)]
+        return [
+            key for key in ("density", "volume") if key in named and not (key == "volume" and self.has_several_sizes)
+        ]
 
     @property
     def grades(self) -> list[str]:
         return [metal.column for metal in self.columns.metals]
+
+    @cached_property
+    def has_several_sizes(self) -> bool:
+        return any(self.frame[guess.column].nunique() > 1 for guess in self.columns.sizes.values())
+
+    @cached_property
+    def size(self) -> tuple[Optional[list[float]], str]:
+        """The block size if the table gives it or tonnes need it, and how it is known; None if the centroids alone give it."""
+        columns = self.columns
+        if columns.sizes and not self.has_several_sizes:
+            names = [columns.sizes[axis].column for axis in "xyz"]
+            return [float(self.frame[name].iloc[0]) for name in names], f"by {', '.join(names)}"
+        turned = self.turned
+        gaps = [*turned.size, self.least_gap("z")] if turned else [self.least_gap(axis) for axis in "xyz"]
+        flat = [axis for axis, gap in zip("xyz", gaps) if gap is None]
+        has_volume = "tonnes" in columns.named or "volume" in columns.named
+        if not flat and has_volume:
+            return None, ""
+        # Of an axis along which all lie at one place nothing is known.
+        filled = [min((known for known in gaps if known), default=1.0) if gap is None else gap for gap in gaps]
+        guessed = f"; set your own along {' and '.join(flat)}, where all centroids are equal" if flat else ""
+        volumes = "" if has_volume else ", from which volumes are computed for the density"
+        return filled, f"the smallest steps between centroids{volumes}{guessed}"
+
+    @cached_property
+    def turned(self) -> Optional[Places]:
+        """The blocks' places on a turned grid; None if rows go east, or cells have several sizes."""
+        if self.has_several_sizes:
+            return None
+        centres, rules = np.stack([self.centres(axis) for axis in "xy"], axis=1), GridRules(None, TOLERANCE)
+        azimuth = None if np.isnan(centres).any() else azimuth_of(centres, rules.tolerance)
+        try:
+            return None if azimuth is None else of_centres(centres, azimuth, rules, str(self.file), columns="x, y")
+        except PlanError:
+            # The first run of the project reports the error.
+            return None
+
+    def least_gap(self, axis: str) -> Optional[float]:
+        """Returns the least step between centroids along an axis; None if all lie at one place."""
+        values = np.unique(self.centres(axis))
+        return float(np.diff(values).min()) if len(values) > 1 else None
+
+    def step(self, axis: str) -> Optional[float]:
+        """Returns the block size along an axis in metres; None if there are several."""
+        if self.has_several_sizes:
+            return None
+        size, _ = self.size
+        return size["xyz".index(axis)] if size else self.least_gap(axis)
+
+    @cached_property
+    def volumes(self) -> np.ndarray:
+        """The volume of each row in cubic metres, as far as it is known."""
+        if self.has_several_sizes:
+            return np.asarray(np.prod([self.sides(axis) for axis in "xyz"], axis=0))
+        if "volume" in self.columns.named:
+            return self.numbers("volume")
+        size, _ = self.size
+        return np.full(len(self.frame), np.prod(size or ()))
+
+    @cached_property
+    def share(self) -> tuple[Optional[Guess], str]:
+        """The column with the share of rock, if tonnes do not hold it already, and its unit."""
+        named = self.columns.named
+        guess = named.get("rock_percent")
+        if guess is None or "tonnes" in named:
+            return None, ""
+        if "volume" in named and not self.has_several_sizes and self.volumes.min() < self.volumes.max():
+            return None, ""
+        return guess, "percent" if self.numbers("rock_percent").max() > 1 else "fraction"
+
+    @cached_property
+    def tonnes(self) -> np.ndarray:
+        if "tonnes" in self.columns.named:
+            return np.nan_to_num(self.numbers("tonnes"))
+        guess, unit = self.share
+        share = 1.0 if guess is None else self.numbers("rock_percent") / (100 if unit == "percent" else 1)
+        return np.nan_to_num(self.numbers("density") * self.volumes * share)
+
+    @cached_property
+    def used(self) -> dict[str, str]:
+        """The columns that the project names, each with its role as `--role` has it."""
+        columns = self.columns
+        found = {guess.column: axis for axis, guess in columns.centres.items()}
+        found |= {columns.sizes[axis].column: key for key, axis in SIZE_ROLES.items() if axis in columns.sizes}
+        found |= {metal.column: Role(metal.metal, metal.unit).text for metal in columns.metals}
+        keys = [*self.weighed, "id", "rock_type", "domain", "class", "mcaf", "pcaf"]
+        keys += ["rock_percent"] if self.share[0] else []
+        named = {columns.named[key].column: key for key in columns.named if key in keys}
+        return named | found
+
+    @property
+    def unused(self) -> list[str]:
+        """The columns that the project does not name."""
+        return [name for name in map(str, self.frame.columns) if name not in self.used]
 
 
 @dataclass(frozen=True)
@@ -494,8 +599,6 @@ class TableRows:
 
     Attributes
     ----------
-    file : Path
-    form : TableFormat
     frame : DataFrame
         Numbers as numbers, everything else as text.
     cleaned : dict
@@ -510,9 +613,8 @@ class TableRows:
     def without_nulls_but(self, fixed: frozenset[str]) -> tuple[pd.DataFrame, dict[str, NullGuess]]:
         """Returns the table without nulls in all columns except some, and what was guessed of the nulls."""
         if fixed not in self.cleaned:
-            layout = self.form.layout
-            assert layout is not None
-            clean, nulls = without_nulls(self.frame, [name for name in self.frame if name not in fixed], layout)
+            wanted = [name for name in self.frame if name not in fixed]
+            clean, nulls = without_nulls(self.frame, wanted, self.form.layout)
             self.cleaned[fixed] = numbers_where_all_are(clean), nulls
         return self.cleaned[fixed]
 
@@ -538,11 +640,11 @@ def model_of(rows: TableRows, roles: Optional[Mapping[str, Role]] = None) -> Gue
     rough = with_roles(columns_of(rows.frame), roles, rows.frame)
     fixed = frozenset(guess.column for group in (rough.centres, rough.sizes) for guess in group.values())
     clean, nulls = rows.without_nulls_but(fixed)
-    assert rows.form.layout is not None
     hints = hints_of(list(clean.columns), rows.form.layout.below())
     columns = with_roles(columns_of(clean, hints), roles, clean)
     demand_roles(rows, clean, roles)
-    nulls = {name: guess for name, guess in nulls.items() if name not in identities(columns)}
+    if "id" in columns.named:
+        nulls = {name: guess for name, guess in nulls.items() if name != columns.named["id"].column}
     needed = [columns.named[key].column for key in NEEDED if key in columns.named]
     kept = clean[needed].notna().all(axis=1) if needed else pd.Series(True, index=clean.index)
     return GuessedModel(rows.file, rows.form, clean[kept].reset_index(drop=True), columns, nulls, len(rows.frame))
@@ -553,10 +655,6 @@ def demand_roles(rows: TableRows, frame: pd.DataFrame, roles: Mapping[str, Role]
     source = TableSource.of(str(rows.file), rows.form.header_row, rows.form.first_row)
     for name in [name for name, role in roles.items() if role.needs_numbers and holds_texts(frame[name])]:
         filled_numbers(frame[name], source, name, may_fill=False)
-
-
-def identities(columns: GuessedColumns) -> set[str]:
-    return {columns.named["id"].column} if "id" in columns.named else set()
 
 
 def demand_no_binary(file: Path) -> None:
@@ -578,78 +676,3 @@ def numbers_where_all_are(frame: pd.DataFrame) -> pd.DataFrame:
         if (numbers.notna() | (frame[name].astype(str).str.strip() == "")).all():
             result[name] = numbers
     return result
-
-
-def has_several_sizes(model: GuessedModel) -> bool:
-    return any(model.frame[guess.column].nunique() > 1 for guess in model.columns.sizes.values())
-
-
-def size_of(model: GuessedModel) -> tuple[Optional[list[float]], str]:
-    """Returns the block size if the table gives it or tonnes need it, and how it is known; None if the centroids alone give it."""
-    columns = model.columns
-    if columns.sizes and not has_several_sizes(model):
-        names = [columns.sizes[axis].column for axis in "xyz"]
-        return [float(model.frame[name].iloc[0]) for name in names], f"by {', '.join(names)}"
-    turned = turned_grid(model)
-    gaps = [*turned.size, least_gap(model, "z")] if turned else [least_gap(model, axis) for axis in "xyz"]
-    flat = [axis for axis, gap in zip("xyz", gaps) if gap is None]
-    has_volume = "tonnes" in columns.named or "volume" in columns.named
-    if not flat and has_volume:
-        return None, ""
-    # Of an axis along which all lie at one place nothing is known.
-    filled = [min((known for known in gaps if known), default=1.0) if gap is None else gap for gap in gaps]
-    guessed = f"; set your own along {' and '.join(flat)}, where all centroids are equal" if flat else ""
-    volumes = "" if has_volume else ", from which volumes are computed for the density"
-    return filled, f"the smallest steps between centroids{volumes}{guessed}"
-
-
-def turned_grid(model: GuessedModel) -> Optional[Places]:
-    """Returns the blocks' places on a turned grid; None if rows go east, or cells have several sizes."""
-    if has_several_sizes(model):
-        return None
-    centres = np.stack(
-        [model.frame[model.columns.centres[axis].column].to_numpy(dtype=np.float64) for axis in "xy"], axis=1
-    )
-    rules = GridRules(None, TOLERANCE)
-    azimuth = None if np.isnan(centres).any() else azimuth_of(centres, rules.tolerance)
-    try:
-        return None if azimuth is None else of_centres(centres, azimuth, rules, str(model.file), columns="x, y")
-    except PlanError:
-        # The first run of the project reports the error.
-        return None
-
-
-def least_gap(model: GuessedModel, axis: str) -> Optional[float]:
-    """Returns the least step between centroids along an axis; None if all lie at one place."""
-    values = np.unique(model.frame[model.columns.centres[axis].column].to_numpy(dtype=np.float64))
-    return float(np.diff(values).min()) if len(values) > 1 else None
-
-
-def volumes_of(model: GuessedModel) -> np.ndarray:
-    """Returns the volume of each row in cubic metres, as far as it is known."""
-    if has_several_sizes(model):
-        sides = [model.frame[model.columns.sizes[axis].column].to_numpy(dtype=np.float64) for axis in "xyz"]
-        return np.asarray(np.prod(sides, axis=0))
-    if "volume" in model.columns.named:
-        return model.numbers("volume")
-    size, _ = size_of(model)
-    return np.full(len(model.frame), np.prod(size or ()))
-
-
-def share_of(model: GuessedModel) -> tuple[Optional[Guess], str]:
-    """Returns the column with the share of rock, if tonnes do not hold it already, and its unit."""
-    guess = model.columns.named.get("rock_percent")
-    if guess is None or "tonnes" in model.columns.named:
-        return None, ""
-    volumes = volumes_of(model)
-    if "volume" in model.columns.named and not has_several_sizes(model) and volumes.min() < volumes.max():
-        return None, ""
-    return guess, "percent" if model.numbers("rock_percent").max() > 1 else "fraction"
-
-
-def tonnes_of(model: GuessedModel) -> np.ndarray:
-    if "tonnes" in model.columns.named:
-        return np.nan_to_num(model.numbers("tonnes"))
-    guess, unit = share_of(model)
-    share = 1.0 if guess is None else model.numbers("rock_percent") / (100 if unit == "percent" else 1)
-    return np.nan_to_num(model.numbers("density") * volumes_of(model) * share)

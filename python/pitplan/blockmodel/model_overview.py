@@ -14,32 +14,11 @@ from pitplan.core.numeric_fields import is_numeric
 from pitplan.core.text_tables import NAMES
 from pitplan.errors import WARNING
 
-from .guesses import (
-    NEEDED,
-    SIZE_ROLES,
-    UNUSED,
-    GuessedModel,
-    Role,
-    has_several_sizes,
-    least_gap,
-    share_of,
-    size_of,
-    tonnes_of,
-    turned_grid,
-    volumes_of,
-)
+from .guesses import NEEDED, ROLE_WORDS, UNUSED, GuessedModel, MetalGuess
 from .summary import AxisSummary, Grade, mean_of, not_used, of_codes
 
 HEADINGS = ("column", "role", "unit", "nulls", "least", "mean", "greatest", "why")
 UNITS = {"tonnes": "t", "density": "t/m3", "volume": "m3"}
-ROLES = {
-    "rock_type": "rock type",
-    "class": "resource class",
-    "mcaf": "MCAF",
-    "pcaf": "PCAF",
-    "domain": "slope domain",
-    "rock_percent": "share of rock",
-}
 # Codes of a column that are listed, and letters of each.
 MOST_CODES, MOST_LETTERS = 4, 12
 NO_CLASS = (
@@ -55,7 +34,6 @@ class Overview:
 
     Attributes
     ----------
-    notes : list of str
     columns : list of tuple of str
         The fields of each column, in the order of HEADINGS.
     warnings : list of str
@@ -110,26 +88,25 @@ class WrittenProject:
 
 def overview(model: GuessedModel) -> Overview:
     """Returns the notes, the columns and the warnings of a block model."""
-    tonnes = tonnes_of(model)
-    said = [f"{model.file}: {len(model.frame):,} blocks, {tonnes.sum():,.0f} tonnes", *axes_of(model)]
-    grades = [grade_of(model, metal.column, tonnes) for metal in model.columns.metals]
+    said = [f"{model.file}: {len(model.frame):,} blocks, {model.tonnes.sum():,.0f} tonnes", *axes_of(model)]
+    grades = [grade_of(model, metal) for metal in model.columns.metals]
     said += [f"{grade.line}, {metal.why}" for grade, metal in zip(grades, model.columns.metals)]
-    said += not_used(unused(model))
-    said += [line for line in [model.form.layout.said if model.form.layout else ""] if line]
+    said += not_used(model.unused)
+    said += [model.form.layout.said] if model.form.layout.said else []
     said += format_notes(model)
     said += volume_lines(model)
-    said += [doubt for grade in grades for doubt in grade.doubts] + warnings_of(model, tonnes)
+    said += [doubt for grade in grades for doubt in grade.doubts] + warnings_of(model)
     warnings = [line for line in said if line.startswith(WARNING)]
     columns = [row_of(model, str(name)) for name in model.frame.columns]
-    roles = [key_of(model, str(name)) for name in model.frame.columns]
+    roles = [model.used.get(str(name), UNUSED) for name in model.frame.columns]
     return Overview([line for line in said if line not in warnings], columns, warnings, roles)
 
 
 def axes_of(model: GuessedModel) -> list[str]:
     """Returns a line for each axis, and one for a turned grid."""
-    turned, said = turned_grid(model), []
+    turned, said = model.turned, []
     for name, guess in sorted(model.columns.centres.items()):
-        values, step = model.frame[guess.column], None if turned and name != "z" else step_along(model, name)
+        values, step = model.frame[guess.column], None if turned and name != "z" else model.step(name)
         said.append(f"{AxisSummary(name, guess.column, values.min(), values.max(), step).line}, {guess.why}")
     if turned:
         east, north = (f"{side:.10g}" for side in turned.size)
@@ -139,18 +116,9 @@ def axes_of(model: GuessedModel) -> list[str]:
     return said
 
 
-def step_along(model: GuessedModel, axis: str) -> Optional[float]:
-    """Returns the block size along an axis in metres; None if there are several."""
-    if has_several_sizes(model):
-        return None
-    size, _ = size_of(model)
-    return size["xyz".index(axis)] if size else least_gap(model, axis)
-
-
-def grade_of(model: GuessedModel, column: str, tonnes: np.ndarray) -> Grade:
-    metal = next(it for it in model.columns.metals if it.column == column)
-    values = np.nan_to_num(model.frame[column].to_numpy(dtype=np.float64))
-    return Grade(metal.metal, column, metal.unit, mean_of(values, tonnes), float(values.max(initial=0)))
+def grade_of(model: GuessedModel, metal: MetalGuess) -> Grade:
+    values = np.nan_to_num(model.values(metal.column))
+    return Grade(metal.metal, metal.column, metal.unit, mean_of(values, model.tonnes), float(values.max(initial=0)))
 
 
 def format_notes(model: GuessedModel) -> list[str]:
@@ -166,14 +134,14 @@ def format_notes(model: GuessedModel) -> list[str]:
 
 def volume_lines(model: GuessedModel) -> list[str]:
     """Returns how much of the box from edge to edge the cells fill, if their sizes are known; a warning if they overlap."""
-    if "tonnes" in model.columns.named and not model.columns.sizes or turned_grid(model):
+    if "tonnes" in model.columns.named and not model.columns.sizes or model.turned:
         return []
     sides = []
     for axis in "xyz":
-        values, step = model.frame[model.columns.centres[axis].column], step_along(model, axis)
+        values, step = model.frame[model.columns.centres[axis].column], model.step(axis)
         sizes = model.frame[model.columns.sizes[axis].column] if step is None else step
         sides.append(float((values + sizes / 2).max() - (values - sizes / 2).min()))
-    filled, box = float(np.nansum(volumes_of(model))), float(np.prod(sides))
+    filled, box = float(np.nansum(model.volumes)), float(np.prod(sides))
     said = f"the cells fill {filled:,.0f} m3, {100 * filled / box:.3g} % of the box of {' x '.join(f'{side:,.10g}' for side in sides)} m"
     return [f"{WARNING}{said}: they overlap, check the cell sizes" if filled > MOST_FILLED * box else said]
 
@@ -219,45 +187,16 @@ def role_of(model: GuessedModel, name: str) -> tuple[str, str, str]:
         if metal.column == name:
             return f"grade of {metal.metal}", GRADE_SIGNS[metal.unit], metal.why
     for key, guess in columns.named.items():
-        if guess.column == name and name not in unused(model):
-            unit = UNITS.get(key, share_of(model)[1] if key == "rock_percent" else "")
-            return ROLES.get(key, key), "%" if unit == "percent" else unit, guess.why
-    return "not used", "", ""
+        if guess.column == name and name in model.used:
+            unit = UNITS.get(key, model.share[1] if key == "rock_percent" else "")
+            return "id" if key == "id" else ROLE_WORDS[key], "%" if unit == "percent" else unit, guess.why
+    return ROLE_WORDS[UNUSED], "", ""
 
 
-def key_of(model: GuessedModel, name: str) -> str:
-    """Returns the role of a column as `--role` has it."""
-    columns = model.columns
-    keys = {guess.column: axis for axis, guess in columns.centres.items()}
-    keys |= {columns.sizes[axis].column: key for key, axis in SIZE_ROLES.items() if axis in columns.sizes}
-    keys |= {metal.column: Role(metal.metal, metal.unit).text for metal in columns.metals}
-    named = {guess.column: key for key, guess in columns.named.items()}
-    return UNUSED if name in unused(model) else keys.get(name, named.get(name, UNUSED))
-
-
-def unused(model: GuessedModel) -> list[str]:
-    """Returns the columns that the project does not name."""
-    columns = model.columns
-    used = {guess.column for guess in columns.centres.values()} | set(model.grades)
-    used |= {guess.column for guess in columns.sizes.values()}
-    keys = [
-        *model.weighed,
-        "id",
-        "rock_type",
-        "domain",
-        "class",
-        "mcaf",
-        "pcaf",
-        *(["rock_percent"] if share_of(model)[0] else []),
-    ]
-    used |= {columns.named[key].column for key in keys if key in columns.named}
-    return [name for name in map(str, model.frame.columns) if name not in used]
-
-
-def warnings_of(model: GuessedModel, tonnes: np.ndarray) -> list[str]:
+def warnings_of(model: GuessedModel) -> list[str]:
     """Returns what may not be as it seems."""
     said = []
-    if has_several_sizes(model):
+    if model.has_several_sizes:
         said.append(
             f"{WARNING}cells have several sizes: parts of blocks are put together to blocks of the largest cell's size"
         )
@@ -275,5 +214,5 @@ def warnings_of(model: GuessedModel, tonnes: np.ndarray) -> list[str]:
             codes = f" ({', '.join(guess.codes)}: {guess.why})" if guess.codes else ""
             said.append(f"{WARNING}{name}: {count:,} of {len(model.frame):,} blocks are null{codes} and are read as 0")
     for name in (*model.grades, *(model.columns.named[key].column for key in model.weighed)):
-        said += of_codes(name, model.frame[name].to_numpy(dtype=np.float64))
+        said += of_codes(name, model.values(name))
     return said

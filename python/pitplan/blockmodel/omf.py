@@ -50,7 +50,6 @@ def read(file: Path, codes: Sequence[str] = ()) -> tuple[pd.DataFrame, str]:
 
     Parameters
     ----------
-    file : Path
     codes : sequence of str
         Attributes that are texts: whole numbers among them are 3, not 3.0.
 

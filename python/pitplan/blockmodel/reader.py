@@ -240,7 +240,7 @@ def text_nulls(nulls: Sequence[str]) -> list[str]:
 
 
 def notes_of(form: TableFormat, columns: TableColumns) -> list[str]:
-    found = [form.layout.said] if form.layout and form.layout.said else []
+    found = [form.layout.said] if form.layout.said else []
     if columns.separator is None and form.separator != ",":
         found.append(f"the fields are separated by {NAMES[form.separator]}; [table] separator sets another separator")
     if columns.decimal is None and form.decimal != ".":

@@ -58,7 +58,6 @@ def notes_of(frame: pd.DataFrame, project: Project, pays: np.ndarray, price: str
     ----------
     frame : DataFrame
         The blocks.
-    project : Project
     pays : array of bool
         Whether each block is treated as waste and would pay for its processing at `price`, which the notes name.
     """

@@ -35,7 +35,6 @@ class RuledRows:
         The rows that are not left out.
     zeros : dict of str to bool array
         By column the nulls that are read as 0.
-    notes : list of str
     """
 
     frame: pd.DataFrame

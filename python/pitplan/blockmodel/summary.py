@@ -52,10 +52,8 @@ def of_prices(pays: np.ndarray, metals: Sequence[Metal], grades: Sequence[np.nda
     ----------
     pays : bool array
         Whether a block pays for its processing.
-    metals : sequence of Metal
     grades : sequence of float array
         Of each metal the grade of each block.
-    currency : str
     """
     with_metal = int(np.any([grade > 0 for grade in grades], axis=0).sum())
     if not with_metal:

@@ -19,7 +19,7 @@ from pitplan.core.atomic_files import staged_file
 from pitplan.core.layout import figure_of_model
 from pitplan.errors import PlanError
 
-from .guesses import PRECIOUS, GuessedModel, MetalGuess, Role, has_several_sizes, read, share_of, size_of, tonnes_of
+from .guesses import PRECIOUS, GuessedModel, MetalGuess, Role, read
 from .model_overview import Overview, WrittenProject, overview
 from .reader import filled_numbers
 from .summary import USUAL_PRICES
@@ -118,7 +118,7 @@ def text_of(model: GuessedModel, out: Path) -> str:
     environment = Environment(loader=FileSystemLoader(TEMPLATES), keep_trailing_newline=True)
     environment.filters["quoted"] = quoted
     environment.globals["others"] = others
-    size, size_why = (None, "") if has_several_sizes(model) else size_of(model)
+    size, size_why = (None, "") if model.has_several_sizes else model.size
     ore = processing_capacity(model)
     words = {
         "file": file_name(model.file, out),
@@ -183,8 +183,8 @@ def table_lines(model: GuessedModel) -> list[tuple[str, str, str]]:
 
 def cell_lines(model: GuessedModel) -> list[tuple[str, str, str]]:
     """Returns the keys for cells of several sizes, and for the share of rock."""
-    lines, (share, unit) = [], share_of(model)
-    if has_several_sizes(model):
+    lines, (share, unit) = [], model.share
+    if model.has_several_sizes:
         names = [model.columns.sizes[axis].column for axis in "xyz"]
         lines.append(
             ("cell_size", json.dumps(names, ensure_ascii=False), "sizes of each cell along x, y and z, by their names")
@@ -232,7 +232,7 @@ def null_lines(model: GuessedModel) -> list[tuple[str, str, str]]:
     others = {model.columns.named[key].column for key in ("class", *FACTORS) if key in model.columns.named}
     named = [name for name in model.nulls if name in meanings or name in others]
     codes = list(dict.fromkeys(code for name in named for code in model.nulls[name].codes))
-    places = [model.frame[guess.column].to_numpy(dtype=np.float64) for guess in model.columns.centres.values()]
+    places = [model.centres(axis) for axis in model.columns.centres]
     if any(np.any(values == float(code)) for code in codes for values in places if is_number(code)):
         # A code that is a centroid too belongs to its own columns.
         rules = {name: rule_of(model.nulls[name].codes, meanings.get(name)) for name in named}
@@ -245,7 +245,7 @@ def null_lines(model: GuessedModel) -> list[tuple[str, str, str]]:
 
 def meanings_of(model: GuessedModel) -> dict[str, str]:
     """Returns what a null means in the columns of numbers that have some: 0 in grades, no block where it makes tonnes."""
-    share, _ = share_of(model)
+    share, _ = model.share
     weighed = [model.columns.named[key].column for key in model.weighed] + ([share.column] if share else [])
     meanings = {**dict.fromkeys(model.grades, ZERO), **dict.fromkeys(weighed, MISSING)}
     return {name: meanings[name] for name in model.nulls if name in meanings}
@@ -300,9 +300,9 @@ def processing_capacity(model: GuessedModel) -> int:
     """What a mill takes, to two digits: the ore by the life that Taylor found, 0.2 times its fourth root in years (1977)."""
     revenue = np.zeros(len(model.frame))
     for metal in model.columns.metals:
-        grade = np.nan_to_num(model.frame[metal.column].to_numpy(dtype=np.float64))
+        grade = np.nan_to_num(model.values(metal.column))
         revenue += grade * SHARES[metal.unit] * price_of(metal) * RECOVERY
-    ore = float(tonnes_of(model)[revenue > PROCESSING].sum())
+    ore = float(model.tonnes[revenue > PROCESSING].sum())
     yearly = max(ore / max(0.2 * ore**0.25, 1.0), 1.0)
     digits = max(int(np.floor(np.log10(yearly))) - 1, 0)
     return int(round(yearly, -digits))

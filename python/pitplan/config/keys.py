@@ -442,7 +442,6 @@ class Key:
 
     Attributes
     ----------
-    kind : ValueKind
     meaning : str
         What it is, without its unit and range.
     default : object

@@ -2,7 +2,7 @@
 
 from __future__ import annotations
 
-from collections.abc import Iterator
+from collections.abc import Iterable, Iterator
 from dataclasses import dataclass, replace
 from pathlib import Path
 from typing import Any, Optional
@@ -51,6 +51,15 @@ class ClassRules:
     def may_be_reserve(self, code: str) -> bool:
         """Whether reporting codes allow the class in reserves, by its name. Treating inferred material as ore does not make it a reserve."""
         return code.lower() not in WASTE_NAMES
+
+
+def ranked(classes: Iterable[str]) -> list[str]:
+    """Returns resource classes in order: measured before indicated before others, and blocks without a class last."""
+
+    def rank(name: str) -> tuple[int, bool, str]:
+        return (ORE_NAMES.index(name.lower()) if name.lower() in ORE_NAMES else len(ORE_NAMES), not name, name)
+
+    return sorted(classes, key=rank)
 
 
 @dataclass(frozen=True)

@@ -30,7 +30,6 @@ def fault(path: Path, is_folder: bool = False) -> Optional[str]:
 
     Parameters
     ----------
-    path : Path
     is_folder : bool
         The input is a folder, not a file.
     """

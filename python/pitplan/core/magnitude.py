@@ -9,3 +9,9 @@ def scaled(most: float) -> tuple[float, str]:
         if most >= 10 * size:
             return size, sign
     return 1.0, ""
+
+
+def money_unit(most: float, currency: str) -> tuple[float, str]:
+    """Returns size and name of a unit of money, such as (1e6, "M USD"), as `scaled` does."""
+    size, sign = scaled(most)
+    return size, f"{sign} {currency}".strip()

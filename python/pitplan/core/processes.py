@@ -34,7 +34,6 @@ def each_done(tasks: Sequence[Task], most: Optional[int] = None) -> Iterator[int
 
     Parameters
     ----------
-    tasks : sequence of callables
     most : int, optional
         The most processes at a time; 1 runs all tasks in this process. Default: the number of processors.
 
@@ -77,7 +76,6 @@ class Child:
     ----------
     number : int
         The number of the task.
-    task : callable
     """
 
     def __init__(self, number: int, task: Task) -> None:

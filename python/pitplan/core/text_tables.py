@@ -239,7 +239,7 @@ class TableFormat:
         The lines of the names and of the first row, from 1.
     errors : str
         What `codecs` does with bytes that are not of the encoding.
-    layout : Layout, optional
+    layout : Layout
         The layout that was recognised.
     otherwise : int
         Bytes that were read as Windows-1252, since they are not UTF-8.
@@ -251,7 +251,7 @@ class TableFormat:
     header_row: int = 1
     first_row: int = 2
     errors: str = "strict"
-    layout: Optional[Layout] = None
+    layout: Layout = Layout(",")
     otherwise: int = 0
 
     @property
@@ -625,8 +625,6 @@ def read_parts(file: Path, form: TableFormat, options: Mapping[str, Any]) -> Opt
 
     Parameters
     ----------
-    file : Path
-    form : TableFormat
     options : mapping
         Those of `pandas.read_csv`; `dtype` has the columns of texts.
     """

@@ -415,9 +415,6 @@ def values_of(frame: pd.DataFrame, grid: Grid, project: Project, source: str = "
 
     Parameters
     ----------
-    frame : DataFrame
-    grid : Grid
-    project : Project
     source : str
         How errors name the table.
 

@@ -24,7 +24,6 @@ class RockCosts:
 
     Attributes
     ----------
-    project : Project
     rock : str
         Its code; "" without rock types.
     """

@@ -109,7 +109,6 @@ def write(stage: Path, folder: Folder, factor: float, progress: Progress) -> Non
         The folder of the plan.
     factor : float
         Revenue factor of the shell.
-    progress : Progress
 
     Raises
     ------

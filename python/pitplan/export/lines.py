@@ -35,7 +35,6 @@ class ClosedLine:
 
     Attributes
     ----------
-    stage : Stage
     kind : str
         TOE or CREST.
     bench : float

@@ -178,9 +178,6 @@ def of_stage(rock: np.ndarray, stage: Stage, grid: Grid, smooth: bool) -> tuple[
 
     Parameters
     ----------
-    rock : array of bool, shape (levels, rows, columns)
-    stage : Stage
-    grid : Grid
     smooth : bool
         Smooth the steps of blocks.
 

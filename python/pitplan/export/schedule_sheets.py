@@ -11,7 +11,7 @@ import numpy as np
 import pandas as pd
 
 from pitplan.config.economics import BOTH, GRADE_UNITS, GRAMS, Metal
-from pitplan.config.material import ORE_NAMES
+from pitplan.config.material import ranked
 from pitplan.config.project import Project
 from pitplan.core.libraries import load
 from pitplan.economics.smelter_terms import concentrate, payable_share
@@ -40,7 +40,6 @@ class SheetLine:
     ----------
     key : str
         By which formulas refer to it.
-    label, unit : str
     values : sequence of float, optional
         Numbers by period.
     formula : str
@@ -49,7 +48,6 @@ class SheetLine:
         The formula of the whole life: SUM, SAME for that of the periods, or another; "" for none. Otherwise a number.
     form : str
         The number format.
-    bold : bool
     """
 
     key: str
@@ -68,12 +66,10 @@ class PeriodSheet:
 
     Attributes
     ----------
-    name : str
     heads : tuple of str
         Lines of text above.
     lines : list of SheetLine
         The first has the periods.
-    periods : int
     """
 
     name: str
@@ -89,12 +85,10 @@ class PeriodSheet:
         sheet.cell(1, LABEL).font = fonts.Font(bold=True, size=14)
         for line in self.lines:
             self.write_line(sheet, line, fonts)
-        names = load("openpyxl.utils", "python3-openpyxl", "a workbook")
         for column in range(1, FIRST + self.periods):
-            sheet.column_dimensions[names.get_column_letter(column)].width = WIDTHS.get(column, 15.0)
+            sheet.column_dimensions[letter(column)].width = WIDTHS.get(column, 15.0)
         sheet.freeze_panes = sheet.cell(self.row(self.lines[0].key) + 1, FIRST)
-        sheet.page_setup.orientation, sheet.page_setup.fitToHeight = "landscape", 0
-        sheet.sheet_properties.pageSetUpPr.fitToPage = True
+        fit_to_page(sheet)
 
     def write_line(self, sheet: Any, line: SheetLine, fonts: Any) -> None:
         row = self.row(line.key)
@@ -122,8 +116,6 @@ class PeriodSheet:
 
     def resolved(self, formula: str, column: int) -> str:
         """Returns a formula with the cells that its references mean in a column."""
-        names = load("openpyxl.utils", "python3-openpyxl", "a workbook")
-        letter = names.get_column_letter
 
         def cell_of(found: re.Match[str]) -> str:
             row, how = self.row(found[1]), found[2]
@@ -136,6 +128,17 @@ class PeriodSheet:
             return f"{letter(column)}{row}"
 
         return REFERENCE.sub(cell_of, formula)
+
+
+def letter(column: int) -> str:
+    """Returns the name of a column by its number from 1."""
+    return str(load("openpyxl.utils", "python3-openpyxl", "a workbook").get_column_letter(column))
+
+
+def fit_to_page(sheet: Any) -> None:
+    """Lets all columns be printed side by side."""
+    sheet.page_setup.orientation, sheet.page_setup.fitToHeight = "landscape", 0
+    sheet.sheet_properties.pageSetUpPr.fitToPage = True
 
 
 def put(place: Any, text: str) -> None:
@@ -164,7 +167,6 @@ class CashFlowSheet:
 
     Attributes
     ----------
-    project : Project
     table : DataFrame
         Its rows of cash_flow.csv.
     valuation : DataFrame
@@ -192,14 +194,15 @@ class CashFlowSheet:
         return column in self.table
 
     def given(self, column: str) -> SheetLine:
-        return SheetLine(column, self.heading(column), self.currency, self.table[column].to_numpy(), total=SUM)
+        return self.amount(column, CASH_FLOW.heading(column), self.currency)
 
-    def heading(self, column: str) -> str:
-        """Returns how a column is shown, with the name of its metal or process."""
-        found = CASH_FLOW.find(column)
-        assert found is not None
-        name = column.removeprefix(found.name.rstrip("ABCDEFGHIJKLMNOPQRSTUVWXYZ"))
-        return found.heading.replace("METAL", name).replace("PROCESS", name)
+    def amount(self, column: str, label: str, unit: str, form: str = MONEY) -> SheetLine:
+        """Returns the line of a column of the table, with its sum over all periods."""
+        return SheetLine(column, label, unit, self.table[column].to_numpy(), total=SUM, form=form)
+
+    def product(self, column: str, formula: str) -> SheetLine:
+        """Returns the line of a column of money by a formula, with its sum over all periods."""
+        return SheetLine(column, CASH_FLOW.heading(column), self.currency, formula=formula, total=SUM)
 
     def physicals(self) -> Iterator[SheetLine]:
         """Yields the periods, tonnes, grades, metals and prices."""
@@ -207,38 +210,33 @@ class CashFlowSheet:
         yield SheetLine("end", "end of period", "years", ends, total="life of mine", form="General", bold=True)
         yield SheetLine("start", "start of period", "years", formula="=[end<]", form="General")
         yield from section("Physicals")
-        for column, label in (("total_tonnes", "total material"), ("waste_tonnes", "waste")):
-            yield SheetLine(column, label, "t", self.table[column].to_numpy(), total=SUM)
+        yield self.amount("total_tonnes", "total material", "t")
+        yield self.amount("waste_tonnes", "waste", "t")
         ore = "([total_tonnes]-[waste_tonnes])"
         ratio = f'=IF({ore}>0,[waste_tonnes]/{ore},"")'
         yield SheetLine("strip", "strip ratio", "t/t", formula=ratio, total=SAME, form=PLAIN)
-        yield SheetLine("feed_tonnes", "mill feed", "t", self.table["feed_tonnes"].to_numpy(), total=SUM)
+        yield self.amount("feed_tonnes", "mill feed", "t")
         for metal in self.project.metals:
             yield from self.metal(metal)
 
     def metal(self, metal: Metal) -> Iterator[SheetLine]:
         """Yields head grade, contained and recovered metal, and price."""
         contained, name = f"contained_{metal.name}", metal.name
-        values = self.table[contained].to_numpy()
-        yield SheetLine(contained, f"{name} in the mill feed", metal.quantity, values, total=SUM, form=PLAIN)
+        yield self.amount(contained, f"{name} in the mill feed", metal.quantity, PLAIN)
         grade = f'=IF([feed_tonnes]>0,[{contained}]/[feed_tonnes]/{GRADE_UNITS[metal.unit]},"")'
         yield SheetLine(f"head_{name}", f"head grade {name}", metal.sign, formula=grade, total=SAME, form=GRADES)
-        recovered = self.table[f"recovered_{name}"].to_numpy()
-        yield SheetLine(f"recovered_{name}", f"recovered {name}", metal.quantity, recovered, total=SUM, form=PLAIN)
+        yield self.amount(f"recovered_{name}", f"recovered {name}", metal.quantity, PLAIN)
         yield from self.sold(metal)
         price = self.table[f"price_{name}"].to_numpy()
         yield SheetLine(f"price_{name}", f"price of {name}", f"{self.currency}/{metal.price_unit}", price, form=PLAIN)
 
     def sold(self, metal: Metal) -> Iterator[SheetLine]:
         """Yields the payable metal and the concentrate of smelter terms."""
-        for kind, label, unit in (
-            ("payable", "payable", metal.quantity),
-            ("concentrate_tonnes", "concentrate of", "t"),
-        ):
-            column = f"{kind}_{metal.name}"
-            if self.has(column):
-                values = self.table[column].to_numpy()
-                yield SheetLine(column, f"{label} {metal.name}", unit, values, total=SUM, form=PLAIN)
+        payable, concentrate_tonnes = f"payable_{metal.name}", f"concentrate_tonnes_{metal.name}"
+        if self.has(payable):
+            yield self.amount(payable, f"payable {metal.name}", metal.quantity, PLAIN)
+        if self.has(concentrate_tonnes):
+            yield self.amount(concentrate_tonnes, f"concentrate of {metal.name}", "t", PLAIN)
 
     @property
     def charges(self) -> list[str]:
@@ -268,8 +266,7 @@ class CashFlowSheet:
                 "royalty_a_tonne", "royalty per tonne", a_tonne, total=float(money.royalty_per_tonne), form=PLAIN
             )
             parts.append("[royalty_a_tonne!]*[feed_tonnes]")
-        formula = f"={'+'.join(parts) or 0}"
-        yield SheetLine("royalty", self.heading("royalty"), self.currency, formula=formula, total=SUM)
+        yield self.product("royalty", f"={'+'.join(parts) or 0}")
 
     def participation(self, metal: Metal) -> Iterator[SheetLine]:
         """Yields the price participation of a smelter as a formula, if a line has the metal that it applies to."""
@@ -283,15 +280,12 @@ class CashFlowSheet:
         above = f"([price_{metal.name}]-{rule.base})"
         above = above if rule.applies == BOTH else f"MAX(0,{above})"
         if quantity:
-            formula = f"={rule.share}*{above}*{units_of(metal)}*{quantity}"
-            yield SheetLine(column, self.heading(column), self.currency, formula=formula, total=SUM)
+            yield self.product(column, f"={rule.share}*{above}*{units_of(metal)}*{quantity}")
 
     def revenue_of(self, metal: Metal) -> SheetLine:
         """Returns the revenue of a metal as the product of its quantity and its price."""
         quantity = f"{'payable' if metal.smelter else 'recovered'}_{metal.name}"
-        column = f"revenue_{metal.name}"
-        formula = f"=[{quantity}]*{units_of(metal)}*[price_{metal.name}]"
-        return SheetLine(column, self.heading(column), self.currency, formula=formula, total=SUM)
+        return self.product(f"revenue_{metal.name}", f"=[{quantity}]*{units_of(metal)}*[price_{metal.name}]")
 
     @property
     def cost_columns(self) -> list[str]:
@@ -359,7 +353,8 @@ class CashFlowSheet:
             ("c1_cost", first.price_unit, f"([costs]{selling}{others})", units),
         ):
             formula = f'=IF({per}>0,{cost}/{per},"")'
-            yield SheetLine(key, self.heading(key), f"{self.currency}/{unit}", formula=formula, total=SAME, form=PLAIN)
+            label, a_unit = CASH_FLOW.heading(key), f"{self.currency}/{unit}"
+            yield SheetLine(key, label, a_unit, formula=formula, total=SAME, form=PLAIN)
 
     def discounting(self) -> Iterator[SheetLine]:
         """Yields factors and discounted cash flows at each rate, and at the internal rates of return."""
@@ -429,7 +424,6 @@ class ReserveSheet:
 
     Attributes
     ----------
-    project : Project
     method : str
         The method of the schedule.
     inventory : DataFrame
@@ -455,8 +449,7 @@ class ReserveSheet:
         some = self.inventory[self.inventory["category"] == category]
         if self.class_column is None:
             return ["all"] if len(some) else []
-        order = {name: number for number, name in enumerate(ORE_NAMES)}
-        return sorted(some[self.class_column].unique(), key=lambda it: (order.get(it.lower(), len(order)), it))
+        return ranked(some[self.class_column].unique())
 
     def write(self, book: Any) -> None:
         """Adds the sheet to a workbook of openpyxl."""
@@ -476,11 +469,9 @@ class ReserveSheet:
                 place.alignment = styles.Alignment("left" if column <= 2 else "right", "top", wrap_text=is_head)
                 if is_head:
                     sheet.row_dimensions[number].height = HEAD_HEIGHT
-        letter = load("openpyxl.utils", "python3-openpyxl", "a workbook").get_column_letter
         for column in range(1, len(self.forms) + 1):
             sheet.column_dimensions[letter(column)].width = WIDTH
-        sheet.page_setup.orientation, sheet.page_setup.fitToHeight = "landscape", 0
-        sheet.sheet_properties.pageSetUpPr.fitToPage = True
+        fit_to_page(sheet)
 
     @property
     def heads(self) -> list[str]:
@@ -538,7 +529,6 @@ class ReserveSheet:
         others = ["total material (t)", "waste (t)", "strip ratio (t/t)", "mill feed, not reserves (t)"]
         yield [self.project.shells.calendar.word, "", *self.heads[2:], *others]
         last = len(self.heads)
-        letter = load("openpyxl.utils", "python3-openpyxl", "a workbook").get_column_letter
         total, waste = letter(last + 1), letter(last + 2)
         years: list[Union[int, float, str]] = sorted(self.inventory["year"].unique().tolist())
         for place, year in enumerate([*years, "all"], row + 2):
@@ -553,7 +543,6 @@ class ReserveSheet:
 
     def amounts(self, place: int, conditions: list[Condition]) -> Cells:
         found: Cells = [self.sum_of(name, conditions) for name in ("total_tonnes", "feed_tonnes")]
-        letter = load("openpyxl.utils", "python3-openpyxl", "a workbook").get_column_letter
         for metal in self.project.metals:
             content = f"{letter(len(found) + 4)}{place}"
             found.append(Formula(f'=IF($D{place}>0,{content}/$D{place}/{GRADE_UNITS[metal.unit]},"")'))
@@ -568,7 +557,6 @@ class ReserveSheet:
         return Formula(f"=SUMIFS({','.join(parts)})")
 
     def cells_of(self, column: str) -> str:
-        letter = load("openpyxl.utils", "python3-openpyxl", "a workbook").get_column_letter
         name = letter(self.inventory.columns.get_loc(column) + 1)
         return f"{INVENTORY}!${name}$2:${name}${len(self.inventory) + 1}"
 

@@ -9,16 +9,14 @@ import textwrap
 from pathlib import Path
 from typing import Any
 
-import matplotlib
 import numpy as np
 import pandas as pd
 from matplotlib.axes import Axes
-from matplotlib.figure import Figure
 from matplotlib.ticker import MaxNLocator
 
-from pitplan.core.magnitude import scaled
+from pitplan.core.magnitude import money_unit, scaled
 
-from .style import STYLE, finish, list_of
+from .style import figure_file, list_of
 
 WHOLE, MORE, LESS = "#8a8a8a", "#1f5f9e", "#c8792b"
 COLOURS = ("#444444", "#0072b2", "#d55e00", "#009e73", "#aa4499", "#b58900")
@@ -31,11 +29,9 @@ SMALL = 0.1
 
 def write_bridge(steps: pd.DataFrame, run: str, currency: str, path: Path) -> None:
     mine = steps[steps["run"] == run]
-    with matplotlib.rc_context(STYLE):
-        wide = 9.0 * max(1.0, (len(mine) + 1) / BARS)
-        figure = Figure(figsize=(min(wide, 22.0), 4.6), constrained_layout=True)
+    wide = 9.0 * max(1.0, (len(mine) + 1) / BARS)
+    with figure_file(path, min(wide, 22.0), 4.6) as figure:
         plot_bridge(mine, run, currency, figure.subplots())
-        finish(figure, path)
 
 
 def plot_bridge(steps: pd.DataFrame, run: str, currency: str, ax: Axes) -> Axes:
@@ -45,15 +41,8 @@ def plot_bridge(steps: pd.DataFrame, run: str, currency: str, ax: Axes) -> Axes:
     ----------
     steps : DataFrame
         The rows of a run in bridge.csv.
-    run : str
-    currency : str
-    ax : Axes
-
-    Returns
-    -------
-    Axes
     """
-    size, sign = scaled(float(steps["npv"].abs().max()))
+    size, unit = money_unit(float(steps["npv"].abs().max()), currency)
     npv, change = steps["npv"].to_numpy() / size, steps["npv_change"].to_numpy() / size
     labels = [*(key.replace("_", " ") for key in steps["key"]), run]
     ax.bar([0, len(npv)], [npv[0], npv[-1]], 0.62, color=WHOLE, linewidth=0)
@@ -71,7 +60,7 @@ def plot_bridge(steps: pd.DataFrame, run: str, currency: str, ax: Axes) -> Axes:
     low, high = near(npv)
     ax.set_ylim(low, high)
     above = "; the axis begins above 0" if low > 0 else ""
-    ax.set_ylabel(f"NPV, {sign} {currency}{above}".replace(",  ", ", "))
+    ax.set_ylabel(f"NPV, {unit}{above}")
     return ax
 
 
@@ -85,10 +74,8 @@ def near(npv: np.ndarray) -> tuple[float, float]:
 
 
 def write_periods(table: pd.DataFrame, currency: str, path: Path) -> None:
-    with matplotlib.rc_context(STYLE):
-        figure = Figure(figsize=(11, 4.4), constrained_layout=True)
+    with figure_file(path, 11, 4.4) as figure:
         plot_periods(table, currency, figure.subplots(1, 2))
-        finish(figure, path)
 
 
 def plot_periods(table: pd.DataFrame, currency: str, axes: Any) -> list[Axes]:
@@ -98,29 +85,23 @@ def plot_periods(table: pd.DataFrame, currency: str, axes: Any) -> list[Axes]:
     ----------
     table : DataFrame
         The table periods.csv.
-    currency : str
-    axes : array or list of two Axes
-
-    Returns
-    -------
-    list of Axes
     """
     tonnes, money = list_of(axes, 2)
     word = "period" if "period" in table else "year"
     size, sign = scaled(float(table["total_tonnes"].max()))
     sums = table.groupby("run")["discounted_cash_flow"].cumsum()
-    unit, of_money = scaled(float(sums.abs().max()))
+    divisor, unit = money_unit(float(sums.abs().max()), currency)
     for number, run in enumerate(dict.fromkeys(table["run"])):
         mine, colour = table["run"] == run, COLOURS[number % len(COLOURS)]
         look = {"color": colour, "marker": MARKS[number % len(MARKS)], "markersize": 3.5, "linewidth": 1.4}
         when = table.loc[mine, word]
         tonnes.plot(when, table.loc[mine, "total_tonnes"] / size, label=f"{run}: total material", **look)
         tonnes.plot(when, table.loc[mine, "feed_tonnes"] / size, linestyle="--", label=f"{run}: mill feed", **look)
-        end = sums[mine].iloc[-1] / unit
-        money.plot([0, *when], [0.0, *(sums[mine] / unit)], label=f"{run}: {end:,.2f}", **look)
+        end = sums[mine].iloc[-1] / divisor
+        money.plot([0, *when], [0.0, *(sums[mine] / divisor)], label=f"{run}: {end:,.2f}", **look)
     tonnes.set_ylabel(f"tonnes, {sign}t")
     tonnes.set_ylim(bottom=0)
-    money.set_ylabel(f"cumulative discounted cash flow, {of_money} {currency}".replace(",  ", ", "))
+    money.set_ylabel(f"cumulative discounted cash flow, {unit}")
     money.axhline(0, color="black", linewidth=0.8)
     for ax, label in ((tonnes, word), (money, f"end of {word}")):
         ax.xaxis.set_major_locator(MaxNLocator(integer=True))

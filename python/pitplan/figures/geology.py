@@ -6,16 +6,14 @@ from dataclasses import dataclass
 from pathlib import Path
 from typing import Any
 
-import matplotlib
 import numpy as np
 import pandas as pd
 from matplotlib.axes import Axes
 from matplotlib.colors import BoundaryNorm, ListedColormap
-from matplotlib.figure import Figure
 from matplotlib.patches import Patch
 from numpy.typing import NDArray
 
-from pitplan.blockmodel.guesses import GuessedModel, least_gap, size_of, turned_grid
+from pitplan.blockmodel.guesses import GuessedModel
 from pitplan.config.economics import GRADE_SIGNS
 from pitplan.core.tolerances import SIDE_ERROR
 from pitplan.plan import Plan
@@ -23,9 +21,9 @@ from pitplan.plan import Plan
 from . import palette
 from .map_marks import name_lines
 from .palette import ORE
-from .plans_sections import Scene, draw_ground, draw_outline
-from .scene import Cut
-from .style import GROUND, MAP, STYLE, finish, list_of, name_axes, panels
+from .plans_sections import Scene
+from .scene import Cut, draw_ground, draw_outline
+from .style import GROUND, MAP, figure_file, list_of, name_axes, panels_file
 
 OTHERS = "others"
 MOST_IN_ROW = 5
@@ -39,7 +37,6 @@ class CellCodes:
 
     Attributes
     ----------
-    title : str
     none : str
         What blocks without a code are called.
     number : int array, shape (levels, rows, columns)
@@ -85,11 +82,9 @@ def kind_of(plan: Plan, title: str, column: str) -> CellCodes:
 
 
 def write_sections(scene: Scene, kinds: list[CellCodes], path: Path) -> None:
-    with matplotlib.rc_context(STYLE):
-        west, east, _, _, bottom, top = scene.grid.extent()
-        figure, axes = panels(east - west, top - bottom, 2 * len(kinds))
+    west, east, _, _, bottom, top = scene.grid.extent()
+    with panels_file(path, east - west, top - bottom, 2 * len(kinds)) as axes:
         plot_sections(scene, kinds, axes)
-        finish(figure, path)
 
 
 def plot_sections(scene: Scene, kinds: list[CellCodes], axes: Any) -> list[Axes]:
@@ -97,14 +92,8 @@ def plot_sections(scene: Scene, kinds: list[CellCodes], axes: Any) -> list[Axes]
 
     Parameters
     ----------
-    scene : Scene
-    kinds : list of CellCodes
     axes : array or list of Axes
         Two for each kind: those of the section from west to east first.
-
-    Returns
-    -------
-    list of Axes
     """
     found = list_of(axes, 2 * len(kinds))
     for place, kind in enumerate(kinds):
@@ -122,12 +111,12 @@ def plot_sections(scene: Scene, kinds: list[CellCodes], axes: Any) -> list[Axes]
 
 def draw_kind(ax: Axes, scene: Scene, kind: CellCodes, cut: Cut) -> set[int]:
     """Draws the codes of a section; returns the numbers of those that it shows."""
-    plane, number = scene.plane(cut), kind.number[cut.index]
-    draw_ground(ax, plane)
+    number = kind.number[cut.index]
+    draw_ground(ax, scene.solid[cut.index], cut.extent)
     colours = ListedColormap([*kind.colours.values()])
     norm = BoundaryNorm(np.arange(len(kind.colours) + 1) - 0.5, len(kind.colours))
-    ax.imshow(np.ma.masked_less(number, 0), extent=plane.extent, cmap=colours, norm=norm, alpha=PALE, **MAP)
-    draw_outline(ax, plane)
+    ax.imshow(np.ma.masked_less(number, 0), extent=cut.extent, cmap=colours, norm=norm, alpha=PALE, **MAP)
+    draw_outline(ax, scene.mined[cut.index], cut.extent)
     return set(np.unique(number[number >= 0]).tolist())
 
 
@@ -157,14 +146,12 @@ class Cube:
 
 def write_block_model(model: GuessedModel, path: Path) -> None:
     shown = histograms_of(model)
-    with matplotlib.rc_context(STYLE):
-        figure = Figure(figsize=(12, 8.6), constrained_layout=True)
+    with figure_file(path, 12, 8.6) as figure:
         above, below = figure.subfigures(2, 1, height_ratios=(1, 1.7))
         for axis, (name, unit) in zip(np.ravel(above.subplots(1, len(shown), squeeze=False)), shown):
-            plot_histogram(axis, model.frame[name].to_numpy(dtype=np.float64), f"{name}, {unit}")
+            plot_histogram(axis, model.values(name), f"{name}, {unit}")
         plan, section = below.subplots(1, 2)
         plot_maps(model, plan, section)
-        finish(figure, path)
 
 
 def histograms_of(model: GuessedModel) -> list[tuple[str, str]]:
@@ -215,8 +202,7 @@ def plot_maps(model: GuessedModel, plan: Axes, section: Axes) -> None:
 
 def cube_of(model: GuessedModel, column: str) -> Cube:
     """Returns the means of a column by cells of the box; cells of several sizes lie in blocks of the largest."""
-    turned = turned_grid(model)
-    values = model.frame[column].to_numpy(dtype=np.float64)
+    turned, values = model.turned, model.values(column)
     places = [along(model, axis) for axis in "xyz"]
     names = ("east", "north")
     if turned:
@@ -237,12 +223,12 @@ def cube_of(model: GuessedModel, column: str) -> Cube:
 
 def along(model: GuessedModel, axis: str) -> tuple[np.ndarray, float, float]:
     """Returns the block of each row along an axis, from 0; the edge of the first, and the size of a block, in metres."""
-    values = model.frame[model.columns.centres[axis].column].to_numpy(dtype=np.float64)
+    values = model.centres(axis)
     if axis in model.columns.sizes:
-        sizes = model.frame[model.columns.sizes[axis].column].to_numpy(dtype=np.float64)
+        sizes = model.sides(axis)
         size, edge = float(sizes.max()), float((values - sizes / 2).min())
     else:
-        known, _ = size_of(model)
-        size = known["xyz".index(axis)] if known else least_gap(model, axis) or 1.0
+        known, _ = model.size
+        size = known["xyz".index(axis)] if known else model.least_gap(axis) or 1.0
         edge = float(values.min()) - size / 2
     return np.floor((values - edge) / size + SIDE_ERROR).astype(np.int64), edge, size

@@ -111,7 +111,6 @@ def floor_of(grid: Grid, mined: np.ndarray) -> np.ndarray:
 
     Parameters
     ----------
-    grid : Grid
     mined : array of bool, shape (levels, rows, columns)
         Whether a cell is mined; levels from the top.
     """
@@ -125,8 +124,6 @@ def contours(ax: Axes, grid: Grid, floor: np.ndarray, over: bool = False) -> int
 
     Parameters
     ----------
-    ax : Axes
-    grid : Grid
     floor : array of float, shape (rows, columns)
         Elevation of the pit floor in metres; nan outside the pit.
     over : bool

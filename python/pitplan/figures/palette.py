@@ -6,7 +6,7 @@ from collections.abc import Iterable, Sequence
 
 import pandas as pd
 
-from pitplan.config.material import MILL, ORE_NAMES
+from pitplan.config.material import MILL, ranked
 
 ORE, WASTE = "#3b6ea5", "#cfc9bd"
 # How the columns of the mill feed of a process begin.
@@ -45,15 +45,6 @@ def of_stockpiles(names: Iterable[str]) -> dict[str, str]:
 
 def of_dumps(names: Iterable[str]) -> dict[str, str]:
     return {name: DUMPS[number % len(DUMPS)] for number, name in enumerate(names)}
-
-
-def ranked(classes: Iterable[str]) -> list[str]:
-    """Returns resource classes in order: measured before indicated before others, and blocks without a class last."""
-
-    def rank(name: str) -> tuple[int, bool, str]:
-        return (ORE_NAMES.index(name.lower()) if name.lower() in ORE_NAMES else len(ORE_NAMES), not name, name)
-
-    return sorted(classes, key=rank)
 
 
 def of_classes(classes: Sequence[str]) -> dict[str, str]:

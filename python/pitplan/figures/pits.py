@@ -5,28 +5,24 @@ from __future__ import annotations
 from pathlib import Path
 from typing import Any
 
-import matplotlib
 import numpy as np
 import pandas as pd
 from matplotlib.axes import Axes
-from matplotlib.figure import Figure
 
 from pitplan.config.economics import Metal
-from pitplan.core.magnitude import scaled
+from pitplan.core.magnitude import money_unit, scaled
 from pitplan.core.revenue_factors import factor_text
 from pitplan.pits.grade_tonnage import BREAK_EVEN, MARGINAL, MODEL, PIT
 
 from . import palette
 from .palette import ORE, WASTE
-from .style import BEST, BEST_MARK, CHOSEN, PLAIN, SPECIFIED, SPECIFIED_MARK, STYLE, WORST, WORST_MARK, finish, list_of
+from .style import BEST, BEST_MARK, CHOSEN, PLAIN, SPECIFIED, SPECIFIED_MARK, WORST, WORST_MARK, figure_file, list_of
 
 
 def write_pit_by_pit(table: pd.DataFrame, currency: str, chosen: float, path: Path) -> None:
-    with matplotlib.rc_context(STYLE):
-        figure = Figure(figsize=(9.5, 4.8))
+    with figure_file(path, 9.5, 4.8, lays_out=False) as figure:
         plot_pit_by_pit(table, currency, chosen, figure.subplots())
         figure.tight_layout()
-        finish(figure, path)
 
 
 def plot_pit_by_pit(table: pd.DataFrame, currency: str, chosen: float, ax: Axes) -> Axes:
@@ -36,10 +32,8 @@ def plot_pit_by_pit(table: pd.DataFrame, currency: str, chosen: float, ax: Axes)
     ----------
     table : DataFrame
         As `Shells.table`.
-    currency : str
     chosen : float
         The revenue factor that is marked.
-    ax : Axes
 
     Returns
     -------
@@ -48,7 +42,7 @@ def plot_pit_by_pit(table: pd.DataFrame, currency: str, chosen: float, ax: Axes)
     """
     right = ax.twinx()
     draw_tonnes(ax, table, chosen)
-    draw_worth(right, table, currency)
+    draw_value(right, table, currency)
     shown = [axis.get_legend_handles_labels() for axis in (ax, right)]
     handles, names = ([*shown[0][k], *shown[1][k]] for k in (0, 1))
     ax.legend(
@@ -72,7 +66,7 @@ def draw_tonnes(axis: Axes, table: pd.DataFrame, chosen: float) -> None:
     axis.set_ylabel(f"total material, {sign}t")
 
 
-def draw_worth(axis: Axes, table: pd.DataFrame, currency: str) -> None:
+def draw_value(axis: Axes, table: pd.DataFrame, currency: str) -> None:
     """Draws undiscounted cash flow and the NPV of each case, with a ring around the maximum of each."""
     curves = [
         ("undiscounted_cash_flow", "undiscounted", PLAIN, "--o"),
@@ -82,7 +76,7 @@ def draw_worth(axis: Axes, table: pd.DataFrame, currency: str) -> None:
     ]
     curves = [curve for curve in curves if curve[0] in table]
     amounts = table[[column for column, _, _, _ in curves]]
-    size, sign = scaled(float(amounts.abs().max().max()))
+    size, unit = money_unit(float(amounts.abs().max().max()), currency)
     for column, label, colour, line in curves:
         axis.plot(
             table["revenue_factor"],
@@ -96,7 +90,7 @@ def draw_worth(axis: Axes, table: pd.DataFrame, currency: str) -> None:
         peak = amounts[column].idxmax()
         ring = {"markersize": 9, "markerfacecolor": "none", "markeredgecolor": colour}
         axis.plot(table["revenue_factor"][peak], amounts[column][peak] / size, "o", **ring)
-    axis.set_ylabel(f"cash flow and NPV at the base price, {sign} {currency}".replace(",  ", ", "))
+    axis.set_ylabel(f"cash flow and NPV at the base price, {unit}")
     axis.set_ylim(min(0.0, 1.1 * float(amounts.min().min()) / size), axis.get_ylim()[1] * 1.05)
 
 
@@ -106,10 +100,8 @@ MARKS = {MARGINAL: ("marginal", ":"), BREAK_EVEN: ("break-even", "--")}
 
 def write(table: pd.DataFrame, metal: Metal, path: Path) -> None:
     """Writes the figure of grade_tonnage.csv for the cut-offs of a metal."""
-    with matplotlib.rc_context(STYLE):
-        figure = Figure(figsize=(9.6, 4.4), constrained_layout=True)
+    with figure_file(path, 9.6, 4.4) as figure:
         plot(table, metal, figure.subplots(1, 2))
-        finish(figure, path)
 
 
 def plot(table: pd.DataFrame, metal: Metal, axes: Any) -> list[Axes]:

@@ -5,16 +5,14 @@ from __future__ import annotations
 from pathlib import Path
 from typing import Any
 
-import matplotlib
 import numpy as np
 from matplotlib.axes import Axes
-from matplotlib.figure import Figure
 
-from pitplan.core.magnitude import scaled
+from pitplan.core.magnitude import money_unit
 from pitplan.scheduling.price_paths import QUANTILES, PriceScenarios
 
 from .palette import ORE
-from .style import PLAIN, STYLE, WORST, finish, list_of
+from .style import PLAIN, WORST, figure_file, list_of
 
 MOST_METALS, SHOWN_PATHS, BARS = 2, 5, 25
 ABOVE = {"loc": "lower left", "bbox_to_anchor": (0, 1), "ncol": 2, "frameon": False, "fontsize": 8}
@@ -22,11 +20,9 @@ BAND, PATH = "#b9d3ea", "#9a9a9a"
 
 
 def write(found: PriceScenarios, path: Path) -> None:
-    with matplotlib.rc_context(STYLE):
-        count = min(len(found.prices), MOST_METALS)
-        figure = Figure(figsize=(12 if count > 1 else 9.6, 4.2), constrained_layout=True)
+    count = min(len(found.prices), MOST_METALS)
+    with figure_file(path, 12 if count > 1 else 9.6, 4.2) as figure:
         plot(found, figure.subplots(1, count + 1))
-        finish(figure, path)
 
 
 def plot(found: PriceScenarios, axes: Any) -> list[Axes]:
@@ -34,13 +30,8 @@ def plot(found: PriceScenarios, axes: Any) -> list[Axes]:
 
     Parameters
     ----------
-    found : PriceScenarios
     axes : array or list of Axes
         One per metal that is drawn, and one.
-
-    Returns
-    -------
-    list of Axes
     """
     names = list(found.prices)[:MOST_METALS]
     placed = list_of(axes, len(names) + 1)
@@ -72,7 +63,7 @@ def plot_price(found: PriceScenarios, name: str, ax: Axes) -> Axes:
 
 def plot_npv(found: PriceScenarios, ax: Axes) -> Axes:
     """Draws a histogram of the NPVs, with lines at the quantiles and at the NPV of the project's prices."""
-    size, sign = scaled(float(np.abs(found.npv).max()))
+    size, unit = money_unit(float(np.abs(found.npv).max()), found.project.economics.currency)
     npv = found.npv / size
     ax.hist(npv, bins=min(BARS, max(len(npv) // 10, 5)), color=BAND)
     for share, style in zip(QUANTILES, (":", "-", ":")):
@@ -80,7 +71,7 @@ def plot_npv(found: PriceScenarios, ax: Axes) -> Axes:
         ax.axvline(value, color=ORE, linestyle=style, linewidth=1.4, label=f"P{100 * share:.0f}: {value:,.1f}")
     base = float(found.finance.statement.discounted.sum()) / size
     ax.axvline(base, color=WORST, linestyle="--", linewidth=1.2, label=f"project's prices: {base:,.1f}")
-    ax.set_xlabel(f"NPV, {sign} {found.project.economics.currency}".replace(",  ", ", "))
+    ax.set_xlabel(f"NPV, {unit}")
     ax.set_ylabel(f"paths, of {found.rules.count:,}")
     ax.legend(**ABOVE)
     return ax

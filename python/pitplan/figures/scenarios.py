@@ -5,7 +5,7 @@ Each `plot_` function draws on the axes that it is given, and returns them; each
 
 from __future__ import annotations
 
-from functools import cached_property, partial
+from functools import cached_property
 from pathlib import Path
 from typing import Any
 
@@ -13,19 +13,18 @@ import matplotlib
 import numpy as np
 import pandas as pd
 from matplotlib.axes import Axes
-from matplotlib.collections import LineCollection
 from matplotlib.colors import BoundaryNorm, ListedColormap, to_rgba
 from matplotlib.figure import Figure
 from matplotlib.lines import Line2D
 
-from pitplan.core.cell_outlines import edges
-from pitplan.core.magnitude import scaled
+from pitplan.core.magnitude import money_unit, scaled
 from pitplan.core.revenue_factors import factor_text
 from pitplan.core.tolerances import SUM_ERROR
 from pitplan.studies.scenarios.pit_probability import QUANTILES, Likely
 
-from .scene import BlockScene, Cut, Extent, levels_of
-from .style import GROUND, MAP, STYLE, finish, list_of, write_maps
+from . import scene
+from .scene import BlockScene, Cut, Extent, draw_ground, draw_outline, levels_of, plot_section
+from .style import MAP, figure_file, list_of, panels_file
 
 STEPS = np.linspace(0, 1, 11)
 COLOURS = ListedColormap(matplotlib.colormaps["viridis_r"](np.linspace(0.02, 1, len(STEPS) - 1)))
@@ -61,9 +60,16 @@ class LikelyScene(BlockScene):
         draw(ax, self.likely.shown[cut.index], self.likely.solid[cut.index], cut.extent)
         ax.set_title(f"{cut.title[0].upper()}{cut.title[1:]}")
 
+    def draw_overview(self, ax: Axes) -> None:
+        """Draws the highest inclusion probability of each column."""
+        draw(ax, self.likely.shown.max(axis=0), self.likely.solid.any(axis=0), self.map_extent)
+        ax.set_title("Any level")
+
 
 def write_plans(likely: Likely, path: Path) -> None:
-    write_maps(likely.grid, partial(plot_plans, likely), path, 1 + len(LikelyScene(likely).levels))
+    west, east, south, north, _, _ = likely.grid.extent()
+    with panels_file(path, east - west, north - south, 1 + len(LikelyScene(likely).levels)) as axes:
+        plot_plans(likely, axes)
 
 
 def plot_plans(likely: Likely, axes: Any) -> list[Axes]:
@@ -75,54 +81,37 @@ def plot_plans(likely: Likely, axes: Any) -> list[Axes]:
         As `ScenarioResult.likely`.
     axes : array or list of Axes
         One more than levels.
-
-    Returns
-    -------
-    list of Axes
     """
-    scene = LikelyScene(likely)
-    first, *others = found = list_of(axes, 1 + len(scene.levels))
-    draw(first, likely.shown.max(axis=0), likely.solid.any(axis=0), scene.map_extent)
-    first.set_title("Any level")
-    scene.finish_map(first, has_sections=True)
-    for ax, number in zip(others, scene.levels):
-        scene.draw(scene.level(number), ax)
-        scene.finish_map(ax)
+    found = scene.plot_plans(LikelyScene(likely), axes)
     explain(found, likely)
     return found
 
 
 def write_sections(likely: Likely, path: Path) -> None:
-    with matplotlib.rc_context(STYLE):
-        west, east, south, north, bottom, top = likely.grid.extent()
-        share = min(max((top - bottom) / max(east - west, north - south), 0.2), 1.0)
-        figure = Figure(figsize=(10, 15 * share + 2), constrained_layout=True)
+    west, east, south, north, bottom, top = likely.grid.extent()
+    share = min(max((top - bottom) / max(east - west, north - south), 0.2), 1.0)
+    with figure_file(path, 10, 15 * share + 2) as figure:
         plot_sections(likely, figure.subplots(2, 1))
-        finish(figure, path)
 
 
 def plot_sections(likely: Likely, axes: Any) -> list[Axes]:
     """Draws a section from west to east and one from south to north through the blocks that half of the scenarios mine, on two axes; returns
     them."""
-    scene, found = LikelyScene(likely), list_of(axes, 2)
-    for cut, ax in zip(scene.sections, found):
-        scene.draw(cut, ax)
-        scene.finish_section(ax, cut)
+    shown, found = LikelyScene(likely), list_of(axes, 2)
+    for cut, ax in zip(shown.sections, found):
+        plot_section(shown, cut, ax)
     explain(found, likely)
     return found
 
 
 def draw(axis: Axes, share: np.ndarray, solid: np.ndarray, extent: Extent) -> None:
     """Draws probabilities above 0, and the outlines of 10 %, 50 % and 90 %."""
-    axis.imshow(np.where(solid, 1.0, np.nan), extent=extent, cmap=ListedColormap([GROUND]), **MAP)
+    draw_ground(axis, solid, extent)
     shown = np.ma.masked_where(share <= 0, share)
     axis.imshow(shown, extent=extent, cmap=COLOURS, norm=BoundaryNorm(STEPS, len(STEPS) - 1), **MAP)
-    axis.set_aspect("equal")
-    left, right, low, high = extent
-    size = np.array([(right - left) / share.shape[1], (high - low) / share.shape[0]])
     for least, style in LINES.items():
         # A share of nine in ten may be below 0.9 by rounding.
-        axis.add_collection(LineCollection(edges(share >= least - SUM_ERROR) * size + (left, low), **style))
+        draw_outline(axis, share >= least - SUM_ERROR, extent, **style)
 
 
 def explain(axes: list[Axes], likely: Likely) -> None:
@@ -141,11 +130,9 @@ def explain(axes: list[Axes], likely: Likely) -> None:
 
 
 def write_spread(table: pd.DataFrame, currency: str, path: Path) -> None:
-    with matplotlib.rc_context(STYLE):
-        figure = Figure(figsize=(11, 4.8))
+    with figure_file(path, 11, 4.8, lays_out=False) as figure:
         plot_spread(table, currency, figure.subplots(1, 2))
         leave_room(figure)
-        finish(figure, path)
 
 
 def plot_spread(table: pd.DataFrame, currency: str, axes: Any) -> list[Axes]:
@@ -156,12 +143,6 @@ def plot_spread(table: pd.DataFrame, currency: str, axes: Any) -> list[Axes]:
     ----------
     table : DataFrame
         As scenarios.csv.
-    currency : str
-    axes : array or list of two Axes
-
-    Returns
-    -------
-    list of Axes
     """
     found = list_of(axes, 2)
     sets = sets_of(table.assign(value_at_revenue_factor=table["value_at_revenue_factor"].astype(float)))
@@ -244,10 +225,8 @@ MANY = 60
 
 
 def write(table: pd.DataFrame, currency: str, path: Path) -> None:
-    with matplotlib.rc_context(STYLE):
-        figure = Figure(figsize=(11.5, 5), constrained_layout=True)
+    with figure_file(path, 11.5, 5) as figure:
         plot(table, currency, figure.subplots(1, 2, sharey=True, width_ratios=(3, 2)))
-        finish(figure, path)
 
 
 def plot(table: pd.DataFrame, currency: str, axes: Any) -> list[Axes]:
@@ -257,17 +236,10 @@ def plot(table: pd.DataFrame, currency: str, axes: Any) -> list[Axes]:
     ----------
     table : DataFrame
         The rows of schedules.csv of scenarios that have a schedule.
-    currency : str
-    axes : array or list of two Axes
-
-    Returns
-    -------
-    list of Axes
     """
     each, spread = found = list_of(axes, 2)
-    size, sign = scaled(float(table[list(LOOKS)].abs().max().max()))
+    size, unit = money_unit(float(table[list(LOOKS)].abs().max().max()), currency)
     rising = table.sort_values("upper_bound", kind="stable")[list(LOOKS)] / size
-    unit = f"{sign} {currency}".strip()
     plot_each(rising, each)
     plot_value_spread(rising, unit, spread)
     each.set_ylabel(f"NPV, {unit}")

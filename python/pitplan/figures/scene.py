@@ -1,19 +1,23 @@
-"""What plans and sections of blocks have in common: the levels and sections that are drawn, and how each is cut and named."""
+"""What plans and sections of blocks have in common: the levels and sections that are drawn, and how each is cut, named and drawn."""
 
 from __future__ import annotations
 
 from abc import ABC, abstractmethod
 from dataclasses import dataclass
+from pathlib import Path
 from typing import Any, Optional
 
 import numpy as np
 from matplotlib.axes import Axes
+from matplotlib.collections import LineCollection
+from matplotlib.colors import ListedColormap
 
 from pitplan.blockmodel.grid import Grid, metres
 from pitplan.config.project import FigureRules
+from pitplan.core.cell_outlines import edges
 
 from .map_marks import ColumnHeights, axes_of_map, draw_line, mark_map, mark_section_cells, section_titles
-from .style import name_axes
+from .style import GROUND, MAP, list_of, name_axes, panels_file
 
 Extent = tuple[float, float, float, float]
 
@@ -42,6 +46,10 @@ class Cut:
     names: tuple[str, str]
     line: Any = None
 
+    def titled(self, what: str) -> str:
+        """Returns the title of what is shown, such as "Shells on the level 10 to 20 m"."""
+        return f"{what} on the {self.title}" if self.line is None else f"{what}, {self.title}"
+
 
 class BlockScene(ABC):
     """Contents of plans and sections, with the attributes `grid`, `rules` of `[figures]`, and `topography`, the line of sections."""
@@ -49,6 +57,14 @@ class BlockScene(ABC):
     grid: Grid
     rules: FigureRules
     topography: Optional[ColumnHeights] = None
+
+    @abstractmethod
+    def draw(self, cut: Cut, ax: Axes) -> None:
+        """Draws the blocks of a level or section, with a title."""
+
+    @abstractmethod
+    def draw_overview(self, ax: Axes) -> None:
+        """Draws the first map of plans, with a title."""
 
     @property
     @abstractmethod
@@ -115,6 +131,57 @@ class BlockScene(ABC):
         name_axes(ax, *cut.names)
         if self.topography is not None:
             draw_line(ax, self.topography, cut.line)
+
+
+def write_plans(scene: BlockScene, path: Path) -> None:
+    west, east, south, north = scene.map_extent
+    with panels_file(path, east - west, north - south, 1 + len(scene.levels)) as axes:
+        plot_plans(scene, axes)
+
+
+def plot_plans(scene: BlockScene, axes: Any) -> list[Axes]:
+    """Draws an overview of a scene, and some of its levels, by default three.
+
+    Parameters
+    ----------
+    axes : array or list of Axes
+        One more than levels.
+    """
+    first, *others = found = list_of(axes, 1 + len(scene.levels))
+    scene.draw_overview(first)
+    scene.finish_map(first, has_sections=True)
+    for ax, number in zip(others, scene.levels):
+        plot_level(scene, number, ax)
+    return found
+
+
+def plot_level(scene: BlockScene, number: int, ax: Axes) -> Axes:
+    """Draws a level, counted from 0 at the top; returns `ax`."""
+    scene.draw(scene.level(number), ax)
+    scene.finish_map(ax)
+    return ax
+
+
+def plot_section(scene: BlockScene, cut: Cut, ax: Axes) -> Axes:
+    """Draws a section, as `scene.from_west_to_east` returns it; returns `ax`."""
+    scene.draw(cut, ax)
+    scene.finish_section(ax, cut)
+    return ax
+
+
+def draw_ground(ax: Axes, solid: np.ndarray, extent: Extent) -> None:
+    """Draws the cells of a plane that have tonnes, in grey."""
+    ax.imshow(np.where(solid, 1.0, np.nan), extent=extent, cmap=ListedColormap([GROUND]), **MAP)
+    ax.set_aspect("equal")
+
+
+def draw_outline(ax: Axes, inside: np.ndarray, extent: Extent, **look: Any) -> None:
+    """Draws the outline of some cells of a plane, by default as a black line."""
+    left, right, low, high = extent
+    rows, columns = inside.shape
+    size = np.array([(right - left) / columns, (high - low) / rows])
+    look = look or {"colors": "black", "linewidths": 1.3}
+    ax.add_collection(LineCollection(edges(inside) * size + (left, low), **look))
 
 
 def place_of(coordinate: float, grid: Grid, axis: int) -> int:

@@ -22,10 +22,11 @@ from pitplan.config.material import PIT, WASTE as AS_WASTE
 from pitplan.config.periods import Calendar
 from pitplan.config.project import Project
 from pitplan.config.shells import ShellRules
-from pitplan.core.magnitude import scaled
+from pitplan.core.magnitude import money_unit, scaled
 from pitplan.core.revenue_factors import factor_text
 from pitplan.pits.shells import ratio
 from pitplan.pushbacks.bench_table import ROCK
+from pitplan.results.rounding import metal_unit
 from pitplan.scheduling.cash_flow.tables import BlockOperation
 from pitplan.scheduling.flow.tables import feed_table
 from pitplan.scheduling.methods import LP, MILP, NAMES, RULE
@@ -33,7 +34,7 @@ from pitplan.scheduling.pushback_schedule import PushbackSchedule
 
 from . import palette
 from .palette import WASTE
-from .style import BEST, BEST_MARK, PLAIN, SPECIFIED, SPECIFIED_MARK, STYLE, WORST, WORST_MARK, finish, list_of
+from .style import BEST, BEST_MARK, PLAIN, SPECIFIED, SPECIFIED_MARK, WORST, WORST_MARK, figure_file, list_of
 
 if TYPE_CHECKING:
     from pitplan.scheduling.blocks.tables import BlockSchedule
@@ -50,7 +51,7 @@ MOST_BELOW = 0.8
 
 @dataclass(frozen=True)
 class Scale:
-    """The common scale of all cases: size and sign of the units of tonnes and money, and the limits of the axes in these units."""
+    """The common scale of all cases: size and name of the units of tonnes and money, and the limits of the axes in these units."""
 
     tonnes: tuple[float, str]
     money: tuple[float, str]
@@ -80,7 +81,7 @@ def in_words(by_year: tuple[float, ...], size: float) -> str:
     return " to ".join(f"{round(end, 3):,.12g}" for end in ends)
 
 
-def scale_of(years: pd.DataFrame, settings: ShellRules) -> Scale:
+def scale_of(years: pd.DataFrame, settings: ShellRules, currency: str) -> Scale:
     """Returns limits that hold all years, with zero at the same height on both axes."""
     most = max(float(years["total_tonnes"].max()), 1.0)
     longest = float(settings.calendar.lengths(int(years["year"].max())).max())
@@ -89,7 +90,7 @@ def scale_of(years: pd.DataFrame, settings: ShellRules) -> Scale:
     tonnes = scaled(max(most, *near, 0.0))
     top = MARGIN * max(most, *near, 0.0) / tonnes[0]
     earned, spent = max(float(years["cash_flow"].max()), 0.0), max(-float(years["cash_flow"].min()), 0.0)
-    money = scaled(max(earned, spent))
+    money = money_unit(max(earned, spent), currency)
     whole = MARGIN * max(earned + spent, 1.0) / money[0]
     below = min((spent / money[0] + 0.03 * whole) / whole, MOST_BELOW) if spent else 0.0
     whole = max(whole, 1.03 * spent / money[0] / MOST_BELOW)
@@ -97,13 +98,10 @@ def scale_of(years: pd.DataFrame, settings: ShellRules) -> Scale:
 
 
 def write_years(table: pd.DataFrame, project: Project, chosen: float, path: Path) -> None:
-    with matplotlib.rc_context(STYLE):
-        panels = len(cases_of(table))
-        figure = Figure(figsize=(12, 4.6))
-        plot_years(table, project, chosen, figure.subplots(1, panels, sharex=True))
+    with figure_file(path, 12, 4.6, lays_out=False) as figure:
+        plot_years(table, project, chosen, figure.subplots(1, len(cases_of(table)), sharex=True))
         if (table["revenue_factor"] == chosen).any():
             figure.tight_layout(rect=(0, 0, 1, 0.92))
-        finish(figure, path)
 
 
 def cases_of(table: pd.DataFrame) -> list[str]:
@@ -119,15 +117,10 @@ def plot_years(table: pd.DataFrame, project: Project, chosen: float, axes: Any) 
     ----------
     table : DataFrame
         As `Shells.years`.
-    project : Project
     chosen : float
         Revenue factor of the pit.
     axes : array or list of Axes
         Two, or three if a case is specified.
-
-    Returns
-    -------
-    list of Axes
     """
     found, years = list_of(axes, len(cases_of(table))), table[table["revenue_factor"] == chosen]
     if years.empty:
@@ -141,18 +134,16 @@ def plot_years(table: pd.DataFrame, project: Project, chosen: float, axes: Any) 
 
 def draw(axes: list[Axes], years: pd.DataFrame, project: Project) -> None:
     """Draws a panel per case, and one legend for all."""
-    scale = scale_of(years, project.shells)
-    currency = project.economics.currency
+    scale = scale_of(years, project.shells, project.economics.currency)
+    size, unit = scale.money
     rights = [axis.twinx() for axis in axes]
     for left, right, case in zip(axes, rights, cases_of(years)):
         shown = years[years["case"] == case]
         draw_tonnes(left, shown, scale, project.shells)
         draw_cash(right, shown, scale)
-        size, sign = scale.money
-        npv = f"{shown['discounted_cash_flow'].sum() / size:,.1f} {sign} {currency}".replace("  ", " ")
-        left.set_title(f"{CASES[case]}: NPV {npv}")
+        left.set_title(f"{CASES[case]}: NPV {shown['discounted_cash_flow'].sum() / size:,.1f} {unit}")
     axes[0].set_ylabel(f"total material, {scale.tonnes[1]}t")
-    rights[-1].set_ylabel(f"undiscounted cash flow, {scale.money[1]} {currency}".replace(",  ", ", "))
+    rights[-1].set_ylabel(f"undiscounted cash flow, {unit}")
     # Bars first in the legend; matplotlib puts lines first.
     drawn = [axes[0].containers, axes[0].lines, rights[0].lines[:1]]
     handles = [handle for handles in drawn for handle in handles]
@@ -213,18 +204,11 @@ def plot_metal(feed: pd.DataFrame, metal: Metal, calendar: Calendar, ax: Axes) -
     ----------
     feed : DataFrame
         Rows of a method with year, process, recovered_METAL and head_grade_METAL, as in feed.csv.
-    metal : Metal
-    calendar : Calendar
-    ax : Axes
-
-    Returns
-    -------
-    Axes
     """
     processes = list(dict.fromkeys(feed["process"]))
     colours, right = palette.of_processes(processes), ax.twinx()
     sums = feed.groupby("year")[f"recovered_{metal.name}"].sum()
-    size, unit = unit_of(float(sums.max()) if len(sums) else 0.0, metal)
+    size, unit = metal_unit(float(sums.max()) if len(sums) else 0.0, metal)
     below = np.zeros(len(sums))
     for process in processes:
         shown = feed[feed["process"] == process]
@@ -251,14 +235,6 @@ def metal_rows(figure: Figure, count: int, place: dict[str, float], sharey: bool
     return list(np.ravel(figure.add_gridspec(1, count, **place).subplots(sharey=sharey, squeeze=False)))
 
 
-def unit_of(most: float, metal: Metal) -> tuple[float, str]:
-    """Returns size and sign of a unit for quantities of a metal up to `most`: grams become kilograms and tonnes."""
-    if metal.quantity == "g":
-        return (1e6, "t") if most >= 1e7 else (1e3, "kg") if most >= 1e4 else (1.0, "g")
-    size, sign = scaled(most)
-    return size, f"{sign}t"
-
-
 TITLES = {RULE: "Rule", LP: "Linear programme", MILP: "Integer programme"}
 # The least opacity, for the smallest part of a bench.
 PALEST = 0.25
@@ -269,19 +245,14 @@ DARK = 0.45
 
 
 def write_gantt(schedule: PushbackSchedule, path: Path) -> None:
-    count = len(schedule.shares)
-    with matplotlib.rc_context(STYLE):
-        if is_by_bench(schedule):
-            high = min(max(3.2, 0.16 * len(schedule.benches)), 14.0)
-            figure = Figure(figsize=(12, high + 0.8), constrained_layout=True)
-            axes = figure.subplots(1, count, sharex=True, sharey=True, squeeze=False)
-        else:
-            figure = Figure(
-                figsize=(12, count * (0.5 * schedule.benches.pushback.max() + 0.9)), constrained_layout=True
-            )
-            axes = figure.subplots(count, 1, sharex=True, squeeze=False)
-        plot_gantt(schedule, axes)
-        finish(figure, path)
+    count, by_bench = len(schedule.shares), is_by_bench(schedule)
+    if by_bench:
+        high = min(max(3.2, 0.16 * len(schedule.benches)), 14.0) + 0.8
+    else:
+        high = count * (0.5 * schedule.benches.pushback.max() + 0.9)
+    with figure_file(path, 12, high) as figure:
+        rows, columns = (1, count) if by_bench else (count, 1)
+        plot_gantt(schedule, figure.subplots(rows, columns, sharex=True, sharey=by_bench, squeeze=False))
 
 
 def is_by_bench(schedule: PushbackSchedule) -> bool:
@@ -294,13 +265,8 @@ def plot_gantt(schedule: PushbackSchedule, axes: Any) -> list[Axes]:
 
     Parameters
     ----------
-    schedule : PushbackSchedule
     axes : array or list of Axes
         One per method.
-
-    Returns
-    -------
-    list of Axes
     """
     found = list_of(axes, len(schedule.shares))
     for ax, way in zip(found, schedule.shares):
@@ -324,17 +290,9 @@ def draw_pushbacks(schedule: PushbackSchedule, way: str, ax: Axes) -> None:
         is_dark = shade * (1 - tints[row, :3].mean()) > DARK
         words = {"ha": "center", "va": "center", "fontsize": 6.5, "color": "white" if is_dark else "black"}
         ax.text(year + 1, row, f"{mined.max():.0f}\n{mined.min():.0f}", **words)
-    longest = max(other.shape[1] for other in schedule.shares.values())
-    ax.set_xlim(0.5, longest + 0.5)
     ax.set_ylim(count - 0.5, -0.5)
     ax.set_yticks(range(count), [f"pushback {number}" for number in range(1, count + 1)])
-    ax.xaxis.set_major_locator(MaxNLocator(integer=True))
-    ax.set_xlabel(label_of(schedule.settings.calendar, longest))
-    ax.set_title(
-        f"{TITLES.get(way, way)}: NPV {money(schedule.value(way), schedule)}; toe of highest and lowest bench of each {schedule.settings.calendar.word}, m"
-    )
-    if not shares.any():
-        ax.text(0.5, 0.5, "nothing is mined", transform=ax.transAxes, ha="center", va="center")
+    finish_gantt(schedule, way, ax, f"; toe of highest and lowest bench of each {schedule.settings.calendar.word}, m")
 
 
 def draw_gantt(schedule: PushbackSchedule, way: str, ax: Axes) -> None:
@@ -346,16 +304,27 @@ def draw_gantt(schedule: PushbackSchedule, way: str, ax: Axes) -> None:
     tints[:, 3] = PALEST + (1 - PALEST) * shares[bench, year]
     bars = [Rectangle((t + 0.5, row[b] - 0.5), 1, 1) for b, t in zip(bench, year)]
     ax.add_collection(PatchCollection(bars, facecolors=tints, edgecolors="white", linewidths=0.3))
-    longest = max(other.shape[1] for other in schedule.shares.values())
-    ax.set_xlim(0.5, longest + 0.5)
     ax.set_ylim(row[-1] + 1, -1)
+    ax.spines["right"].set_visible(False)
+    name_benches(schedule, row, ax)
+    finish_gantt(schedule, way, ax)
+
+
+def finish_gantt(schedule: PushbackSchedule, way: str, ax: Axes, more: str = "") -> None:
+    """Adds the axis of years and a title, which ends with `more`; a text if nothing is mined."""
+    longest, value = longest_of(schedule), schedule.value(way)
+    size, unit = money_unit(abs(value), schedule.pushbacks.plan.project.economics.currency)
+    ax.set_xlim(0.5, longest + 0.5)
     ax.xaxis.set_major_locator(MaxNLocator(integer=True))
     ax.set_xlabel(label_of(schedule.settings.calendar, longest))
-    ax.spines["right"].set_visible(False)
-    ax.set_title(f"{TITLES.get(way, way)}: NPV {money(schedule.value(way), schedule)}")
-    name_benches(schedule, row, longest, ax)
-    if not shares.any():
+    ax.set_title(f"{TITLES.get(way, way)}: NPV {value / size:,.2f} {unit}{more}")
+    if not schedule.shares[way].any():
         ax.text(0.5, 0.5, "nothing is mined", transform=ax.transAxes, ha="center", va="center")
+
+
+def longest_of(schedule: PushbackSchedule) -> int:
+    """Returns the years of the method that takes most."""
+    return max(shares.shape[1] for shares in schedule.shares.values())
 
 
 def gantt_rows(schedule: PushbackSchedule) -> np.ndarray:
@@ -369,7 +338,7 @@ def pushback_tints(count: int) -> np.ndarray:
     return matplotlib.colormaps["viridis_r"](np.linspace(0.08, 0.95, count))
 
 
-def name_benches(schedule: PushbackSchedule, row: np.ndarray, longest: int, ax: Axes) -> None:
+def name_benches(schedule: PushbackSchedule, row: np.ndarray, ax: Axes) -> None:
     benches, toes = schedule.benches, schedule.pushbacks.plan.grid.toes()
     each = -(-len(benches) // MOST_NAMES)
     shown = [bench for bench in range(len(benches)) if benches.level[bench] % each == 0]
@@ -377,12 +346,7 @@ def name_benches(schedule: PushbackSchedule, row: np.ndarray, longest: int, ax: 
     for number in np.unique(benches.pushback):
         first = row[benches.pushback == number][0]
         ax.text(0.6, first - 1.0, f"pushback {number}", va="center", ha="left", fontsize=8, fontweight="bold")
-        ax.plot([0.5, longest + 0.5], [first - 0.55] * 2, color="#999999", linewidth=0.6)
-
-
-def money(amount: float, schedule: PushbackSchedule) -> str:
-    size, sign = scaled(abs(amount))
-    return f"{amount / size:,.2f} {sign} {schedule.pushbacks.plan.project.economics.currency}".replace("  ", " ")
+        ax.plot([0.5, longest_of(schedule) + 0.5], [first - 0.55] * 2, color="#999999", linewidth=0.6)
 
 
 COLOURS = {
@@ -413,11 +377,9 @@ LINES = {
 def write_tonnes(schedule: PushbackSchedule, path: Path) -> None:
     """Writes the tonnes of each method, and below them the metals of the one that is shown."""
     metals = schedule.pushbacks.plan.project.metals[:MOST_METALS]
-    with matplotlib.rc_context(STYLE):
-        figure = Figure(figsize=(12, 8.0))
+    with figure_file(path, 12, 8.0, lays_out=False) as figure:
         plot_tonnes(schedule, metal_rows(figure, len(schedule.shares), UPPER, sharey=True))
         plot_metals(schedule, metal_rows(figure, len(metals), LOWER))
-        finish(figure, path)
 
 
 def plot_tonnes(schedule: PushbackSchedule, axes: Any) -> list[Axes]:
@@ -426,13 +388,8 @@ def plot_tonnes(schedule: PushbackSchedule, axes: Any) -> list[Axes]:
 
     Parameters
     ----------
-    schedule : PushbackSchedule
     axes : array or list of Axes
         One per method.
-
-    Returns
-    -------
-    list of Axes
     """
     found, tonnes = list_of(axes, len(schedule.shares)), tonnes_of(schedule)
     size, sign = scaled(float(tonnes.groupby(["method", "year"]).sum().max() if len(tonnes) else 1.0))
@@ -455,13 +412,8 @@ def plot_metals(schedule: PushbackSchedule, axes: Any) -> list[Axes]:
 
     Parameters
     ----------
-    schedule : PushbackSchedule
     axes : array or list of Axes
         One per metal.
-
-    Returns
-    -------
-    list of Axes
     """
     metals = schedule.pushbacks.plan.project.metals[:MOST_METALS]
     found, feed = list_of(axes, len(metals)), feed_table(schedule)
@@ -547,29 +499,24 @@ def draw_limits(ax: Axes, schedule: PushbackSchedule, count: int, unit: tuple[fl
     """Draws a line per capacity; that of the mill with its ramp-up."""
     size, sign = unit
     limits = schedule.problem.limits
-    edges = np.arange(max(count, 1) + 1) + 0.5
     mill = "processing capacity (all processes)" if len(limits.parts("feed_tonnes")) > 1 else "processing capacity"
     for name, label, colour in (("feed_tonnes", mill, MILL), ("total_tonnes", "mining capacity", SHOVELS)):
         if limits.parts(name):
             most = limits.sum_of_years(name, max(count, 1)) / size
             label = f"{label}: {in_words(limits.sums_per_year(name), size)} {sign}t a year"
-            ax.plot(
-                edges,
-                np.append(most, most[-1]),
-                drawstyle="steps-post",
-                color=colour,
-                linestyle="--",
-                linewidth=1.3,
-                label=label,
-            )
+            draw_limit(ax, most, colour, label)
+
+
+def draw_limit(ax: Axes, most: np.ndarray, colour: str, label: str) -> None:
+    """Draws the limit of each year as a line of steps."""
+    look = {"drawstyle": "steps-post", "linestyle": "--", "linewidth": 1.3}
+    ax.plot(np.arange(len(most) + 1) + 0.5, np.append(most, most[-1]), color=colour, label=label, **look)
 
 
 def write_cumulative(schedule: PushbackSchedule, years: pd.DataFrame, path: Path) -> None:
-    with matplotlib.rc_context(STYLE):
-        figure = Figure(figsize=(9.5, 4.8))
+    with figure_file(path, 9.5, 4.8, lays_out=False) as figure:
         plot_cumulative(schedule, years, figure.subplots())
         figure.tight_layout()
-        finish(figure, path)
 
 
 def curves_of(schedule: PushbackSchedule, years: pd.DataFrame) -> dict[str, np.ndarray]:
@@ -592,63 +539,43 @@ def plot_cumulative(schedule: PushbackSchedule, years: pd.DataFrame, ax: Axes) -
 
     Parameters
     ----------
-    schedule : PushbackSchedule
     years : DataFrame
         As years.csv.
-    ax : Axes
-
-    Returns
-    -------
-    Axes
     """
     curves = curves_of(schedule, years)
-    size, sign = scaled(max(float(np.abs(curve).max()) for curve in curves.values()))
+    currency = schedule.pushbacks.plan.project.economics.currency
+    size, unit = money_unit(max(float(np.abs(curve).max()) for curve in curves.values()), currency)
     for case, curve in curves.items():
         if len(curve) > 1:
-            ax.plot(
-                np.append(0.0, schedule.settings.calendar.ends(len(curve) - 1)),
-                curve / size,
-                color=COLOURS[case],
-                label=f"{NAMES[case]}: {curve[-1] / size:,.2f}",
-                **LINES[case],
-            )
+            ends = np.append(0.0, schedule.settings.calendar.ends(len(curve) - 1))
+            label = f"{NAMES[case]}: {curve[-1] / size:,.2f}"
+            ax.plot(ends, curve / size, color=COLOURS[case], label=label, **LINES[case])
     if schedule.upper_bound is not None:
         label = f"{NAMES['upper_bound']}: {schedule.upper_bound / size:,.2f}"
         ax.axhline(schedule.upper_bound / size, color=COLOURS["upper_bound"], linewidth=0.9, linestyle=":", label=label)
+    finish_value(ax, unit)
+    return ax
+
+
+def finish_value(ax: Axes, unit: str) -> None:
+    """Adds the axes and the legend of cumulative discounted cash flows."""
     ax.axhline(0, color="black", linewidth=0.8)
     ax.set_xlabel("end of year")
-    ax.set_ylabel(
-        f"cumulative discounted cash flow, {sign} {schedule.pushbacks.plan.project.economics.currency}".replace(
-            ",  ", ", "
-        )
-    )
+    ax.set_ylabel(f"cumulative discounted cash flow, {unit}")
     ax.xaxis.set_major_locator(MaxNLocator(integer=True))
     ax.legend(loc="lower right", facecolor="white", edgecolor="none", framealpha=0.9)
-    return ax
 
 
 def write(made: BlockSchedule, path: Path) -> None:
     """Writes tonnes and cash flow, and below them the metals."""
     metals = made.planned.plan.project.metals[:MOST_METALS]
-    with matplotlib.rc_context(STYLE):
-        figure = Figure(figsize=(12, 8.0))
+    with figure_file(path, 12, 8.0, lays_out=False) as figure:
         plot(made, metal_rows(figure, 2, UPPER | {"wspace": 0.16, "top": 0.96}))
         plot_block_metals(made, metal_rows(figure, len(metals), LOWER))
-        finish(figure, path)
 
 
 def plot(made: BlockSchedule, axes: Any) -> list[Axes]:
-    """Draws ore and waste of each year with the capacities, and the cumulative discounted cash flow with the upper bound.
-
-    Parameters
-    ----------
-    made : BlockSchedule
-    axes : array or list of two Axes
-
-    Returns
-    -------
-    list of Axes
-    """
+    """Draws ore and waste of each year with the capacities, and the cumulative discounted cash flow with the upper bound."""
     tonnes, money = list_of(axes, 2)
     plot_block_tonnes(made, tonnes)
     plot_value(made, money)
@@ -710,24 +637,12 @@ def plot_block_tonnes(made: BlockSchedule, ax: Axes) -> None:
     top = max(float(years["total_tonnes"].max()), 1.0) if len(years) else 1.0
     size, sign = scaled(top)
     draw_bars(ax, made, size)
-    edges = np.arange(max(len(years), 1) + 1) + 0.5
-    for name, label, colour in (
-        ("feed_tonnes", "processing capacity", MILL),
-        ("total_tonnes", "mining capacity", SHOVELS),
-    ):
+    capacities = (("feed_tonnes", "processing capacity", MILL), ("total_tonnes", "mining capacity", SHOVELS))
+    for name, label, colour in capacities:
         per_year = sum(limits.most[it] for it in limits.parts(name))
         if limits.parts(name) and per_year <= FAR_ABOVE * top:
-            most = limits.sum_of_years(name, len(edges) - 1) / size
-            label = f"{label}: {round(per_year / size, 3):,.12g} {sign}t a year"
-            ax.plot(
-                edges,
-                np.append(most, most[-1]),
-                drawstyle="steps-post",
-                color=colour,
-                linestyle="--",
-                linewidth=1.3,
-                label=label,
-            )
+            most = limits.sum_of_years(name, max(len(years), 1)) / size
+            draw_limit(ax, most, colour, f"{label}: {round(per_year / size, 3):,.12g} {sign}t a year")
             top = max(top, most.max() * size)
     ax.set_ylim(0, 1.2 * MARGIN * top / size)
     ax.set_ylabel(f"total material, {sign}t")
@@ -736,20 +651,12 @@ def plot_block_tonnes(made: BlockSchedule, ax: Axes) -> None:
 
 def plot_value(made: BlockSchedule, ax: Axes) -> None:
     earned = np.append(0.0, made.years["discounted_cash_flow"].cumsum())
-    size, sign = scaled(max(float(np.abs(earned).max()), made.found.bound))
     currency = made.planned.plan.project.economics.currency
+    size, unit = money_unit(max(float(np.abs(earned).max()), made.found.bound), currency)
     marks = {"color": palette.ORE, "marker": "o", "markersize": 3, "linewidth": 1.4}
     ends = np.append(0.0, made.planned.limits.calendar.ends(len(earned) - 1))
     ax.plot(ends, earned / size, label=f"schedule: {earned[-1] / size:,.2f}", **marks)
-    ax.axhline(
-        made.found.bound / size,
-        color=PLAIN,
-        linestyle="--",
-        linewidth=1.2,
-        label=f"upper bound, any schedule by block: {made.found.bound / size:,.2f}",
-    )
-    ax.axhline(0, color="black", linewidth=0.8)
-    ax.xaxis.set_major_locator(MaxNLocator(integer=True))
-    ax.set_xlabel("end of year")
-    ax.set_ylabel(f"cumulative discounted cash flow, {sign} {currency}".replace(",  ", ", "))
-    ax.legend(loc="lower right", facecolor="white", edgecolor="none", framealpha=0.9)
+    bound = made.found.bound / size
+    label = f"upper bound, any schedule by block: {bound:,.2f}"
+    ax.axhline(bound, color=PLAIN, linestyle="--", linewidth=1.2, label=label)
+    finish_value(ax, unit)

@@ -7,6 +7,7 @@ Each `plot_` function draws on the axes that it is given, and returns them; each
 from __future__ import annotations
 
 from collections.abc import Callable
+from itertools import cycle
 from pathlib import Path
 
 import matplotlib
@@ -15,15 +16,14 @@ import pandas as pd
 from matplotlib.axes import Axes
 from matplotlib.axis import Axis
 from matplotlib.colors import ListedColormap
-from matplotlib.figure import Figure
 from matplotlib.ticker import FuncFormatter
 from numpy.typing import NDArray
 
-from pitplan.core.magnitude import scaled
+from pitplan.core.magnitude import money_unit, scaled
 from pitplan.results import names
 from pitplan.results.rounding import parameter_unit, spoken
 
-from .style import STYLE, finish
+from .style import figure_file
 
 LESS, MORE = "#c0504d", "#1f3f6e"
 COLOURS = ("#0072b2", "#d55e00", "#009e73", "#aa4499", "#b58900", "#555555", "#56b4e9", "#8b0000", "#6b8e23", "#000000")
@@ -49,16 +49,14 @@ def singles(table: pd.DataFrame) -> dict[str, pd.Series]:
 
 
 def write_tornado(table: pd.DataFrame, currency: str, path: Path) -> None:
-    with matplotlib.rc_context(STYLE):
-        figure = Figure(figsize=(9, 1.6 + 0.5 * max(len(singles(table)), 2)), constrained_layout=True)
+    with figure_file(path, 9, 1.6 + 0.5 * max(len(singles(table)), 2)) as figure:
         plot_tornado(table, currency, figure.subplots())
-        finish(figure, path)
 
 
 def plot_tornado(table: pd.DataFrame, currency: str, axes: Axes) -> Axes:
     """Draws the NPV at the smallest and the largest change of each parameter, the most sensitive one on top; returns `axes`."""
     curves, base = singles(table), float(table["npv"].iloc[0])
-    size, sign = scaled(float(table["npv"].abs().max()))
+    size, unit = money_unit(float(table["npv"].abs().max()), currency)
     order = sorted(curves, key=lambda name: np.ptp([curves[name].iloc[0], base, curves[name].iloc[-1]]))
     for place, name in enumerate(order):
         for share, npv, colour in (
@@ -70,9 +68,7 @@ def plot_tornado(table: pd.DataFrame, currency: str, axes: Axes) -> Axes:
             axes.annotate(PER_CENT(share), (npv / size, place), xytext=(-4 if at_left else 4, 0), **words)
     axes.axvline(base / size, color="black", linewidth=0.9)
     axes.set_yticks(range(len(order)), [spoken(name) for name in order])
-    axes.set_xlabel(
-        f"NPV, {sign} {currency} (mean of best and worst case; base case {base / size:,.1f})".replace(",  ", ", ")
-    )
+    axes.set_xlabel(f"NPV, {unit} (mean of best and worst case; base case {base / size:,.1f})")
     axes.margins(x=0.14)
     axes.spines[["left", "right", "top"]].set_visible(False)
     axes.tick_params(axis="y", length=0)
@@ -80,28 +76,21 @@ def plot_tornado(table: pd.DataFrame, currency: str, axes: Axes) -> Axes:
 
 
 def write_spider(table: pd.DataFrame, currency: str, path: Path) -> None:
-    with matplotlib.rc_context(STYLE):
-        figure = Figure(figsize=(9, 5), constrained_layout=True)
+    with figure_file(path, 9, 5) as figure:
         plot_spider(table, currency, figure.subplots())
-        finish(figure, path)
 
 
 def plot_spider(table: pd.DataFrame, currency: str, axes: Axes) -> Axes:
     """Draws the NPV of each parameter by its change, through the base case; returns `axes`."""
-    curves, (size, sign) = singles(table), scaled(float(table["npv"].abs().max()))
-    for number, (name, curve) in enumerate(curves.items()):
-        look = {
-            "color": COLOURS[number % len(COLOURS)],
-            "marker": MARKS[number % len(MARKS)],
-            "markersize": 4.5,
-            "linewidth": 1.5,
-        }
+    curves, (size, unit) = singles(table), money_unit(float(table["npv"].abs().max()), currency)
+    for (name, curve), colour, marker in zip(curves.items(), cycle(COLOURS), cycle(MARKS)):
+        look = {"color": colour, "marker": marker, "markersize": 4.5, "linewidth": 1.5}
         axes.plot(curve.index, curve / size, label=spoken(name), **look)
     axes.axvline(0, color="black", linewidth=0.8)
     axes.set_xticks(sorted({share for curve in curves.values() for share in curve.index}))
     axes.xaxis.set_major_formatter(PER_CENT)
     axes.set_xlabel("change of the parameter")
-    axes.set_ylabel(f"NPV, {sign} {currency} (mean of best and worst case)".replace(",  ", ", "))
+    axes.set_ylabel(f"NPV, {unit} (mean of best and worst case)")
     axes.legend(loc="center left", bbox_to_anchor=(1.02, 0.5), frameon=False)
     return axes
 
@@ -116,17 +105,15 @@ def grid_of(table: pd.DataFrame, one: str, other: str) -> pd.DataFrame:
 
 
 def write_grid(table: pd.DataFrame, pair: tuple[str, str], currency: str, path: Path) -> None:
-    with matplotlib.rc_context(STYLE):
-        wide, high = grid_of(table, *pair).shape[::-1]
-        figure = Figure(figsize=(2.6 + 0.95 * wide, 1.6 + 0.55 * high), constrained_layout=True)
+    wide, high = grid_of(table, *pair).shape[::-1]
+    with figure_file(path, 2.6 + 0.95 * wide, 1.6 + 0.55 * high) as figure:
         plot_grid(table, pair, currency, figure.subplots())
-        finish(figure, path)
 
 
 def plot_grid(table: pd.DataFrame, pair: tuple[str, str], currency: str, axes: Axes) -> Axes:
     """Draws the NPV at each change of two parameters, as number and colour, with a frame around the base case; returns `axes`."""
     grid = grid_of(table, *pair)
-    size, sign = scaled(float(grid.abs().max().max()))
+    size, unit = money_unit(float(grid.abs().max().max()), currency)
     amounts, base = grid.to_numpy() / size, float(table["npv"].iloc[0]) / size
     reach = max(float(np.abs(amounts - base).max()), 1e-12)
     axes.imshow(amounts, cmap="RdBu", vmin=base - 1.6 * reach, vmax=base + 1.6 * reach, origin="lower", aspect="auto")
@@ -140,7 +127,7 @@ def plot_grid(table: pd.DataFrame, pair: tuple[str, str], currency: str, axes: A
     axes.set_xticks(range(len(grid.columns)), [PER_CENT(share) for share in grid.columns])
     axes.set_ylabel(spoken(pair[0]))
     axes.set_xlabel(spoken(pair[1]))
-    axes.set_title(f"NPV, {sign} {currency}".replace(",  ", ", "))
+    axes.set_title(f"NPV, {unit}")
     axes.grid(False)
     return axes
 
@@ -152,10 +139,8 @@ Values = NDArray[np.float64]
 
 
 def write(table: pd.DataFrame, currency: str, path: Path) -> None:
-    with matplotlib.rc_context(STYLE):
-        figure = Figure(figsize=(9, 5.6), constrained_layout=True)
+    with figure_file(path, 9, 5.6) as figure:
         plot(table, currency, figure.subplots())
-        finish(figure, path)
 
 
 def plot(table: pd.DataFrame, currency: str, ax: Axes) -> Axes:
@@ -165,25 +150,19 @@ def plot(table: pd.DataFrame, currency: str, ax: Axes) -> Axes:
     ----------
     table : DataFrame
         As hill_of_value.csv.
-    currency : str
-    ax : Axes
-
-    Returns
-    -------
-    Axes
     """
     grid = table.pivot(index="second_value", columns="value", values="npv").sort_index().sort_index(axis=1)
-    size, sign = scaled(float(table["npv"].abs().max()))
+    size, unit = money_unit(float(table["npv"].abs().max()), currency)
     across, up, npv = grid.columns.to_numpy(), grid.index.to_numpy(), grid.to_numpy() / size
     if np.ptp(npv) > 0:
         filled = ax.contourf(across, up, npv, LEVELS, cmap=PALE)
         lines = ax.contour(across, up, npv, LEVELS, colors="black", linewidths=0.5)
         ax.clabel(lines, fontsize=7)
-        ax.figure.colorbar(filled, ax=ax, label=f"NPV, {sign} {currency}".replace(",  ", ", "))
+        ax.figure.colorbar(filled, ax=ax, label=f"NPV, {unit}")
     cases = table.loc[table["npv"].notna()]
     ax.plot(cases["value"], cases["second_value"], ".", color="#444444", markersize=3, clip_on=False)
     best = cases.loc[cases["npv"].idxmax()]
-    money = f"{best['npv'] / size:,.2f} {sign} {currency}".replace("  ", " ")
+    money = f"{best['npv'] / size:,.2f} {unit}"
     of_axes = zip((ax.xaxis, ax.yaxis), (across, up), ("", "second_"))
     one, other = (
         label_axis(axis, values, table[f"{word}parameter"].iloc[0], currency)(best[f"{word}value"])

@@ -2,7 +2,7 @@
 
 from __future__ import annotations
 
-from collections.abc import Callable, Iterator
+from collections.abc import Iterator
 from contextlib import contextmanager
 from contextvars import ContextVar
 from pathlib import Path
@@ -15,7 +15,6 @@ from matplotlib.backends.backend_agg import FigureCanvasAgg
 from matplotlib.figure import Figure
 from matplotlib.ticker import MaxNLocator
 
-from pitplan.blockmodel.grid import Grid
 from pitplan.errors import PlanError
 
 GROUND = "#ece8df"
@@ -66,23 +65,24 @@ def name_axes(axis: Axes, across: str, up: str) -> None:
     axis.xaxis.set_major_locator(MaxNLocator(MOST_COORDINATES, steps=[1, 2, 2.5, 5, 10]))
 
 
-def write_maps(grid: Grid, plot: Callable[[list[Axes]], object], path: Path, count: int = 4) -> None:
-    """Writes a figure with a number of maps of the grid, which `plot` draws on their axes."""
+@contextmanager
+def figure_file(path: Path, wide: float, high: float, *, lays_out: bool = True) -> Iterator[Figure]:
+    """Yields a figure of a size in inches, and writes it once it is drawn; with `lays_out` matplotlib makes room for all texts."""
     with matplotlib.rc_context(STYLE):
-        west, east, south, north, _, _ = grid.extent()
-        figure, axes = panels(east - west, north - south, count)
-        plot(axes)
+        figure = Figure(figsize=(wide, high), constrained_layout=lays_out)
+        yield figure
         finish(figure, path)
 
 
-def panels(wide: float, high: float, count: int = 4) -> tuple[Figure, list[Axes]]:
-    """Returns a figure for maps in true proportions, two in a row, and its axes."""
+@contextmanager
+def panels_file(path: Path, wide: float, high: float, count: int = 4) -> Iterator[list[Axes]]:
+    """Yields the axes of maps with these sides in metres, two in a row in true proportions, and writes their figure once they are drawn."""
     share, lines = min(max(high / wide, 0.3), 1.3), -(-count // 2)
-    figure = Figure(figsize=(12, lines * (4.7 * share + 0.75)), constrained_layout=True)
-    axes = list(figure.subplots(lines, 2, squeeze=False).flat)
-    for ax in axes[count:]:
-        ax.set_axis_off()
-    return figure, axes[:count]
+    with figure_file(path, 12, lines * (4.7 * share + 0.75)) as figure:
+        axes = list(figure.subplots(lines, 2, squeeze=False).flat)
+        for ax in axes[count:]:
+            ax.set_axis_off()
+        yield axes[:count]
 
 
 @contextmanager

@@ -26,7 +26,6 @@ class PushbackBenches:
         Its level, from 0 at the top of the grid.
     names : tuple of str
         Amounts: total_tonnes, feed_tonnes, recovered_NAME of each metal, and cash_flow.
-    amounts : array, shape (benches, names)
     lag : int
         By how many benches a pushback stays at least below the next.
     """

@@ -239,7 +239,6 @@ def divide(planned: Plan, mine: Optional[Mine] = None) -> Pushbacks:
 
     Parameters
     ----------
-    planned : Plan
     mine : Mine, optional
         The mine of the plan. Default: it is made for this call.
 

@@ -14,7 +14,7 @@ from jinja2 import Environment, FileSystemLoader, select_autoescape
 from pitplan.config.economics import Metal
 from pitplan.config.periods import PERIOD, YEAR
 from pitplan.config.project import Project
-from pitplan.core.magnitude import scaled
+from pitplan.core.magnitude import money_unit, scaled
 from pitplan.core.revenue_factors import factor_text
 from pitplan.results.column_types import (
     GRADE,
@@ -29,7 +29,7 @@ from pitplan.results.column_types import (
     TableDeclaration,
 )
 from pitplan.results.columns import METHODS, PUSHBACKS, SENSITIVITY, SHELLS, YEARLY
-from pitplan.results.rounding import spoken
+from pitplan.results.rounding import metal_unit, spoken
 
 TEMPLATES = Environment(
     loader=FileSystemLoader(Path(__file__).parents[1] / "templates"),
@@ -80,18 +80,13 @@ class Display:
 
     def column(self, name: str) -> Column:
         """A column that is shown. Raises KeyError if the table has none of this name."""
-        found = self.table.find(name) or COMPUTED.get(name)
-        if found is None:
-            raise KeyError(
-                f"{self.table.file}: {name} is shown, but is no column: add it to pitplan/results/columns.py"
-            )
-        return found
+        return COMPUTED.get(name) or self.table.column(name)
 
     def of(self, table: pd.DataFrame, project: Project) -> Columns:
         # Ore loss and dilution make the mill feed another amount than the ore in situ.
         is_diluted = IN_SITU in self.names and bool((table["feed_tonnes"] != table[IN_SITU]).any())
-        money = scaled(float(table[[it for it in self.money if it in table]].abs().max().max()))
-        units = Units(money, scaled(float(table[self.tonnes].max())), project.economics.currency)
+        most = float(table[[it for it in self.money if it in table]].abs().max().max())
+        units = Units(money_unit(most, project.economics.currency), scaled(float(table[self.tonnes].max())))
         metals, found = {it.name: it for it in project.metals}, Columns()
         for name, subject in named(self.names, project):
             if name in table and (is_diluted or name != IN_SITU):
@@ -110,16 +105,15 @@ def is_whole(values: pd.Series) -> bool:
 
 @dataclass(frozen=True)
 class Units:
-    """The units of amounts of money and tonnes that are shown: size and sign of each, and the currency."""
+    """The units of amounts of money and tonnes that are shown: size and name of each."""
 
     money: tuple[float, str]
     tonnes: tuple[float, str]
-    currency: str
 
     def of(self, values: pd.Series, column: Column, metal: Optional[Metal]) -> tuple[float, Optional[str]]:
         """By what the values of a column are divided, and its unit in the heading; None if it has none. `metal` is that of its name."""
         if column.unit is MONEY:
-            return self.money[0], f"{self.money[1]} {self.currency}".strip()
+            return self.money
         if column.unit is TONNES:
             return self.tonnes[0], f"{self.tonnes[1]}t"
         if column.unit is METAL and metal is not None:
@@ -180,14 +174,6 @@ def cases_in_words(table: pd.DataFrame) -> list[str]:
             table["parameter"], table["change"], table["second_parameter"], table["second_change"]
         )
     ]
-
-
-def metal_unit(most: float, metal: Metal) -> tuple[float, str]:
-    """Returns size and sign of a unit for quantities of a metal up to `most`: grams become kilograms and tonnes."""
-    if metal.quantity != "g":
-        size, sign = scaled(most)
-        return size, f"{sign}t"
-    return (1e6, "t") if most >= 1e7 else (1e3, "kg") if most >= 1e4 else (1.0, "g")
 
 
 def cells_of(table: pd.DataFrame, columns: Columns) -> list[list[str]]:

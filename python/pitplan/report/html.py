@@ -52,7 +52,6 @@ def sensitivity_beside(
 
     Parameters
     ----------
-    project : Project
     inputs : dict of str to str
         Hashes of the inputs of the plan, by file.
     folder : Path, optional

@@ -11,18 +11,17 @@ from typing import Any, Optional
 import pandas as pd
 
 from pitplan.config.economics import GRADE_UNITS
+from pitplan.config.material import ranked
 from pitplan.config.project import Project
-from pitplan.core.magnitude import scaled
+from pitplan.core.magnitude import money_unit, scaled
 from pitplan.core.revenue_factors import factor_text
-from pitplan.figures.palette import ranked
 from pitplan.plan import shown_name
 from pitplan.results import names
 from pitplan.results.columns import CASH_FLOW
 from pitplan.results.names import SENSITIVITY
-from pitplan.results.rounding import spoken
+from pitplan.results.rounding import metal_unit, spoken
 
 from . import columns as report
-from .columns import metal_unit
 
 # Columns of the page that are made from another column of the file.
 NAMED = {(SENSITIVITY, "case"): "parameter"}
@@ -71,7 +70,6 @@ FIRST = "revenue_"
 # Lines in bold.
 SUMS = ("operating_cash_flow", "cash_flow", "free_cash_flow", "discounted_cash_flow")
 CATEGORIES = {"ore": "ore", "not_reserve": "not a reserve"}
-CAPITALS = "ABCDEFGHIJKLMNOPQRSTUVWXYZ"
 Part = dict[str, Any]
 
 
@@ -82,9 +80,9 @@ def schedule_statements(folder: Path, project: Project, record: dict[str, Any], 
     lines = only(read_table(folder, names.CASH_FLOW), method)
     if lines.frame.empty:
         return {}
-    size, sign = scaled(float(lines.frame[list(SUMS)].abs().max().max()))
+    size, unit = money_unit(float(lines.frame[list(SUMS)].abs().max().max()), project.economics.currency)
     return {
-        "unit": f"{sign} {project.economics.currency}".strip(),
+        "unit": unit,
         "cash_flow": list(cash_flow(lines, project, size)),
         "valuation": valuation(only(read_table(folder, names.VALUATION), method), size),
         "reserves": Reserves(only(read_table(folder, names.INVENTORY), method), project).part,
@@ -97,6 +95,10 @@ def only(table: WrittenTable, method: str) -> WrittenTable:
 
 def cell(text: str, source: str) -> dict[str, str]:
     return {"text": text, "source": source}
+
+
+def row_of(cells: list[dict[str, str]], is_sum: bool = False) -> Part:
+    return {"mark": "sum" if is_sum else "", "cells": cells}
 
 
 def cash_flow(lines: WrittenTable, project: Project, size: float) -> Iterator[Part]:
@@ -115,8 +117,8 @@ def cash_flow(lines: WrittenTable, project: Project, size: float) -> Iterator[Pa
                 number(frame[name].sum(), size, PLACES), f"{lines.file}: sum of column {name}, method {method}"
             )
             cells = [cell(number(value, size, PLACES), lines.source(at, name)) for at, value in some[name].items()]
-            cells = [cell(heading(name), ""), *([] if start else [total]), *cells]
-            rows.append({"mark": "sum" if name in SUMS else "", "cells": cells})
+            cells = [cell(CASH_FLOW.heading(name), ""), *([] if start else [total]), *cells]
+            rows.append(row_of(cells, name in SUMS))
         periods = [f"{word} {number}" for number in some[word]]
         yield {"file": lines.file, "headings": ["line", *([] if start else ["all"]), *periods], "rows": rows}
 
@@ -125,14 +127,6 @@ def is_line(name: str) -> bool:
     """Returns whether a column is a line of money: no unit cost, and no text."""
     found = CASH_FLOW.find(name)
     return found is not None and found.unit.text == "currency"
-
-
-def heading(name: str) -> str:
-    """Returns how a line is called, with its metal or process."""
-    found = CASH_FLOW.find(name)
-    assert found is not None
-    subject = name.removeprefix(found.name.rstrip(CAPITALS))
-    return found.heading.replace("METAL", subject).replace("PROCESS", subject)
 
 
 def valuation(table: WrittenTable, size: float) -> Part:
@@ -147,12 +141,9 @@ def valuation(table: WrittenTable, size: float) -> Part:
         "payback_after_tax": ("payback after tax, years", 1.0, 2),
     }
     rows = [
-        {
-            "mark": "",
-            "cells": [
-                cell(number(table.frame.at[at, name], *how[1:]), table.source(at, name)) for name, how in kinds.items()
-            ],
-        }
+        row_of(
+            [cell(number(table.frame.at[at, name], *how[1:]), table.source(at, name)) for name, how in kinds.items()]
+        )
         for at in table.frame.index
     ]
     return {"file": table.file, "headings": [how[0] for how in kinds.values()], "rows": rows}
@@ -218,22 +209,16 @@ class Reserves:
         """Returns a row of sums; what they are sums over is said where the pointer rests."""
         of_class = "" if name is None else f" and {self.column} {name or 'empty'}"
         where = f"{self.inventory.file}, rows with category {category}{of_class}"
-        feed, units = float(some["feed_tonnes"].sum()), {
-            it.name: float(GRADE_UNITS[it.unit]) for it in self.project.metals
-        }
-        cells = [cell(label, "")]
+        feed, cells = float(some["feed_tonnes"].sum()), [cell(label, "")]
+        units = {it.name: float(GRADE_UNITS[it.unit]) for it in self.project.metals}
         for column, _, size, places in self.columns:
+            value, source = float(some[column].sum()) / size, f"sum of {column}"
             if column.startswith("head_grade_"):
                 metal = column.removeprefix("head_grade_")
-                content = float(some[f"contained_{metal}"].sum()) / units[metal]
-                text, source = (
-                    number(content / feed if feed else float("nan"), 1.0, places),
-                    f"contained_{metal} by feed_tonnes",
-                )
-            else:
-                text, source = number(float(some[column].sum()), size, places), f"sum of {column}"
-            cells.append(cell(text, f"{where}: {source}"))
-        return {"mark": "sum" if name is None and category == "ore" else "", "cells": cells}
+                value = float(some[f"contained_{metal}"].sum()) / units[metal] / feed if feed else float("nan")
+                source = f"contained_{metal} by feed_tonnes"
+            cells.append(cell(number(value, 1.0, places), f"{where}: {source}"))
+        return row_of(cells, name is None and category == "ore")
 
 
 @dataclass(frozen=True)
@@ -246,10 +231,8 @@ class StatementRow:
         With its unit.
     table : WrittenTable
         The rows of a method in cash_flow.csv or years.csv.
-    column : str
     size : float
         By what numbers are divided.
-    places : int
     ratio : tuple of str
         Of all periods the sum of the first column, by that of the second less that of the third; empty: the sum of `column`.
     by : float
@@ -308,7 +291,7 @@ def physicals(lines: WrittenTable, years: WrittenTable, project: Project) -> Ite
         periods = [f"{word} {number}" for number in lines.frame[word].iloc[first : first + MOST_PERIODS]]
         cells = [[cell(it.label, ""), *([] if first else [it.total()]), *it.cells(first)] for it in rows]
         headings = ["quantity", *([] if first else ["all"]), *periods]
-        yield {"file": lines.file, "headings": headings, "rows": [{"mark": "", "cells": it} for it in cells]}
+        yield {"file": lines.file, "headings": headings, "rows": list(map(row_of, cells))}
 
 
 BY_BLOCK = "block"
@@ -382,8 +365,7 @@ def of_money(lines: WrittenTable, values: WrittenTable, project: Project) -> lis
     row = int((values.frame["discount_rate"] - rate).abs().idxmin())
     is_taxed = bool(rules.closure_cost or rules.tax_rate)
     after, kind = (" after tax", "_after_tax") if is_taxed else ("", "")
-    size, sign = scaled(abs(float(values.frame.at[row, "npv"])))
-    money = f"{sign} {project.economics.currency}".strip()
+    size, money = money_unit(abs(float(values.frame.at[row, "npv"])), project.economics.currency)
     shown = [("npv_after_tax", "Net present value after tax", size, 2, money)] if is_taxed else []
     if float(values.frame.at[row, f"payback{kind}"]) != 0:
         shown += [(f"irr{kind}", f"Internal rate of return{after}", 0.01, 1, "%")]
@@ -417,7 +399,6 @@ def risks(project: Project, record: dict[str, Any], shell: pd.Series, cases: Opt
 
     Parameters
     ----------
-    project : Project
     record : dict
         plan.json.
     shell : Series
@@ -460,9 +441,9 @@ def of_sensitivity(cases: Optional[pd.DataFrame], currency: str) -> Iterator[str
         return
     alone = cases[cases["second_parameter"].isna() | (cases["second_parameter"] == "")]
     base, worst = float(cases["npv"].iloc[0]), alone.loc[alone["npv"].idxmin()]
-    size, sign = scaled(max(abs(base), abs(float(worst["npv"]))))
+    size, unit = money_unit(max(abs(base), abs(float(worst["npv"]))), currency)
     if worst["npv"] < base:
-        money = f"{base / size:,.1f} to {worst['npv'] / size:,.1f} {sign} {currency}".replace("  ", " ")
+        money = f"{base / size:,.1f} to {worst['npv'] / size:,.1f} {unit}"
         yield f"A change of {str(worst['parameter']).replace('_', ' ')} by {100 * worst['change']:+g} % moves the NPV from {money}, the most of all cases."
 
 
@@ -482,20 +463,13 @@ def of_hill(folder: Path, project: Project) -> dict[str, Any]:
     """Returns the hill of value: its picture, and the NPVs as a table with a row per value of the second parameter."""
     table = read_table(folder, names.HILL)
     frame, figure = table.frame, folder / names.HILL_FIGURE
-    size, sign = scaled(float(frame["npv"].abs().max()))
+    size, unit = money_unit(float(frame["npv"].abs().max()), project.economics.currency)
     one, other = frame["parameter"].iloc[0], frame["second_parameter"].iloc[0]
-    rows = [
-        {
-            "mark": "",
-            "cells": [
-                {"text": f"{value:,.10g}", "source": table.source(some.index[0], "second_value")},
-                *({"text": f"{npv / size:,.2f}", "source": table.source(at, "npv")} for at, npv in some["npv"].items()),
-            ],
-        }
-        for value, some in frame.sort_values("value").groupby("second_value")
-    ]
+    rows = []
+    for value, some in frame.sort_values("value").groupby("second_value"):
+        cells = [cell(f"{npv / size:,.2f}", table.source(at, "npv")) for at, npv in some["npv"].items()]
+        rows.append(row_of([cell(f"{value:,.10g}", table.source(some.index[0], "second_value")), *cells]))
     headings = [spoken(other), *(f"{value:,.10g}" for value in sorted(frame["value"].unique()))]
-    unit = f"{sign} {project.economics.currency}".strip()
     return {
         "picture": picture(figure) if figure.is_file() else "",
         "part": {"file": table.file, "headings": headings, "rows": rows},
@@ -509,10 +483,8 @@ def of_prices(folder: Path, project: Project, record: dict[str, Any]) -> dict[st
         return {}
     table = read_table(folder, names.PRICE_QUANTILES)
     row = table.frame.iloc[0]
-    size, sign = scaled(float(table.frame[list(OF_PATHS)].abs().max().max()))
-    cells = [{"text": f"{row[name] / size:,.2f}", "source": table.source(0, name)} for name in OF_PATHS]
-    below = {"text": f"{100 * row['share_below_zero']:,.1f}", "source": table.source(0, "share_below_zero")}
-    headings = [*OF_PATHS.values(), "paths below 0, %"]
-    unit = f"{sign} {project.economics.currency}".strip()
-    part = {"file": table.file, "headings": headings, "rows": [{"mark": "", "cells": [*cells, below]}]}
+    size, unit = money_unit(float(table.frame[list(OF_PATHS)].abs().max().max()), project.economics.currency)
+    cells = [cell(f"{row[name] / size:,.2f}", table.source(0, name)) for name in OF_PATHS]
+    cells.append(cell(f"{100 * row['share_below_zero']:,.1f}", table.source(0, "share_below_zero")))
+    part = {"file": table.file, "headings": [*OF_PATHS.values(), "paths below 0, %"], "rows": [row_of(cells)]}
     return {"part": part, "caption": f"NPV of the schedule over {int(row['paths']):,} price paths, {unit}"}

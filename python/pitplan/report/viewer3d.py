@@ -39,7 +39,6 @@ def kinds_of(folder: Folder, encode: Encode) -> list[dict[str, Any]]:
 
     Parameters
     ----------
-    folder : Folder
     encode : callable
         Makes text of the bytes of all cells.
     """

@@ -9,6 +9,7 @@ from typing import Optional
 from pitplan.config.periods import PERIOD, YEAR
 
 THOUSANDS = "#,##0"
+CAPITALS = "ABCDEFGHIJKLMNOPQRSTUVWXYZ"
 
 
 @dataclass(frozen=True)
@@ -55,7 +56,6 @@ class Column:
     ----------
     name : str
         In files, with words in capitals that stand for others.
-    unit : Unit
     holds : str
         What it holds.
     heading : str
@@ -100,6 +100,19 @@ class TableDeclaration:
             return found and replace(found, heading=PERIOD)
         exact = [it for it in self.columns if it.name == name]
         return next(iter(exact or [it for it in self.columns if it.matches(name)]), None)
+
+    def column(self, name: str) -> Column:
+        """A column by its name, as `find` returns it. Raises KeyError if the table has none."""
+        found = self.find(name)
+        if found is None:
+            raise KeyError(f"{self.file} has no column {name}: add it to pitplan/results/columns.py")
+        return found
+
+    def heading(self, name: str) -> str:
+        """How a column is shown, with the metal or process that its name has."""
+        column = self.column(name)
+        subject = name.removeprefix(column.name.rstrip(CAPITALS))
+        return column.heading.replace("METAL", subject).replace("PROCESS", subject)
 
     @property
     def number_format(self) -> str:

@@ -13,6 +13,7 @@ import pandas as pd
 from pitplan.config.economics import Metal
 from pitplan.config.periods import YEAR
 from pitplan.config.project import Project
+from pitplan.core.magnitude import scaled
 
 from .column_types import AMOUNT, COUNT, GRADE, METAL, NUMBER, SHARE, TEXT, Unit
 from .columns import DISCOUNTING, OUTLINE, TABLES, unit_of
@@ -171,3 +172,11 @@ def metal_of(name: str, project: Project) -> Optional[Metal]:
     """Returns the metal in a name such as recovered_copper; of oxide and copper_oxide the longer one."""
     ends = [metal for metal in project.metals if name.endswith(f"_{metal.name}")]
     return max(ends, key=lambda it: len(it.name)) if ends else None
+
+
+def metal_unit(most: float, metal: Metal) -> tuple[float, str]:
+    """Returns size and sign of a unit for quantities of a metal up to `most`: grams become kilograms and tonnes."""
+    if metal.quantity != "g":
+        size, sign = scaled(most)
+        return size, f"{sign}t"
+    return (1e6, "t") if most >= 1e7 else (1e3, "kg") if most >= 1e4 else (1.0, "g")

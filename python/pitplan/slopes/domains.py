@@ -50,7 +50,6 @@ class SlopeDomains:
 
     Attributes
     ----------
-    patterns : tuple of Pattern
     code : array of int, shape (cells,)
         The pattern of each cell.
     lists : tuple of StepList
@@ -72,8 +71,6 @@ def domains_of(domain_code: np.ndarray, grid: Grid, slopes: Slopes) -> SlopeDoma
     ----------
     domain_code : array of str, shape (cells,)
         The slope domain of each cell, "" if it is unknown.
-    grid : Grid
-    slopes : Slopes
 
     Raises
     ------

@@ -134,7 +134,6 @@ class Pattern:
 
     Attributes
     ----------
-    name : str
     cone : array of bool
         All predecessors of a block, as a template of `cone_templates`.
     offsets : tuple of (int, int, int)
@@ -295,7 +294,6 @@ def pattern_of(asked_domain: SlopeDomain, size: BlockSize, slopes: Slopes, azimu
         The entry.
     size : tuple of float
         Block size east, north and up, metres.
-    slopes : Slopes
     azimuth : float
         Of the grid's north, degrees clockwise.
 

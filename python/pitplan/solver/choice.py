@@ -31,7 +31,6 @@ class Solver:
     ----------
     by : str
         `library` or `program`.
-    version : str
     sha256 : str
         Of its file.
     proved : bool

@@ -29,7 +29,6 @@ def write(plan: Plan, folder: Path) -> Pairs:
 
     Parameters
     ----------
-    plan : Plan
     folder : Path
         An existing folder.
 

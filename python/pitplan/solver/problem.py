@@ -42,8 +42,6 @@ class MineInFiles:
 
     Attributes
     ----------
-    plan : Plan
-    solver : Solver
     pairs : Pairs
         The number of precedences that were written.
     folder : Path
@@ -134,7 +132,6 @@ def values_at(nodes: tuple[np.ndarray, np.ndarray], factor: float) -> np.ndarray
     ----------
     nodes : pair of int64 arrays, shape (nodes,)
         Revenue and cost in millionths.
-    factor : float
 
     Returns
     -------
@@ -160,10 +157,8 @@ def solve(plan: Plan, mine: Optional[Mine] = None, progress: Progress = silent) 
 
     Parameters
     ----------
-    plan : Plan
     mine : Mine, optional
         The mine of the plan. Default: it is made for this call.
-    progress : Progress
 
     Raises
     ------

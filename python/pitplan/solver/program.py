@@ -86,7 +86,6 @@ def solve_pit(model: Path, prec: Path, fixed: Optional[Path], factor: float) -> 
         Files of values and precedences.
     fixed : Path, optional
         File of must-mine and excluded blocks.
-    factor : float
 
     Raises
     ------

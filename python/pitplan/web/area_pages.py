@@ -25,8 +25,7 @@ from pitplan.errors import PlanError
 from . import project_text
 from .block_pages import BlockPages
 from .draft import Draft, Path as Place
-from .import_roles import in_words
-from .pages import MOST_BYTES, Pages, form_of, threaded
+from .pages import MOST_BYTES, PageGroup, Pages, form_of, in_words, threaded
 from .project_text import Editor
 from .run_form import WrongForm
 
@@ -36,19 +35,12 @@ NAME = re.compile(r"\w[\w -]{0,59}")
 MOST_FILE, MOST_CORNERS = 64 << 20, 2_000
 
 
-class AreaPages:
-    """The answers to areas.
-
-    Parameters
-    ----------
-    pages : Pages
-        All other pages of the folder.
-    blocks : BlockPages
-        The page of plans and sections, with the blocks that it shows.
-    """
+class AreaPages(PageGroup):
+    """The answers to areas, over the blocks that `blocks` shows."""
 
     def __init__(self, pages: Pages, blocks: BlockPages) -> None:
-        self.pages, self.blocks = pages, blocks
+        super().__init__(pages)
+        self.blocks = blocks
 
     @property
     def routes(self) -> list[Route]:

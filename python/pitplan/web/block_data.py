@@ -46,7 +46,6 @@ class Shown:
 
     Attributes
     ----------
-    name, unit : str
     labels, colours : list of str
         Of codes, from 1 on; empty for numbers.
     values : array
@@ -79,12 +78,10 @@ class Blocks:
 
     Attributes
     ----------
-    grid : Grid
     frame : DataFrame
         A row per block, in the order of `cells`.
     cells : int array
         The cell of each row.
-    project : Project
     codes : list of str
         Columns of codes.
     factors : list of float

@@ -3,14 +3,14 @@
 from __future__ import annotations
 
 from functools import cached_property
+from pathlib import Path
 from typing import TYPE_CHECKING
 
 from starlette.requests import Request
 from starlette.responses import JSONResponse, Response
 from starlette.routing import Route
 
-from .import_roles import in_words
-from .pages import Pages, threaded
+from .pages import Answer, PageGroup, in_words, threaded
 from .workspace import NotThere
 
 # The modules of block models need pandas, which is loaded when a page needs it.
@@ -20,17 +20,8 @@ if TYPE_CHECKING:
 BYTES = "application/octet-stream"
 
 
-class BlockPages:
-    """The answers of plans and sections.
-
-    Parameters
-    ----------
-    pages : Pages
-        All other pages of the folder.
-    """
-
-    def __init__(self, pages: Pages) -> None:
-        self.pages = pages
+class BlockPages(PageGroup):
+    """The answers of plans and sections."""
 
     @cached_property
     def store(self) -> Store:
@@ -41,30 +32,26 @@ class BlockPages:
 
     @property
     def routes(self) -> list[Route]:
+        arrays: dict[str, Answer] = {"model": self.model, "cells": self.cells, "row": self.row}
+        arrays |= {"column": self.column, "values": self.values}
         return [
             Route("/blocks", self.pages.answering(self.page)),
-            Route("/blocks/model", in_words(threaded(self.model))),
-            Route("/blocks/cells", in_words(threaded(self.cells))),
-            Route("/blocks/column", in_words(threaded(self.column))),
-            Route("/blocks/values", in_words(threaded(self.values))),
-            Route("/blocks/row", in_words(threaded(self.row))),
+            *(Route(f"/blocks/{name}", in_words(threaded(answer))) for name, answer in arrays.items()),
         ]
 
     def page(self, request: Request) -> Response:
         name = request.query_params.get("name", "")
-        path = self.pages.workspace.place(name)
-        is_project = not path.is_dir()
-        project = self.pages.project_path(name) if is_project else None
-        return self.pages.page(
-            "blocks.html", title=f"Plans and sections: {name}", name=name, is_project=project is not None
-        )
+        is_project = not self.place(name).is_dir()
+        return self.pages.page("blocks.html", title=f"Plans and sections: {name}", name=name, is_project=is_project)
+
+    def place(self, name: str) -> Path:
+        """Returns the path of an output folder or a project. Raises NotThere if it is neither."""
+        path = self.workspace.place(name)
+        return path if path.is_dir() else self.pages.project_path(name)
 
     def blocks(self, request: Request) -> Blocks:
         """Returns the blocks that a request names. Raises PlanError if they cannot be read."""
-        path = self.pages.workspace.place(request.query_params.get("name", ""))
-        if not path.is_dir():
-            self.pages.project_path(request.query_params.get("name", ""))
-        return self.store.of(path)
+        return self.store.of(self.place(request.query_params.get("name", "")))
 
     def model(self, request: Request) -> Response:
         return JSONResponse(self.blocks(request).as_json)

@@ -40,11 +40,8 @@ class Chart:
 
     Attributes
     ----------
-    name, title : str
     along : str
         What its categories are.
-    categories : list of str
-    series : list of Series
     left, right : str
         The units of both scales.
     table : str

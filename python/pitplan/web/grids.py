@@ -41,7 +41,6 @@ class GridColumn:
     ----------
     path : tuple of str
         The key, and those of the tables in which it lies.
-    label, unit : str
     kind : str
         NUMBER, TEXT, LIST, CHOICE or VALUE.
     options : tuple of str
@@ -239,9 +238,6 @@ class FormGrid:
 
     Attributes
     ----------
-    kind : GridKind
-    columns : list of GridColumn
-    rows : list of GridRow
     why_not : str
         Why it cannot be changed; empty if it can.
     wrong, said : str

@@ -19,9 +19,9 @@ from pitplan.core import staging
 from pitplan.errors import PlanError
 
 from . import import_roles
-from .import_roles import Recognised, RolePages, in_words
+from .import_roles import Recognised, RolePages
 from .jobs import DONE, IMPORT, Job
-from .pages import Pages, number_of, threaded
+from .pages import PageGroup, in_words, number_of, threaded
 from .run_form import WrongForm, plain
 from .workspace import NotThere, Workspace
 
@@ -197,17 +197,8 @@ def settle(partial: Path, workspace: Workspace, upload: Upload) -> None:
             partial.unlink()
 
 
-class ImportPages:
-    """The pages of an import.
-
-    Parameters
-    ----------
-    pages : Pages
-        All other pages of the folder.
-    """
-
-    def __init__(self, pages: Pages) -> None:
-        self.pages, self.workspace, self.jobs = pages, pages.workspace, pages.jobs
+class ImportPages(PageGroup):
+    """The pages of an import."""
 
     @property
     def routes(self) -> list[Route]:

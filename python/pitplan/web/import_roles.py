@@ -7,17 +7,17 @@ from collections.abc import Callable, Mapping
 from dataclasses import dataclass
 from functools import cache
 from pathlib import Path
-from typing import TYPE_CHECKING, Any
+from typing import TYPE_CHECKING
 
 from starlette.requests import Request
-from starlette.responses import JSONResponse, PlainTextResponse, RedirectResponse, Response
+from starlette.responses import JSONResponse, RedirectResponse, Response
 from starlette.routing import Route
 
 from pitplan.core.atomic_files import hash_of
 from pitplan.errors import WARNING, PlanError
 
 from .jobs import IMPORT, Job
-from .pages import MOST_BYTES, Pages, Streaming, form_of, number_of, status_of, threaded
+from .pages import MOST_BYTES, PageGroup, Pages, form_of, in_words, number_of, threaded
 from .run_form import WrongForm
 
 # The modules of block models need pandas, which is loaded when a page needs it.
@@ -56,7 +56,6 @@ class Recognised:
 
     Attributes
     ----------
-    notes, warnings : list of str
     columns : list of dict
         Column, role, unit, nulls, least, mean, greatest, why and set (the role as `--role` has it), as texts.
     figure : str
@@ -95,49 +94,38 @@ class RowsOfLast:
             return self.rows
 
 
-class RolePages:
-    """The answers to a change of roles.
-
-    Parameters
-    ----------
-    pages : Pages
-        All other pages of the folder.
-    recognised : callable
-        Gives what the job of an import has found.
-    """
+class RolePages(PageGroup):
+    """The answers to a change of roles; `recognised` returns what the job of an import has found."""
 
     def __init__(self, pages: Pages, recognised: Callable[[Job], Recognised]) -> None:
-        self.pages, self.recognised, self.last = pages, recognised, RowsOfLast()
+        super().__init__(pages)
+        self.recognised, self.last = recognised, RowsOfLast()
 
     @property
     def routes(self) -> list[Route]:
         return [
             Route("/import/preview", in_words(threaded(self.preview, 16 * MOST_BYTES)), methods=["POST"]),
-            Route("/import/roles", self.pages.answering(self.write, 16 * MOST_BYTES), methods=["POST"]),
+            self.posted("/import/roles", self.write, 16 * MOST_BYTES),
         ]
 
     def preview(self, request: Request) -> Response:
-        """The project that follows from other roles, which nothing writes."""
-        form = form_of(request)
-        job = self.pages.jobs.read(number_of(form.get("number", "")))
-        roles = self.roles_of(job, form)
-        return JSONResponse(self.previewed(job, roles))
-
-    def previewed(self, job: Job, roles: Mapping[str, Role]) -> dict[str, Any]:
-        """Returns the text of the project, the columns, and the warnings."""
+        """The project that follows from other roles, which nothing writes: its text, the columns, and the warnings."""
         from pitplan.blockmodel import guesses, wizard
 
-        model = guesses.model_of(self.last.of(self.pages.workspace.place(table_of(job))), roles)
-        text, found = wizard.project_of(model, self.pages.workspace.root / job.project)
+        form = form_of(request)
+        job = self.jobs.read(number_of(form.get("number", "")))
+        roles = self.roles_of(job, form)
+        model = guesses.model_of(self.last.of(self.workspace.place(table_of(job))), roles)
+        text, found = wizard.project_of(model, self.workspace.root / job.project)
         warnings = [it.removeprefix(WARNING) for it in found.warnings]
-        return {"text": text, "columns": found.records, "warnings": warnings}
+        return JSONResponse({"text": text, "columns": found.records, "warnings": warnings})
 
     def write(self, request: Request) -> Response:
         """Starts the job that writes the project again with other roles."""
         form = form_of(request)
-        job = self.pages.jobs.read(number_of(form.get("number", "")))
+        job = self.jobs.read(number_of(form.get("number", "")))
         roles = self.roles_of(job, form)
-        path = self.pages.workspace.place(job.project)
+        path = self.workspace.place(job.project)
         if hash_of(path) != self.recognised(job).project_hash:
             raise WrongForm(
                 f"{job.project}: has changed since the block model was imported: change its columns in its text, "
@@ -145,7 +133,7 @@ class RolePages:
             )
         words = [f"{OPTION}{column}={role.text}" for column, role in roles.items()]
         words = [IMPORT, job.words[1], f"--out={job.project}", *words, "--replace", "--figures", "--json"]
-        again = self.pages.jobs.ask(tuple(words), job.project, job.folder)
+        again = self.jobs.ask(tuple(words), job.project, job.folder)
         return RedirectResponse(f"/job?number={again.number}", status_code=303)
 
     def roles_of(self, job: Job, form: Mapping[str, str]) -> dict[str, Role]:
@@ -165,16 +153,3 @@ class RolePages:
 def table_of(job: Job) -> str:
     """Returns the name of the block model of an import."""
     return job.words[1].removeprefix("./")
-
-
-def in_words(answer: Streaming) -> Streaming:
-    """Returns the endpoint of an answer with words in place of an error, which a script shows."""
-
-    async def answered(request: Request) -> Response:
-        try:
-            return await answer(request)
-        except Exception as error:
-            status, why = status_of(error, request)
-            return PlainTextResponse(why, status_code=400 if status == 404 else status)
-
-    return answered

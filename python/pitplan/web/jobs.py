@@ -81,6 +81,10 @@ class Job:
     ended: str = ""
     code: Optional[int] = None
 
+    def in_state(self, state: dict[str, Any]) -> Job:
+        """Returns the job in the state that its runner has written."""
+        return replace(self, **{name: state[name] for name in ("status", "started", "ended", "code") if name in state})
+
     @property
     def has_ended(self) -> bool:
         return self.status in ENDED
@@ -174,15 +178,11 @@ class Jobs:
         state = self.state(number)
         if state is None:
             return replace(job, status=CANCELLED) if (self.of(number) / CANCEL).exists() else job
-        job = replace(job, **{name: state[name] for name in ("status", "started", "ended", "code") if name in state})
+        job = job.in_state(state)
         if job.status == RUNNING and not is_alive(state):
             # It may have ended since its state was read.
-            again = self.state(number) or state
-            if again["status"] == RUNNING:
-                return replace(job, status=LOST)
-            return replace(
-                job, **{name: again[name] for name in ("status", "started", "ended", "code") if name in again}
-            )
+            job = job.in_state(self.state(number) or state)
+            return replace(job, status=LOST) if job.status == RUNNING else job
         return job
 
     def state(self, number: int) -> Optional[dict[str, Any]]:
@@ -248,17 +248,11 @@ class Jobs:
 
     def log(self, number: int) -> str:
         """Returns what the command of a job has written to standard error."""
-        try:
-            return (self.of(number) / LOG).read_text(encoding="utf-8", errors="replace")
-        except OSError:
-            return ""
+        return text_of(self.of(number) / LOG)
 
     def answer(self, number: int) -> str:
         """Returns what the command of a job has printed."""
-        try:
-            return (self.of(number) / ANSWER).read_text(encoding="utf-8", errors="replace")
-        except OSError:
-            return ""
+        return text_of(self.of(number) / ANSWER)
 
     def usual_seconds(self, job: Job) -> Optional[float]:
         """Returns how long the last such job took that succeeded; None without one."""
@@ -310,15 +304,19 @@ def now() -> str:
     return datetime.now().isoformat(timespec="milliseconds")
 
 
-def begun_at(process: int) -> str:
-    """Returns when a process began, in ticks since the machine's start; empty if it has ended."""
+def text_of(file: Path) -> str:
+    """Returns the text of a file; empty if it cannot be read."""
     try:
-        said = Path(f"/proc/{process}/stat").read_text(encoding="utf-8", errors="replace")
+        return file.read_text(encoding="utf-8", errors="replace")
     except OSError:
         return ""
-    fields = said.rpartition(")")[2].split()
+
+
+def begun_at(process: int) -> str:
+    """Returns when a process began, in ticks since the machine's start; empty if it has ended."""
+    fields = text_of(Path(f"/proc/{process}/stat")).rpartition(")")[2].split()
     # A process that has ended, and that nobody has waited for, does nothing any more.
-    return "" if fields[0] == "Z" else fields[19]
+    return "" if not fields or fields[0] == "Z" else fields[19]
 
 
 def is_alive(state: dict[str, Any]) -> bool:

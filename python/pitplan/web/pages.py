@@ -17,7 +17,14 @@ from urllib.parse import parse_qsl, quote
 from jinja2 import Environment, FileSystemLoader, StrictUndefined
 from starlette.concurrency import run_in_threadpool
 from starlette.requests import ClientDisconnect, Request
-from starlette.responses import FileResponse, HTMLResponse, RedirectResponse, Response, StreamingResponse
+from starlette.responses import (
+    FileResponse,
+    HTMLResponse,
+    PlainTextResponse,
+    RedirectResponse,
+    Response,
+    StreamingResponse,
+)
 from starlette.routing import Route
 
 from pitplan.core import layout, paths
@@ -80,8 +87,6 @@ class Pages:
 
     Parameters
     ----------
-    workspace : Workspace
-    jobs : Jobs
     version : str
         That of pitplan, at the foot of each page.
     """
@@ -373,6 +378,23 @@ class Pages:
         return RedirectResponse(f"/job?number={number}", status_code=303)
 
 
+class PageGroup:
+    """Some of the pages, which share templates, projects and jobs with all others.
+
+    Parameters
+    ----------
+    pages : Pages
+        All other pages of the folder.
+    """
+
+    def __init__(self, pages: Pages) -> None:
+        self.pages, self.workspace, self.jobs = pages, pages.workspace, pages.jobs
+
+    def posted(self, path: str, answer: Answer, most: int = MOST_BYTES) -> Route:
+        """Returns the route of a form, with a page in place of an error."""
+        return Route(path, self.pages.answering(answer, most), methods=["POST"])
+
+
 def threaded(answer: Answer, most: int = MOST_BYTES) -> Streaming:
     """Returns what reads the form of a request and then answers it in a thread, since an answer may read files for long."""
 
@@ -380,6 +402,19 @@ def threaded(answer: Answer, most: int = MOST_BYTES) -> Streaming:
         if request.method == "POST":
             request.state.form = await read_form(request, most)
         return await run_in_threadpool(answer, request)
+
+    return answered
+
+
+def in_words(answer: Streaming) -> Streaming:
+    """Returns the endpoint of an answer with words in place of an error, which a script shows."""
+
+    async def answered(request: Request) -> Response:
+        try:
+            return await answer(request)
+        except Exception as error:
+            status, why = status_of(error, request)
+            return PlainTextResponse(why, status_code=400 if status == 404 else status)
 
     return answered
 

@@ -32,7 +32,6 @@ class Editor:
 
     Attributes
     ----------
-    text : str
     seen : str
         The hash of the file that the page showed first.
     wrong : str
@@ -153,7 +152,6 @@ class Forms:
 
     Attributes
     ----------
-    editor : Editor
     project : Project, optional
         None if the text has an error.
     fields : list of FormField

@@ -63,7 +63,6 @@ class TablePage:
 
     Attributes
     ----------
-    names : list of str
     rows : list of list of str
         A text for each name.
     count : int
@@ -178,14 +177,12 @@ class Page:
 
     Attributes
     ----------
-    notes : list of str
     verified : int, optional
         How many rules of the verification hold; None of results that have no rules of their own, such as a comparison.
     figures, tables, pages, files : list of str
         Names from the folder that is served: pictures; tables; report and 3D view; all files.
     has_blocks : bool
         Whether there are shells, whose blocks can be drawn.
-    charts : list of Chart
     stages : list of str
         What an export may be of: revenue_factor, and pushback or year if the results have them.
     """

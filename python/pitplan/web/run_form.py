@@ -21,7 +21,6 @@ class Command:
 
     Attributes
     ----------
-    name : str
     does : str
         What it does, for the planner.
     options : tuple of str

@@ -66,7 +66,6 @@ class Access:
 
     Attributes
     ----------
-    port : int
     secret : str
         Random: the cookie of the browsers that have entered.
     key : EntryToken

@@ -31,9 +31,7 @@ from pitplan.errors import PlanError
 
 from .area_pages import AreaPages
 from .block_pages import BlockPages
-from .compare_pages import ComparePages
 from .edit_pages import EditPages
-from .grid_pages import GridPages
 from .import_pages import ImportPages
 from .jobs import Jobs
 from .output_pages import OutputPages
@@ -107,11 +105,9 @@ def make_app(root: Path, access: Access, version: str = "") -> Starlette:
             await task
 
     entrance = [] if access.host else [Route(ENTER, pages.answering(access.enter))]
-    setup = [*ImportPages(pages).routes, *EditPages(pages).routes, *GridPages(pages).routes]
     blocks = BlockPages(pages)
-    setup += AreaPages(pages, blocks).routes
-    results = [*blocks.routes, *OutputPages(pages).routes, *ComparePages(pages).routes]
-    routes = [*entrance, *pages.routes, *setup, *results]
+    setup = [*ImportPages(pages).routes, *EditPages(pages).routes, *AreaPages(pages, blocks).routes]
+    routes = [*entrance, *pages.routes, *setup, *blocks.routes, *OutputPages(pages).routes]
     return Starlette(routes=routes, middleware=[Middleware(Guard, access=access)], lifespan=lifespan)
 
 

@@ -34,7 +34,6 @@ class FormField:
     ----------
     entry : TomlEntry
         Where it lies in the text; its end is 0 if the text leaves it out.
-    label, unit : str
     value : str
         As the form shows it.
     is_optional : bool

@@ -48,7 +48,6 @@ class ProjectFile:
         Its title, or the reason why it cannot be read.
     table : str
         The block model that it names.
-    is_readable : bool
     """
 
     name: str
