@@ -1,7 +1,6 @@
 """Random mines that are scheduled by block under all rules at once, and their optimum by an integer programme over the table itself."""
 
 from dataclasses import dataclass
-from itertools import product
 from typing import Optional
 
 import numpy as np

@@ -155,7 +155,7 @@ class Room:
         return not self.held or self.fits_in_all(block, destination)
 
     def fits_in_all(self, block: int, destination: int) -> bool:
-        """Whether the totals have room, in whichever year."""
+        """Whether the totals have room, in any year."""
         for amounts, left_in_all in zip(self.held, self.left_in_all):
             if amounts[block][destination] > left_in_all:
                 return False
