@@ -1,4 +1,4 @@
-//! Looks at labels: for an arc of a block that leads to a label, for the least label of a row, and for children with a label.
+//! Finds, by labels, the first arc of a block to a label, the least label of a row, and children with a label.
 ghost use Rattle.std.specs.Prelude.{◌≡◌, ◌<◌, ◌≤◌, length, IfSome};
 ghost use Rattle.forest.specs.Forest.{size};
 ghost use Rattle.merging.specs.Order.{AreBelow};
