@@ -85,7 +85,8 @@ def test_the_capacity_of_a_dump_is_a_limit_of_what_lies_there(plan_folder):
     assert lines(folder, "problem", "CAPACITIES")[-1] == [150] * 3
     assert lines(folder, "prices", "PRICE")[-1] == [0, 0, pytest.approx(2 / 1.21, abs=1e-5)]
     uses = [line for line in lines(folder, "problem", "USE") if line[1] == len(record["certificate"]["limits"]) - 1]
-    assert [(use[0], use[3]) for use in uses] == [(0, lag) for lag in range(3)]
+    # Waste that is sent to the mill lies in its cheapest dump.
+    assert [(use[0], use[3]) for use in uses] == [(to, lag) for to in (0, 2) for lag in range(3)]
 
 
 def test_yearly_limits_of_dumps_and_what_they_accept_are_stated(plan_folder):
