@@ -195,7 +195,7 @@ def test_the_curves_are_those_of_the_model_and_of_what_is_mined(hill):
 def test_the_workbook_recalculates_reserves_and_npv(hill, tmp_path):
     """Ore by class is the sum of the inventory, and the NPV that of methods.csv."""
     book = office.recalculated(hill / "tables/schedule.xlsx", tmp_path)
-    assert book.sheetnames == ["cash_flow", "reserves", "inventory", "methods", "years", "shells"]
+    assert book.sheetnames == ["cash_flow", "reserves", "feed", "inventory", "methods", "years", "shells"]
     cells = [list(row) for row in book["reserves"].iter_rows(values_only=True)]
     assert cells[0][0] == "Test hill: mill feed of the schedule, by block" and cells[2][0] == "Ore"
     assert cells[3][:5] == [None, "class", "in situ (t)", "mill feed (t)", "head grade copper (%)"]
@@ -330,3 +330,26 @@ def test_a_changed_number_of_the_other_tables_is_found(worked, tmp_path, name, c
 
     rewrite(folder / f"tables/{name}.csv", change)
     assert wrong(folder) == {rule}
+
+
+def test_the_feed_of_each_process_by_hand(worked):
+    """The leach takes the oxide in year 1, the mill 125 t in each later one. A tonne is worth its revenue less royalty, selling, processing and the
+    road of ore."""
+    found = pd.read_csv(worked / "tables/feed.csv").set_index(["process", "year"])
+    assert found["feed_tonnes"].unstack().to_dict("split")["data"] == [[125, 0, 0], [0, 125, 125]]
+    assert found["head_grade_copper"].dropna().tolist() == [1.2, 1.6, 0.32] and not found["reclaimed_tonnes"].any()
+    earned = [6000 - 242.5 - 375 - 500, 25600 - 830.5 - 1200 - 1250, 4380 - 193.9 - 210 - 1250]
+    value = [(it - 62.5) / 125 for it in earned]
+    assert found["realised_cutoff"].dropna().tolist() == pytest.approx(value, abs=1e-5)
+
+
+def test_a_cutoff_is_the_price_of_the_capacity(plan_folder):
+    """The mill takes the ore of a pillar a year: the multiplier of its capacity, in the money of the year."""
+    _, folder = block_commands.scheduled(plan_folder, "[schedule]\nyears = 3\n")
+    found, bound = table(folder, "feed"), table(folder, "bound").query("limit == 'feed_tonnes'")
+    assert found["cutoff"].tolist() == pytest.approx((bound["price"] * 1.1 ** bound["year"]).tolist(), abs=1e-6)
+    assert found["cutoff"].min() > 0 and found["realised_cutoff"].tolist() == [30, 18, 10]
+    for column in ("feed_tonnes", "head_grade_copper", "cutoff", "realised_cutoff"):
+        changed = shutil.copytree(folder, folder.parent / column)
+        rewrite(changed / "tables/feed.csv", lambda it: it.__setitem__(column, it[column] + 1))
+        assert wrong(changed) == {"feed"}

@@ -106,7 +106,7 @@ def test_the_schedule_of_the_page_is_that_of_the_example():
         for asked in (rules, replace(rules, stockpiles=(Stockpile(1.0),)))
     )
     assert f"By the rule each pushback is {plain.lead} benches behind the one before" in PAGES["schedules"]
-    cutoff = cutoffs(plain)[""][1]
+    cutoff = cutoffs(plain)["mill"][1]
     said = f"In year 2 the cut-off of the linear programme is {cutoff:.2f} USD per tonne of feed"
     assert said in PAGES["schedules"]
     value, bound = stocked.value("lp") / 1e6, stocked.upper_bound / 1e6

@@ -17,20 +17,19 @@ from matplotlib.patheffects import withStroke
 from matplotlib.ticker import MaxNLocator
 
 from pitplan.blockmodel.grid import metres
-from pitplan.config.economics import GRADE_UNITS, Metal
+from pitplan.config.economics import Metal
 from pitplan.config.material import PIT, WASTE as AS_WASTE
 from pitplan.config.periods import Calendar
 from pitplan.config.project import Project
 from pitplan.config.shells import ShellRules
 from pitplan.core.magnitude import money_unit, scaled
 from pitplan.core.revenue_factors import factor_text
-from pitplan.pits.shells import ratio
 from pitplan.pushbacks.bench_table import ROCK
 from pitplan.results.rounding import metal_unit
 from pitplan.scheduling.cash_flow.tables import BlockOperation
-from pitplan.scheduling.flow.tables import feed_table
-from pitplan.scheduling.methods import LP, MILP, NAMES, RULE
+from pitplan.scheduling.methods import BLOCK, LP, MILP, NAMES, RULE
 from pitplan.scheduling.pushback_schedule import PushbackSchedule
+from pitplan.scheduling.schedule import Schedule
 
 from . import palette
 from .palette import WASTE
@@ -407,7 +406,7 @@ def plot_tonnes(schedule: PushbackSchedule, axes: Any) -> list[Axes]:
     return found
 
 
-def plot_metals(schedule: PushbackSchedule, axes: Any) -> list[Axes]:
+def plot_metals(schedule: Schedule, axes: Any) -> list[Axes]:
     """Draws recovered metal and head grade of each year of the method that is shown, of up to three metals.
 
     Parameters
@@ -415,11 +414,13 @@ def plot_metals(schedule: PushbackSchedule, axes: Any) -> list[Axes]:
     axes : array or list of Axes
         One per metal.
     """
-    metals = schedule.pushbacks.plan.project.metals[:MOST_METALS]
-    found, feed = list_of(axes, len(metals)), feed_table(schedule)
+    project, feed = schedule.plan.project, schedule.feed[schedule.feed["method"] == schedule.shown]
+    metals = project.metals[:MOST_METALS]
+    found = list_of(axes, len(metals))
     for ax, metal in zip(found, metals):
-        plot_metal(feed[feed["method"] == schedule.shown], metal, schedule.settings.calendar, ax)
-        ax.set_title(f"{metal.name.capitalize()}, {TITLES.get(schedule.shown, schedule.shown).lower()}")
+        plot_metal(feed, metal, project.shells.calendar, ax)
+        shown = "" if schedule.shown == BLOCK else f", {TITLES.get(schedule.shown, schedule.shown).lower()}"
+        ax.set_title(f"{metal.name.capitalize()}{shown}")
     return found
 
 
@@ -571,7 +572,7 @@ def write(made: BlockSchedule, path: Path) -> None:
     metals = made.planned.plan.project.metals[:MOST_METALS]
     with figure_file(path, 12, 8.0, lays_out=False) as figure:
         plot(made, metal_rows(figure, 2, UPPER | {"wspace": 0.16, "top": 0.96}))
-        plot_block_metals(made, metal_rows(figure, len(metals), LOWER))
+        plot_metals(made, metal_rows(figure, len(metals), LOWER))
 
 
 def plot(made: BlockSchedule, axes: Any) -> list[Axes]:
@@ -580,30 +581,6 @@ def plot(made: BlockSchedule, axes: Any) -> list[Axes]:
     plot_block_tonnes(made, tonnes)
     plot_value(made, money)
     return [tonnes, money]
-
-
-def plot_block_metals(made: BlockSchedule, axes: Any) -> list[Axes]:
-    """Draws recovered metal and head grade of each year, of up to three metals; one axes per metal."""
-    project = made.planned.plan.project
-    metals, feed = project.metals[:MOST_METALS], feed_of(made)
-    found = list_of(axes, len(metals))
-    for ax, metal in zip(found, metals):
-        plot_metal(feed, metal, project.shells.calendar, ax).set_title(metal.name.capitalize())
-    return found
-
-
-def feed_of(made: BlockSchedule) -> pd.DataFrame:
-    """Returns year, process, feed_tonnes, head_grade_METAL and recovered_METAL."""
-    operation, parts = BlockOperation(made), []
-    for number, process in enumerate(made.planned.destinations.processes):
-        feed = operation.fed(operation.amounts.feed, number)
-        found = {"year": np.arange(1, made.count + 1), "process": process, "feed_tonnes": feed}
-        for metal in operation.plan.project.metals:
-            content = operation.fed(operation.amounts.contained[metal.name], number) / float(GRADE_UNITS[metal.unit])
-            found[f"head_grade_{metal.name}"] = ratio(content, feed)
-            found[f"recovered_{metal.name}"] = operation.recovered(metal.name)[number]
-        parts.append(pd.DataFrame(found))
-    return pd.concat(parts, ignore_index=True)
 
 
 def draw_bars(ax: Axes, made: BlockSchedule, size: float) -> None:

@@ -270,7 +270,7 @@ REALISED_CUTOFF = Column(
 )
 FEEDS = TableDeclaration(
     "feed.csv",
-    "of a schedule of pushbacks: a row per method, year and process",
+    "of a schedule: a row per method, year and process",
     (
         *(METHOD, YEAR),
         PROCESS,

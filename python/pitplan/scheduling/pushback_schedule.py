@@ -316,7 +316,7 @@ class PushbackSchedule(Schedule):
     def record_of(self, method: str) -> dict[str, Any]:
         """Returns the record of a method; those of programmes with the cut-offs, by process, in net value per tonne of feed by year."""
         years = self.flows[method].years
-        by_process = {name or MILL: values[:years].round(6).tolist() for name, values in cutoffs(self).items()}
+        by_process = {name: values[:years].round(6).tolist() for name, values in cutoffs(self).items()}
         return {
             "npv": round(self.value(method), 3),
             "years": self.time(years),
@@ -353,7 +353,7 @@ class PushbackSchedule(Schedule):
         for name, values in cutoffs(self).items() if self.optimum is not None else ():
             by_year = ", ".join(f"{worth:.2f}" for worth in values[: self.flows[self.shown].years])
             found.append(
-                f"cut-off of {name or MILL} by {self.settings.calendar.word} (net value of a tonne of feed, {currency}): {by_year}"
+                f"cut-off of {name} by {self.settings.calendar.word} (net value of a tonne of feed, {currency}): {by_year}"
             )
         if self.upper_bound is not None and not self.interrupted:
             rules = self.plan.project.schedule
@@ -432,11 +432,21 @@ class PushbackSchedule(Schedule):
     @property
     def material_tables(self) -> dict[str, pd.DataFrame]:
         """Tables of material by name, the inventory among them; a workbook has these."""
-        found = {"feed": tables.feed_table(self), "flows": self.material_flows, "cutoffs": tables.cutoff_table(self)}
+        found = {"feed": self.feed, "flows": self.material_flows, "cutoffs": tables.cutoff_table(self)}
         found["inventory"] = inventory.inventory_table(self)
         found |= {"stockpiles": tables.stockpile_table(self)} if self.is_stocked else {}
-        last, dumps = {method: flows.years for method, flows in self.flows.items()}, self.model.dumps
-        return found | ({"dumps": tables.dump_table(self.material_flows, last, dumps)} if dumps else {})
+        dumps = self.model.dumps
+        return found | ({"dumps": tables.dump_table(self.material_flows, self.last_years, dumps)} if dumps else {})
+
+    @property
+    def last_years(self) -> dict[str, int]:
+        """The last year of each method."""
+        return {method: flows.years for method, flows in self.flows.items()}
+
+    @cached_property
+    def feed(self) -> pd.DataFrame:
+        """What each process takes in each year of each method."""
+        return tables.feed_table(self.material_flows, self.last_years, self.plan.project.metals, cutoffs(self))
 
     @property
     def as_shells(self) -> Shells:

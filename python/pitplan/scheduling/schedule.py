@@ -73,6 +73,11 @@ class Schedule(Answer):
 
     @property
     @abstractmethod
+    def feed(self) -> pd.DataFrame:
+        """One row per method, year and process: feed, head grades, metals and cut-offs."""
+
+    @property
+    @abstractmethod
     def material_tables(self) -> dict[str, pd.DataFrame]:
         """Tables of material by name, the inventory among them; a workbook has these."""
 

@@ -11,9 +11,10 @@ import pandas as pd
 
 from planaudit.inputs.answer import Answer
 from planaudit.inputs.matching import own_name
-from planaudit.inputs.tables import YEAR
+from planaudit.inputs.tables import TABLES, YEAR, read_prices, read_table
 from planaudit.rules import TOLD, Checks, Rule, rule
-from planaudit.schedules import cash_flow, dumps, grade_tonnage, inventory, price_paths
+from planaudit.schedules import bounds, cash_flow, dumps, grade_tonnage, inventory, material_flow, price_paths
+from planaudit.schedules.limit_table import LimitTable
 from planaudit.schedules.limits import placed_of, shares_of
 from planaudit.schedules.lots import MILL, BlockAmounts
 from planaudit.schedules.material_flow import PIT, WASTE, MaterialFlow
@@ -71,6 +72,7 @@ def checks_of(answer: Answer) -> Checks:
     flow = flow_of(answer)
     found: Checks = {
         "inventory": lambda: [inventory.rule_of([*untaken(flow), *inventory.unlike_rows(flow)])],
+        "feed": lambda: [verify_feed(flow)],
         "cash flow": lambda: [cash_flow.verify(flow, [CASE])],
         "grade tonnage": lambda: [grade_tonnage.verify(answer)],
     }
@@ -79,6 +81,18 @@ def checks_of(answer: Answer) -> Checks:
     if not answer.project.price_paths:
         return found
     return {**found, "price paths": lambda: [price_paths.verify(answer, CASE, recovered_of(flow))]}
+
+
+def verify_feed(flow: MaterialFlow) -> Rule:
+    """Verifies that feed.csv has the sums of blocks by process and year, and the cut-offs of bound.csv and of what is fed."""
+    tables = flow.answer.folder / TABLES
+    said, prices = read_table(tables / "feed.csv", ["method", "process"]), read_prices(tables / bounds.FILE)
+    # By block the price of a minimum is below 0.
+    signed = prices.assign(price=np.where(prices["side"] == bounds.MIN, -prices["price"], prices["price"]))
+    found = [*material_flow.unlike_feed(flow, said), *material_flow.unlike_realised(flow, said)]
+    found += LimitTable(flow.answer, {}, signed).unlike_cutoffs(said)
+    holds = "feed, head grades and metal of each process are sums over blocks, and its cut-offs are prices of its capacity"
+    return rule("feed", holds, found[:TOLD], len(found))
 
 
 def verify_dumps(flow: MaterialFlow) -> Rule:

@@ -18,12 +18,12 @@ from pitplan.config.schedule import ScheduleRules
 from pitplan.core.progress import Progress, silent
 from pitplan.core.revenue_factors import BASE_PRICE
 from pitplan.core.tolerances import BLOCK_MONEY, SUM_ERROR
-from pitplan.economics.period_costs import is_shown, of_project
+from pitplan.economics.period_costs import MINING_COST, is_shown, of_project
 from pitplan.errors import WARNING, PlanError
 from pitplan.pits import grade_tonnage
 from pitplan.pits.best_worst_case import year_discounts
 from pitplan.pits.shells import Shells
-from pitplan.plan import Plan, shown_name
+from pitplan.plan import MILLION, Plan, shown_name
 from pitplan.pushbacks.bench_table import CASH, ORE, ROCK
 from pitplan.scheduling import inventory
 from pitplan.scheduling.cash_flow.lines import Operation
@@ -44,7 +44,7 @@ from pitplan.scheduling.certificate import (
     write,
 )
 from pitplan.scheduling.flow.material import column_of
-from pitplan.scheduling.flow.tables import dump_table
+from pitplan.scheduling.flow.tables import dump_table, feed_table
 from pitplan.scheduling.limits import DUMP
 from pitplan.scheduling.methods import BLOCK, notes_of_gap
 from pitplan.scheduling.schedule import Schedule
@@ -112,9 +112,45 @@ class BlockSchedule(Schedule):
 
     @property
     def material_tables(self) -> dict[str, pd.DataFrame]:
-        """The inventory, and with `[[dumps]]` what each takes and holds."""
-        found, dumps = {"inventory": inventory_table(self)}, self.plan.project.dumps
-        return found | ({"dumps": dump_table(inventory_flows(self), {BLOCK: self.count}, dumps)} if dumps else {})
+        """Feed and inventory, and with `[[dumps]]` what each takes and holds."""
+        project = self.plan.project
+        found = {"feed": self.feed, "inventory": inventory.summed(self.material_flows, project, [BLOCK])}
+        found |= {"dumps": dump_table(self.material_flows, self.last_years, project.dumps)} if project.dumps else {}
+        return found
+
+    @property
+    def last_years(self) -> dict[str, int]:
+        """The last year of the method."""
+        return {BLOCK: self.count}
+
+    @cached_property
+    def feed(self) -> pd.DataFrame:
+        """What each process takes in each year."""
+        return feed_table(self.material_flows, self.last_years, self.plan.project.metals, self.cutoffs)
+
+    @property
+    def cutoffs(self) -> dict[str, NDArray[np.float64]]:
+        """By process the shadow price of a tonne of its feed, in the currency of the year, each of shape (years,)."""
+        problem, prices = self.planned.problem, self.found.multipliers
+        discounts = year_discounts(self.plan.project.shells, problem.years)
+        found = {}
+        for name in self.planned.destinations.processes:
+            of_process = [k for k, it in enumerate(problem.limits) if it.name in (ORE, f"{ORE}_{name}")]
+            found[name] = prices[of_process].sum(axis=0) / discounts if prices.size else 0.0 * discounts
+        return found
+
+    @cached_property
+    def cash(self) -> NDArray[np.float64]:
+        """What each block earns in each destination in the year in which it is mined, shape (blocks, destinations)."""
+        problem, year = self.planned.problem, self.found.schedule.year
+        cash = self.planned.amounts.cash(self.plan.project, problem.years)
+        return cash[np.arange(problem.blocks), :, np.minimum(year, problem.years - 1)]
+
+    @cached_property
+    def material_flows(self) -> pd.DataFrame:
+        """One row per block with tonnes and destination that takes a share of it."""
+        parts = [flows_to(self, number) for number in range(len(self.planned.destinations))]
+        return pd.concat(parts, ignore_index=True)
 
     @property
     def grade_tonnage(self) -> pd.DataFrame:
@@ -190,9 +226,7 @@ class BlockSchedule(Schedule):
     def years(self) -> pd.DataFrame:
         """A row a year up to the last in which anything is mined, as `Shells.years` has of cases."""
         problem, schedule, project = self.planned.problem, self.found.schedule, self.plan.project
-        cash = self.planned.amounts.cash(project, problem.years)
-        mined = np.arange(problem.blocks), slice(None), np.minimum(schedule.year, problem.years - 1)
-        flows, count = self.planned.amounts.flows | {CASH: cash[mined]}, self.count
+        flows, count = self.planned.amounts.flows | {CASH: self.cash}, self.count
         table = pd.DataFrame({"case": BLOCK, "revenue_factor": BASE_PRICE, "year": np.arange(1, count + 1)})
         for name, amounts in flows.items():
             if not is_shown(name) or name.startswith(DUMP):
@@ -322,19 +356,7 @@ def scheduled(planned: PlannedBlocks, shells: Shells, progress: Progress = silen
     return BlockSchedule(planned, shells, replace(found, schedule=planned.with_barren_waste(found.schedule)))
 
 
-def inventory_table(blocks: BlockSchedule) -> pd.DataFrame:
-    """Returns the inventory of a schedule by block: that of `scheduling.inventory.summed`, without pushbacks."""
-    plan = blocks.planned.plan
-    return inventory.summed(inventory_flows(blocks), plan.project, [BLOCK])
-
-
-def inventory_flows(blocks: BlockSchedule) -> pd.DataFrame:
-    """Returns a row per block with tonnes and destination that takes a share of it."""
-    parts = [inventory_rows(blocks, number) for number in range(len(blocks.planned.destinations))]
-    return pd.concat(parts, ignore_index=True)
-
-
-def inventory_rows(blocks: BlockSchedule, number: int) -> pd.DataFrame:
+def flows_to(blocks: BlockSchedule, number: int) -> pd.DataFrame:
     """Returns a row per block with tonnes whose share goes to a destination, by its number."""
     planned, schedule = blocks.planned, blocks.found.schedule
     plan, destination = planned.plan, planned.destinations.names[number]
@@ -353,6 +375,9 @@ def inventory_rows(blocks: BlockSchedule, number: int) -> pd.DataFrame:
         found[f"contained_{metal.name}"] = grade * plan.values.undiluted[cells] * fed
         recovered = np.zeros(1) if process < 0 else plan.values.by_process[process].metal[metal.name][cells]
         found[f"recovered_{metal.name}"] = recovered * fed
+    mining = plan.values.mining[cells] / MILLION
+    factors = of_project(plan.project).factors(MINING_COST, planned.problem.years)
+    found["cash_flow"] = (blocks.cash[some, number] + mining * factors[schedule.year[some]]) * share
     return pd.DataFrame(found)
 
 

@@ -11,7 +11,7 @@ import numpy as np
 import pandas as pd
 from numpy.typing import NDArray
 
-from pitplan.config.economics import GRADE_UNITS
+from pitplan.config.economics import GRADE_UNITS, Metal
 from pitplan.config.material import MILL, PIT, WASTE, Dump, Stockpile
 from pitplan.core.tolerances import SOLVER_SUM, SUM_ERROR
 from pitplan.economics.cutoff_grades import RockCosts
@@ -231,20 +231,27 @@ def handled(found: pd.DataFrame, flows: Flows, move: Move, names: list[str]) -> 
     return found
 
 
-def feed_table(schedule: PushbackSchedule) -> pd.DataFrame:
+def feed_table(
+    flows: pd.DataFrame, last: Mapping[str, int], metals: Sequence[Metal], by_process: Mapping[str, Floats]
+) -> pd.DataFrame:
     """Returns one row per method, year and process.
 
     Columns: method, year, process, feed_tonnes, reclaimed_tonnes (of these from stockpiles), head_grade_METAL, contained_METAL,
-    recovered_METAL, cutoff and realised_cutoff; see `cutoffs.cutoff_columns`.
+    recovered_METAL, cutoff and realised_cutoff.
+
+    Parameters
+    ----------
+    flows : DataFrame
+        With method, year, source, destination, feed_tonnes, contained_METAL, recovered_METAL and cash_flow.
+    last : mapping of str to int
+        The last year of each method.
+    metals : sequence of Metal
+    by_process : mapping of str to array
+        The cut-off of each process by year.
     """
-    metals, flows = schedule.pushbacks.plan.project.metals, schedule.material_flows
     amounts = ["feed_tonnes", *(f"{kind}_{metal.name}" for kind in ("contained", "recovered") for metal in metals)]
-    processes = [name or MILL for name in schedule.names]
     keys = [
-        (method, year, name)
-        for method, found in schedule.flows.items()
-        for year in range(1, found.years + 1)
-        for name in processes
+        (method, year, name) for method, count in last.items() for year in range(1, count + 1) for name in by_process
     ]
     index = pd.MultiIndex.from_tuples(keys, names=["method", "year", "destination"])
     sums = flows.groupby(["method", "year", "destination"])[amounts].sum().reindex(index, fill_value=0.0)
@@ -255,7 +262,8 @@ def feed_table(schedule: PushbackSchedule) -> pd.DataFrame:
         grade = ratio(sums[f"contained_{metal.name}"].to_numpy() / unit, sums["feed_tonnes"].to_numpy())
         sums.insert(2 + place, f"head_grade_{metal.name}", grade)
     sums.index.names = KEYS
-    return sums.join(cutoff_columns(schedule, sums.index)).reset_index()
+    sums["cutoff"] = [float(by_process[process][year - 1]) for _, year, process in keys]
+    return sums.assign(realised_cutoff=realised(flows, list(by_process)).reindex(sums.index)).reset_index()
 
 
 def stockpile_table(schedule: PushbackSchedule) -> pd.DataFrame:
@@ -479,12 +487,12 @@ KEYS = ["method", "year", "process"]
 
 
 def cutoffs(schedule: PushbackSchedule) -> dict[str, NDArray[np.float64]]:
-    """Returns by process, "" for the only one, the net value per tonne of feed from which on ore is processed at the prices of the limits.
+    """Returns by process, `mill` for one without a name, the net value per tonne of feed from which on ore is processed at the prices of the limits.
 
     It is the shadow price of a tonne of the process's capacity, in the currency of the year: 0 while capacity is left. Each array has the shape
     (years,); nan without a linear programme.
     """
-    return {name: price_of(schedule, name) for name in schedule.names}
+    return {name or MILL: price_of(schedule, name) for name in schedule.names}
 
 
 def price_of(schedule: PushbackSchedule, process: str) -> NDArray[np.float64]:
@@ -493,20 +501,12 @@ def price_of(schedule: PushbackSchedule, process: str) -> NDArray[np.float64]:
     return price + shadow_prices(schedule, f"{FEED}_{process}") if process else price
 
 
-def realised(schedule: PushbackSchedule) -> pd.Series:
+def realised(flows: pd.DataFrame, processes: Sequence[str]) -> pd.Series:
     """Returns the lowest net value per tonne of feed that each process takes, by method, year and process."""
-    flows = schedule.material_flows.rename(columns={"destination": "process"})
-    fed = flows[flows["process"].isin([name or MILL for name in schedule.names])]
+    flows = flows.rename(columns={"destination": "process"})
+    fed = flows[flows["process"].isin(processes)]
     some = fed[fed["feed_tonnes"] > SOLVER_SUM * fed.groupby(KEYS)["feed_tonnes"].transform("sum")]
     return (some["cash_flow"] / some["feed_tonnes"]).groupby([some[key] for key in KEYS]).min()
-
-
-def cutoff_columns(schedule: PushbackSchedule, keys: pd.MultiIndex) -> pd.DataFrame:
-    """Returns the columns `cutoff` and `realised_cutoff` of rows by method, year and process."""
-    found = cutoffs(schedule)
-    by_process = {name or MILL: found[name] for name in schedule.names}
-    priced = [float(by_process[process][year - 1]) for _, year, process in keys]
-    return pd.DataFrame({"cutoff": priced, "realised_cutoff": realised(schedule).reindex(keys)}, index=keys)
 
 
 def cutoff_table(schedule: PushbackSchedule) -> pd.DataFrame:
@@ -531,8 +531,8 @@ def cutoff_table(schedule: PushbackSchedule) -> pd.DataFrame:
         for row in cutoff_rows(schedule, year, list(zip(process, rocks)))
     ]
     table = pd.DataFrame(rows, columns=[it for it in columns_of(schedule) if it != "realised_cutoff"])
-    at = pd.MultiIndex.from_frame(table[KEYS])
-    table.insert(table.columns.get_loc("cutoff") + 1, "realised_cutoff", realised(schedule).reindex(at).to_numpy())
+    at, lowest = pd.MultiIndex.from_frame(table[KEYS]), realised(schedule.material_flows, list(cutoffs(schedule)))
+    table.insert(table.columns.get_loc("cutoff") + 1, "realised_cutoff", lowest.reindex(at).to_numpy())
     return table
 
 
@@ -561,7 +561,7 @@ def cutoff_rows(schedule: PushbackSchedule, year: int, rocks: list[tuple[int, Ro
     for process, costs in rocks:
         premiums = premiums_in(schedule, year, process)
         name, first = schedule.names[process], costs.metals[0]
-        cutoff = float(found[name][year])
+        cutoff = float(found[name or MILL][year])
         row = {"year": year + 1, "process": name or MILL, "cutoff": cutoff, "metal": first.name}
         if project.table.rock_type:
             row[shown_name(project.table.rock_type)] = costs.rock
