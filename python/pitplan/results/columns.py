@@ -344,7 +344,7 @@ CUTOFFS = TableDeclaration(
 LIMITED = Unit("that of the amount", 6, 2)
 LIMITS = TableDeclaration(
     "limits.csv",
-    "of a schedule of pushbacks: a row per method, year and limit",
+    "of a schedule: a row per method, year and limit",
     (
         *(METHOD, YEAR),
         Column("limit", TEXT, "the amount, as in `bound.csv`", "limit"),

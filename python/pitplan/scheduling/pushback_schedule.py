@@ -443,6 +443,11 @@ class PushbackSchedule(Schedule):
         """The last year of each method."""
         return {method: flows.years for method, flows in self.flows.items()}
 
+    @property
+    def limits(self) -> pd.DataFrame:
+        """What each method uses of each limit in each year."""
+        return tables.limit_table(tables.uses_of_limits(self))
+
     @cached_property
     def feed(self) -> pd.DataFrame:
         """What each process takes in each year of each method."""
@@ -467,7 +472,7 @@ class PushbackSchedule(Schedule):
         """The tables by name: those of the pushbacks, and of the schedule."""
         found = self.pushbacks.tables() | {"blocks": self.blocks}
         found["years"] = pd.concat([found["years"], self.years], ignore_index=True)
-        found |= {"schedule": self.table, "methods": self.methods, "limits": tables.limit_table(self)}
+        found |= {"schedule": self.table, "methods": self.methods, "limits": self.limits}
         found |= {"bound": tables.bound_table(self)} if self.optimum is not None else {}
         return found | self.money_tables | self.material_tables
 

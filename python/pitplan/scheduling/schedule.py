@@ -78,6 +78,11 @@ class Schedule(Answer):
 
     @property
     @abstractmethod
+    def limits(self) -> pd.DataFrame:
+        """One row per method, year and limit: use, minimum, maximum and shadow price."""
+
+    @property
+    @abstractmethod
     def material_tables(self) -> dict[str, pd.DataFrame]:
         """Tables of material by name, the inventory among them; a workbook has these."""
 

@@ -5,19 +5,30 @@ from __future__ import annotations
 from collections.abc import Iterator
 from dataclasses import dataclass, replace
 from functools import cached_property
+from typing import Any
 
 import numpy as np
 import pandas as pd
 
 from planaudit.inputs.answer import Answer
 from planaudit.inputs.matching import own_name
-from planaudit.inputs.tables import TABLES, YEAR, read_prices, read_table
+from planaudit.inputs.tables import TABLES, YEAR, read_table
 from planaudit.rules import TOLD, Checks, Rule, rule
-from planaudit.schedules import bounds, cash_flow, dumps, grade_tonnage, inventory, material_flow, price_paths
-from planaudit.schedules.limit_table import LimitTable
-from planaudit.schedules.limits import placed_of, shares_of
+from planaudit.schedules import (
+    block_grades,
+    bounds,
+    cash_flow,
+    dumps,
+    grade_tonnage,
+    inventory,
+    limit_table,
+    material_flow,
+    price_paths,
+)
+from planaudit.schedules.limits import amounts_of, placed_of, shares_of
 from planaudit.schedules.lots import MILL, BlockAmounts
 from planaudit.schedules.material_flow import PIT, WASTE, MaterialFlow
+from planaudit.schedules.pushback_schedule import by_year
 
 CASE = "block"
 # A share that the tolerance of a solver alone may leave.
@@ -67,12 +78,12 @@ def flow_of(answer: Answer) -> MaterialFlow:
     return replace(flow, rows=flow.rows.assign(**{name: due for name, (due, _) in flow.expected.items()}))
 
 
-def checks_of(answer: Answer) -> Checks:
-    """Returns the checks of inventory.csv, cash_flow.csv, valuation.csv and grade_tonnage.csv, and of dumps and price paths if there are any."""
+def checks_of(answer: Answer, told: dict[str, Any]) -> Checks:
+    """Returns the checks of feed.csv, limits.csv, inventory.csv, cash_flow.csv, valuation.csv and grade_tonnage.csv, and of dumps and price paths if there are any."""
     flow = flow_of(answer)
     found: Checks = {
         "inventory": lambda: [inventory.rule_of([*untaken(flow), *inventory.unlike_rows(flow)])],
-        "feed": lambda: [verify_feed(flow)],
+        "feed": lambda: [verify_feed(flow, told)],
         "cash flow": lambda: [cash_flow.verify(flow, [CASE])],
         "grade tonnage": lambda: [grade_tonnage.verify(answer)],
     }
@@ -83,16 +94,35 @@ def checks_of(answer: Answer) -> Checks:
     return {**found, "price paths": lambda: [price_paths.verify(answer, CASE, recovered_of(flow))]}
 
 
-def verify_feed(flow: MaterialFlow) -> Rule:
-    """Verifies that feed.csv has the sums of blocks by process and year, and the cut-offs of bound.csv and of what is fed."""
-    tables = flow.answer.folder / TABLES
-    said, prices = read_table(tables / "feed.csv", ["method", "process"]), read_prices(tables / bounds.FILE)
-    # By block the price of a minimum is below 0.
-    signed = prices.assign(price=np.where(prices["side"] == bounds.MIN, -prices["price"], prices["price"]))
+def verify_feed(flow: MaterialFlow, told: dict[str, Any]) -> Rule:
+    """Verifies that feed.csv has the sums of blocks by process and year, limits.csv the use of each limit, and both the prices of bound.csv."""
+    answer, last = flow.answer, int(flow.rows["year"].max()) if len(flow.rows) else 0
+    said = read_table(answer.folder / TABLES / "feed.csv", ["method", "process"])
+    rows, prices = limit_table.read(answer)
+    assert prices is not None
+    # By block the price of a minimum is below 0, and that of all years is shown in the last one.
+    prices = prices.assign(price=np.where(prices["side"] == bounds.MIN, -prices["price"], prices["price"]))
+    prices.loc[prices["year"] == 0, "year"] = last
+    table = limit_table.LimitTable(answer, by_year(answer, max(last, 1)), prices, told["years"])
     found = [*material_flow.unlike_feed(flow, said), *material_flow.unlike_realised(flow, said)]
-    found += LimitTable(flow.answer, {}, signed).unlike_cutoffs(said)
-    holds = "feed, head grades and metal of each process are sums over blocks, and its cut-offs are prices of its capacity"
+    found += [*table.unlike_cutoffs(said), *table.unlike(CASE, rows, lambda name: used(flow, name, last), last)]
+    holds = "feed, head grades, metal and the use of limits are sums over blocks, and cut-offs and shadow prices are multipliers"
     return rule("feed", holds, found[:TOLD], len(found))
+
+
+def used(flow: MaterialFlow, name: str, last: int) -> tuple[pd.Series, pd.Series]:
+    """Returns by year what is used of an amount, of the excess of a head grade, or as `feed K` by a process; and its tolerance."""
+    answer, year = flow.answer, flow.answer.said[YEAR].to_numpy()
+    if name.startswith((dumps.DUMP, dumps.DUMPED)):
+        return dumps.used(flow, name, CASE, last)
+    shares = shares_of(answer)
+    if name.startswith("feed "):
+        of_blocks = shares[int(name.removeprefix("feed "))][1] * answer.feed
+    else:
+        excess = dict(it for grade in block_grades.graded(answer, shares) for it in grade.excess())
+        of_blocks = excess[name] if name in excess else amounts_of(answer, shares)[name].to_numpy()
+    sums = np.bincount(year, of_blocks, minlength=last + 1)
+    return pd.Series(sums, index=range(len(sums))), pd.Series(dtype=float)
 
 
 def verify_dumps(flow: MaterialFlow) -> Rule:

@@ -39,7 +39,7 @@ def checks_of(answer: Answer) -> Checks:
         "block constraints": lambda: verify_fixed(answer),
         "block value": lambda: [verify_value(answer, told, sums)],
         "upper bound": lambda: [bounds.verify(answer, told)],
-        **block_flow.checks_of(answer),
+        **block_flow.checks_of(answer, told),
         "certificate": lambda: certificate.verify(answer, told),
     }
 

@@ -1,4 +1,4 @@
-"""Recomputes limits.csv of a schedule of pushbacks: use, limits and shadow prices of each year."""
+"""Recomputes limits.csv of a schedule: use, limits and shadow prices of each year."""
 
 from __future__ import annotations
 
@@ -84,8 +84,9 @@ class LimitTable:
     def unlike(self, method: str, rows: pd.DataFrame, used: Used, last: int) -> Iterator[str]:
         """Yields differences of the rows of a method, whose last year is given."""
         rules = self.answer.project.schedule
-        numbers = np.unique(self.answer.said["pushback"].to_numpy())
-        sinking = [f"{ADVANCE}{it}" for it in numbers if it > 0] if rules and rules["vertical_advance_rate"] else []
+        sinks = rules and rules["vertical_advance_rate"] and not self.answer.is_by_block
+        numbers = np.unique(self.answer.said["pushback"].to_numpy()) if sinks else ()
+        sinking = [f"{ADVANCE}{it}" for it in numbers if it > 0]
         shown = {it.name: name for name, limits in self.grades.items() for it in limits}
         finite = [
             shown.get(name, name)

@@ -2,6 +2,7 @@
 
 from __future__ import annotations
 
+from collections.abc import Iterator
 from dataclasses import dataclass, replace
 from functools import cached_property
 from pathlib import Path
@@ -44,8 +45,8 @@ from pitplan.scheduling.certificate import (
     write,
 )
 from pitplan.scheduling.flow.material import column_of
-from pitplan.scheduling.flow.tables import dump_table, feed_table
-from pitplan.scheduling.limits import DUMP
+from pitplan.scheduling.flow.tables import LimitUse, dump_table, feed_table, grades_of, limit_table, use_of_grade
+from pitplan.scheduling.limits import DUMP, DUMPED
 from pitplan.scheduling.methods import BLOCK, notes_of_gap
 from pitplan.scheduling.schedule import Schedule
 
@@ -131,13 +132,23 @@ class BlockSchedule(Schedule):
     @property
     def cutoffs(self) -> dict[str, NDArray[np.float64]]:
         """By process the shadow price of a tonne of its feed, in the currency of the year, each of shape (years,)."""
+        return {name: self.shadow_price(ORE, f"{ORE}_{name}") for name in self.planned.destinations.processes}
+
+    def shadow_price(self, *names: str) -> NDArray[np.float64]:
+        """Returns what a unit more of limits with these names would earn in each year, in the money of the year, shape (years,). That of a total is of
+        the last year of the schedule."""
         problem, prices = self.planned.problem, self.found.multipliers
-        discounts = year_discounts(self.plan.project.shells, problem.years)
-        found = {}
-        for name in self.planned.destinations.processes:
-            of_process = [k for k, it in enumerate(problem.limits) if it.name in (ORE, f"{ORE}_{name}")]
-            found[name] = prices[of_process].sum(axis=0) / discounts if prices.size else 0.0 * discounts
-        return found
+        found, discounts = np.zeros(problem.years), year_discounts(self.plan.project.shells, problem.years)
+        for limit, by_year in zip(problem.limits, prices):
+            found += by_year * (limit.name in names)
+        for total, (price, *_) in zip(problem.totals, prices[len(problem.limits) :]):
+            found[self.count - 1] += price * (total.name in names)
+        return found / discounts
+
+    @property
+    def limits(self) -> pd.DataFrame:
+        """What the schedule uses of each limit in each year."""
+        return limit_table({BLOCK: list(uses_of_limits(self))})
 
     @cached_property
     def cash(self) -> NDArray[np.float64]:
@@ -163,7 +174,8 @@ class BlockSchedule(Schedule):
         """The tables by name: those of the shells, and of the schedule."""
         found = {"blocks": self.blocks, "shells": self.shells.table, "grade_tonnage": self.grade_tonnage}
         found["years"] = pd.concat([self.shells.years, self.years], ignore_index=True)
-        return found | {"methods": self.methods, "bound": self.multipliers} | self.money_tables | self.material_tables
+        found |= {"methods": self.methods, "limits": self.limits, "bound": self.multipliers}
+        return found | self.money_tables | self.material_tables
 
     def summary(self) -> dict[str, Any]:
         """The part of the record plan.json."""
@@ -354,6 +366,35 @@ def scheduled(planned: PlannedBlocks, shells: Shells, progress: Progress = silen
     rules = planned.plan.project.schedule or ScheduleRules()
     found = solve(planned.problem, rules.milp, progress)
     return BlockSchedule(planned, shells, replace(found, schedule=planned.with_barren_waste(found.schedule)))
+
+
+def uses_of_limits(blocks: BlockSchedule) -> Iterator[LimitUse]:
+    """Yields the uses of amounts, head grades, and what dumps take and hold."""
+    planned, count, schedule = blocks.planned, blocks.count, blocks.found.schedule
+    limits, project, nothing = planned.limits, planned.plan.project, np.full(count, np.nan)
+    operation, least = BlockOperation(blocks), limits.least_of_years(count)
+    most = dict(zip(limits.most, limits.of_years(max(count, 1))[:count].T))
+
+    def by_year(name: str) -> NDArray[np.float64]:
+        return operation.by_year((planned.amounts.flows[name] * schedule.share).sum(axis=1))
+
+    for name in dict.fromkeys([*limits.most, *limits.least]):
+        price = blocks.shadow_price(name)[:count]
+        yield LimitUse(name, by_year(name), least.get(name, nothing), most.get(name, nothing), price)
+    for shown, sides in grades_of(project).items():
+        grade = next(it for it in planned.grades if sides[0].name in it.limits)
+        feed = operation.fed(grade.feed, sides[0].process)
+        head = grade.of_years(planned.cells, schedule, planned.problem.years)[:count]
+        yield use_of_grade(sides, head, feed, lambda it: blocks.shadow_price(it)[:count])
+    for it in project.dumps:
+        name, placed = f"{DUMP}{it.name}", by_year(f"{DUMP}{it.name}")
+        low, high = (values[:count] for values in limits.dumped(it.name, max(count, 1)))
+        if any(limit.name == name for limit in planned.problem.limits):
+            sides = low if low.any() else nothing, np.where(np.isfinite(high), high, nothing)
+            yield LimitUse(name, placed, *sides, blocks.shadow_price(name)[:count])
+        if it.capacity is not None:
+            name, room = f"{DUMPED}{it.name}", np.full(count, float(it.capacity))
+            yield LimitUse(name, placed.cumsum(), nothing, room, blocks.shadow_price(name)[:count])
 
 
 def flows_to(blocks: BlockSchedule, number: int) -> pd.DataFrame:

@@ -2,7 +2,7 @@
 
 from __future__ import annotations
 
-from collections.abc import Iterator, Mapping, Sequence
+from collections.abc import Callable, Iterator, Mapping, Sequence
 from dataclasses import dataclass
 from functools import cached_property
 from typing import TYPE_CHECKING, Any, Optional
@@ -13,6 +13,7 @@ from numpy.typing import NDArray
 
 from pitplan.config.economics import GRADE_UNITS, Metal
 from pitplan.config.material import MILL, PIT, WASTE, Dump, Stockpile
+from pitplan.config.project import Project
 from pitplan.core.tolerances import SOLVER_SUM, SUM_ERROR
 from pitplan.economics.cutoff_grades import RockCosts
 from pitplan.economics.period_costs import MINING_COST, PROCESSING_COST, SELLING_COST, SMELTED
@@ -358,29 +359,54 @@ Floats = NDArray[np.float64]
 COLUMNS = ("method", "year", "limit", "used", "minimum", "maximum", "utilisation", "shadow_price")
 
 
-def limit_table(schedule: PushbackSchedule) -> pd.DataFrame:
-    """Returns one row per method, year and limit.
+@dataclass(frozen=True)
+class LimitUse:
+    """What a method uses of a limit in each year, and what a unit more of it would earn; each array has the shape (years,), nan where there is none.
 
-    Columns: `used` of the amount; its `minimum` and `maximum`; `utilisation`, the share of the maximum that is used; and `shadow_price`, the
-    money of the year that a unit more of the limit would earn in the linear programme, below 0 for a minimum. Of a limit on a head grade all
-    these are of the grade.
+    Attributes
+    ----------
+    used, minimum, maximum : array
+        Of the amount; of a limit on a head grade of the grade.
+    shadow_price : array
+        In the money of the year, below 0 for a minimum.
     """
-    found = [limit_rows(schedule, method, name) for method in schedule.flows for name in names_of(schedule)]
-    table = pd.concat(found, ignore_index=True) if found else pd.DataFrame(columns=list(COLUMNS))
-    order = {name: number for number, name in enumerate(names_of(schedule))}
-    table["place"] = table["limit"].map(order)
-    methods = {method: number for number, method in enumerate(schedule.flows)}
-    table["first"] = table["method"].map(methods)
-    return (
-        table.sort_values(["first", "year", "place"], kind="stable")
-        .drop(columns=["first", "place"])
-        .reset_index(drop=True)
-    )
+
+    name: str
+    used: Floats
+    minimum: Floats
+    maximum: Floats
+    shadow_price: Floats
+    is_grade: bool = False
+
+    def rows(self, method: str) -> pd.DataFrame:
+        share = np.full(len(self.used), np.nan)
+        if not self.is_grade:
+            share = np.divide(self.used, self.maximum, out=share, where=self.maximum > 0)
+        year, amounts = np.arange(1, len(self.used) + 1), (self.used, self.minimum, self.maximum)
+        return pd.DataFrame(dict(zip(COLUMNS, (method, year, self.name, *amounts, share, self.shadow_price))))
+
+
+def limit_table(uses: Mapping[str, Sequence[LimitUse]]) -> pd.DataFrame:
+    """Returns one row per method, year and limit, from the uses of limits by method.
+
+    Columns: `used` of the amount; its `minimum` and `maximum`; `utilisation`, the share of the maximum that is used; and `shadow_price`.
+    """
+    parts = [it.rows(method).assign(place=place) for method, found in uses.items() for place, it in enumerate(found)]
+    table = pd.concat(parts, ignore_index=True) if parts else pd.DataFrame(columns=[*COLUMNS, "place"])
+    table["first"] = table["method"].map({method: number for number, method in enumerate(uses)})
+    order = table.sort_values(["first", "year", "place"], kind="stable")
+    return order.drop(columns=["first", "place"]).reset_index(drop=True)
+
+
+def uses_of_limits(schedule: PushbackSchedule) -> dict[str, list[LimitUse]]:
+    """Returns the uses of the limits of a schedule of pushbacks by method."""
+    names = names_of(schedule)
+    return {method: [limit_use(schedule, flows, name) for name in names] for method, flows in schedule.flows.items()}
 
 
 def names_of(schedule: PushbackSchedule) -> list[str]:
     """The limits: amounts, head grades, the vertical advance of each pushback, what lies on stockpiles, and what dumps take and hold."""
-    limits, grades = schedule.problem.limits, grades_of(schedule)
+    limits, grades = schedule.problem.limits, grades_of(schedule.plan.project)
     shown = {it.name: name for name, found in grades.items() for it in found}
     found = list(dict.fromkeys(shown.get(name, name) for name in (*limits.most, *limits.least)))
     if np.isfinite(limits.vertical_advance_rate):
@@ -394,33 +420,39 @@ def names_of(schedule: PushbackSchedule) -> list[str]:
     return found
 
 
-def limit_rows(schedule: PushbackSchedule, method: str, name: str) -> pd.DataFrame:
-    flows, grades = schedule.flows[method], grades_of(schedule).get(name)
-    years, nothing = np.arange(flows.years), np.full(flows.years, np.nan)
-    if grades is not None:
-        used, least, most, price = of_grade(schedule, flows, grades)
-    else:
+def limit_use(schedule: PushbackSchedule, flows: Flows, name: str) -> LimitUse:
+    grades, years = grades_of(schedule.plan.project).get(name), flows.years
+    if grades is None:
         used, least, most = amounts_of(schedule, flows, name)
-        price = shadow_prices(schedule, name)[: flows.years]
-    share = nothing if grades else np.divide(used, most, out=nothing.copy(), where=most > 0)
-    columns = (method, years + 1, name, used, least, most, share, price)
-    return pd.DataFrame(dict(zip(COLUMNS, columns)))
-
-
-def of_grade(
-    schedule: PushbackSchedule, flows: Flows, limits: list[GradeLimit]
-) -> tuple[Floats, Floats, Floats, Floats]:
-    """Returns the head grade of each year, its minimum and maximum, and what a unit more of the limit would earn."""
-    first, years = limits[0], flows.years
+        return LimitUse(name, used, least, most, shadow_prices(schedule, name)[:years])
+    first = grades[0]
     feed = flows.used_in(FEED, first.process)
     excess = first.sign * flows.used(first.name)
     grade = np.divide(excess, feed, out=np.full(years, np.nan), where=feed > 0) + first.grade
-    limit, price = np.full(years, np.nan), np.zeros(years)
+    return use_of_grade(grades, grade, feed, lambda it: shadow_prices(schedule, it)[:years])
+
+
+def use_of_grade(
+    limits: Sequence[GradeLimit], grade: Floats, feed: Floats, price_of_amount: Callable[[str], Floats]
+) -> LimitUse:
+    """Returns the use of limits on one side of a head grade.
+
+    Parameters
+    ----------
+    limits : sequence of GradeLimit
+        One for each value that some period has.
+    grade, feed : array, shape (years,)
+        The head grade, and the tonnes of feed.
+    price_of_amount : callable
+        The shadow price of the amount of a limit, by its name.
+    """
+    limit, price = np.full(len(feed), np.nan), np.zeros(len(feed))
     for it in limits:
-        limit[it.in_years(years)] = it.grade
-        price = price + shadow_prices(schedule, it.name)[:years] * feed * it.sign
-    nothing = np.full(years, np.nan)
-    return grade, *((nothing, limit) if first.sign > 0 else (limit, nothing)), price
+        limit[it.in_years(len(feed))] = it.grade
+        price = price + price_of_amount(it.name) * feed * it.sign
+    nothing, shown = np.full(len(feed), np.nan), limits[0].shown
+    sides = (nothing, limit) if limits[0].sign > 0 else (limit, nothing)
+    return LimitUse(shown, grade, *sides, price, is_grade=True)
 
 
 def amounts_of(schedule: PushbackSchedule, flows: Flows, name: str) -> tuple[Floats, Floats, Floats]:
@@ -461,10 +493,10 @@ def of_stockpile(schedule: PushbackSchedule, flows: Flows, name: str) -> tuple[F
     return lies, least[: flows.years] if has_least else nothing, np.where(np.isfinite(most), most, nothing)
 
 
-def grades_of(schedule: PushbackSchedule) -> dict[str, list[GradeLimit]]:
+def grades_of(project: Project) -> dict[str, list[GradeLimit]]:
     """Returns the limits on head grades by the name that is shown."""
     found: dict[str, list[GradeLimit]] = {}
-    for limit in grade_limits(schedule.pushbacks.plan.project):
+    for limit in grade_limits(project):
         found.setdefault(limit.shown, []).append(limit)
     return found
 
