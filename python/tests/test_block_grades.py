@@ -18,7 +18,7 @@ from helpers.random_tests import seeds
 from pitplan import PlanError
 from pitplan.config.schedule import Effort
 from pitplan.core.progress import silent
-from pitplan.scheduling.blocks import solve
+from pitplan.scheduling.blocks import relaxation, solve
 from pitplan.scheduling.blocks.filling import paying, ranks_of, schedule_of
 from pitplan.scheduling.blocks.problem import Assignment, BlockLimit, demand_sound as demand_problem
 from pitplan.scheduling.blocks.relaxation import (
@@ -144,8 +144,14 @@ def test_what_is_left_out_takes_no_clean_ore_that_a_grade_requires():
     assert paying(loose, schedule).year.tolist() == [0, 1]
 
 
+@pytest.fixture
+def without_all_at_once(monkeypatch):
+    """Small problems begin with the blocks that pay, as large ones do."""
+    monkeypatch.setattr(relaxation, "MOST_UNKNOWNS", 0)
+
+
 @pytest.mark.parametrize("batch", seeds(1, 20))
-def test_blocks_that_a_grade_requires_are_added(batch):
+def test_blocks_that_a_grade_requires_are_added(batch, without_all_at_once):
     """Few blocks pay, and the bound is that of all of them."""
     added = 0
     for seed in range(8400 + 15 * batch, 8415 + 15 * batch):
@@ -165,7 +171,7 @@ def test_blocks_that_a_grade_requires_are_added(batch):
     assert added > 1
 
 
-def test_an_interrupted_relaxation_has_a_bound_for_all_blocks():
+def test_an_interrupted_relaxation_has_a_bound_for_all_blocks(without_all_at_once):
     """Interrupted in the first round, before the clean block is added."""
     problem = blend(150)
 
