@@ -569,12 +569,11 @@ def demand_once(cells: np.ndarray, frame: pd.DataFrame, columns: TableColumns, s
     if np.count_nonzero(filled) < len(cells):
         row = int(pd.Series(cells).duplicated().to_numpy().argmax())
         first = int((cells == cells[row]).argmax())
-        raise at_row(
-            source,
-            row,
+        place, why = (
             f"{columns.x}, {columns.y}, {columns.z}",
             f"the block of row {row_of(source, first)} lies there too",
         )
+        raise at_row(source, row, place, why)
 
 
 def demand_neighbours(grid: Grid, columns: TableColumns, source: str) -> None:

@@ -4,7 +4,7 @@ from __future__ import annotations
 
 from collections.abc import Callable, Iterator, Sequence
 from itertools import chain
-from typing import Any, Optional
+from typing import Any, Optional, Union
 
 import numpy as np
 import pandas as pd
@@ -65,6 +65,13 @@ def at_row(source: str, row: int, column: str, why: str) -> PlanError:
     return PlanError(f"{source} row {place.row} column {column}: {why}", place=place)
 
 
+def demand_none(wrong: np.ndarray, source: str, column: str, why: Union[str, Callable[[int], str]]) -> None:
+    """Raises PlanError for the first row that is wrong, with a sentence on it, which may be made of its index from 0."""
+    if wrong.any():
+        row = int(wrong.argmax())
+        raise at_row(source, row, column, why if isinstance(why, str) else why(row))
+
+
 def is_numeric(column: pd.Series) -> bool:
     """Whether pandas holds each field as a number or as missing. Truths are no numbers."""
     dtype = column.dtype
@@ -91,9 +98,7 @@ def numbers_of(column: pd.Series, source: str, name: str) -> np.ndarray:
         numbers = column.to_numpy(dtype=np.float64)
     else:
         numbers = column.to_numpy(dtype=np.float64, na_value=np.nan)
-    infinite = np.isinf(numbers)
-    if infinite.any():
-        raise at_row(source, int(infinite.argmax()), name, "is infinite")
+    demand_none(np.isinf(numbers), source, name, "is infinite")
     return numbers
 
 
