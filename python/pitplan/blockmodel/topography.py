@@ -16,7 +16,7 @@ from pitplan.core.libraries import load
 from pitplan.core.tolerances import SUM_ERROR
 from pitplan.errors import PlanError
 from pitplan.survey import readers
-from pitplan.survey.gdal import MapBox
+from pitplan.survey.layers import MapBox
 from pitplan.survey.readers import Topography
 
 from .cell_volumes import TONNES_PLACES
