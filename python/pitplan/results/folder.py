@@ -103,18 +103,14 @@ PLAN = {
     "metals": [{"name": TEXT, "column": TEXT, "sign": TEXT}],
     "project": Lacking(PATH),
     "verified": Lacking([TEXT]),
-    "inputs": Lacking({"*": SHA256}),
-    "files": Lacking({"*": SHA256}),
+    "inputs": {"*": SHA256},
+    "files": {"*": SHA256},
     "shells": Lacking(SHELLS),
     "pushbacks": Lacking(whole(1, 100_000)),
     "schedule": Lacking(TEXT),
     "by_block": Lacking(TRUTH),
     "figures": Lacking(TRUTH),
 }
-
-# The verification requires the grid, and checks the other parts where they are present.
-LAID = {key: kind if key == "grid" or isinstance(kind, Lacking) else Lacking(kind) for key, kind in PLAN.items()}
-LAID["shells"] = Lacking({key: kind if key == "revenue_factors" else Lacking(kind) for key, kind in SHELLS.items()})
 
 
 class Reader:
@@ -168,17 +164,6 @@ class Reader:
             self.demand(item, kinds[number] if count is not None else kinds[0], f"{where}[{number}]")
 
 
-def read_plan(path: Path, is_whole: bool = True) -> dict[str, Any]:
-    """What plan.json says; while a run is verified it has no hashes yet. Raises PlanError as `Reader.read` does."""
-    reader = Reader(path, "pitplan shells")
-    record = reader.read(PLAN if is_whole else LAID)
-    demand_plan(reader, record)
-    for key in ("inputs", "files", *(("project", "verified") if "shells" in record else ())):
-        if is_whole and key not in record:
-            raise reader.wrong(key, "is missing")
-    return record
-
-
 def demand_plan(reader: Reader, record: dict[str, Any]) -> None:
     """Raises PlanError where parts of the right kinds do not fit each other."""
     levels, rows, columns = record["grid"]["shape"]
@@ -187,13 +172,19 @@ def demand_plan(reader: Reader, record: dict[str, Any]) -> None:
     shells = record.get("shells", {})
     if "selected" in shells and shells["selected"] not in shells["revenue_factors"]:
         raise reader.wrong("shells.selected", f"found {shells['selected']}, expected one of the revenue factors")
-    for name in record.get("files", ()):
+    for name in record["files"]:
         reader.demand(name, FILE, "files")
+    for key in ("project", "verified") if "shells" in record else ():
+        if key not in record:
+            raise reader.wrong(key, "is missing")
 
 
 def read_record(folder: Path) -> dict[str, Any]:
     """What plan.json says. Raises PlanError where a part of it is missing or of another kind, and OSError where it cannot be opened."""
-    return read_plan(folder / RECORD)
+    reader = Reader(folder / RECORD, "pitplan shells")
+    record = reader.read(PLAN)
+    demand_plan(reader, record)
+    return record
 
 
 @dataclass(frozen=True)
