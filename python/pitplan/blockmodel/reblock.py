@@ -151,7 +151,7 @@ def lattice_of(edge: Sequence[float], size: Sequence[float], places: Sequence[np
 
 
 def demand_apart(table: Table, project: Project) -> None:
-    """Rejects two rows with one centroid."""
+    """Raises PlanError for two rows with one centroid."""
     columns = [project.table.x, project.table.y, project.table.z]
     twice = table.frame.duplicated(columns).to_numpy()
     demand_none(twice, table.source, ", ".join(columns), "another row has the same centroid")

@@ -86,7 +86,7 @@ def untyped_columns(project: Project) -> list[str]:
 
 
 def demand_codes_apart(project: Project) -> None:
-    """Rejects a column that is both a code and a number."""
+    """Raises PlanError for a column that is both a code and a number."""
     codes = codes_by_key(project)
     for key, name in codes.items():
         if name and named(project).count(name) > list(codes.values()).count(name):

@@ -355,7 +355,7 @@ def others(section: str, given: list[str]) -> str:
 
 
 def file_name(file: Path, out: Path) -> str:
-    """How a project names its table. Raises PlanError where it cannot."""
+    """Returns how a project names its table. Raises PlanError if that is impossible."""
     name = os.path.relpath(file, out.parent)
     try:
         name.encode()
@@ -477,7 +477,7 @@ def as_toml(code: str) -> str:
 
 
 def price_of(metal: MetalGuess) -> float:
-    """For a gram where the grade is in grams a tonne, else for a tonne."""
+    """Returns the price of a gram if the grade is in grams per tonne, otherwise that of a tonne."""
     for_a_gram = USUAL_PRICES[metal.metal] * (1 if metal.metal in PRECIOUS else 1e-6)
     return for_a_gram if metal.unit == "gram_per_tonne" else for_a_gram * 1e6
 
@@ -493,7 +493,7 @@ def priced(metal: MetalGuess) -> dict[str, str]:
 
 
 def domain_codes_of(model: GuessedModel) -> list[Optional[str]]:
-    """The regions of the table; one entry without a name where it has none, or more than anybody would give walls of their own."""
+    """Returns the slope domains of the table. A table without any, or with more than MOST_DOMAINS, has one entry without a name."""
     if "domain" not in model.columns.named:
         return [None]
     found = sorted(set(model.frame[model.columns.named["domain"].column].dropna().astype(str).str.strip()) - {""})
@@ -501,7 +501,7 @@ def domain_codes_of(model: GuessedModel) -> list[Optional[str]]:
 
 
 def processing_capacity(model: GuessedModel) -> int:
-    """What a mill takes, to two digits: the ore by the life that Taylor found, 0.2 times its fourth root in years (1977)."""
+    """Returns a yearly mill feed, to two digits, by Taylor's rule (1977): the life in years is 0.2 times the fourth root of the tonnes of ore."""
     revenue = np.zeros(len(model.frame))
     for metal in model.columns.metals:
         grade = np.nan_to_num(model.values(metal.column))

@@ -120,7 +120,7 @@ class Reader:
         self.path, self.again = path, again
 
     def read(self, kind: Any) -> dict[str, Any]:
-        """The record. Raises PlanError, with the part, where it is not of this kind, and OSError where it cannot be opened."""
+        """Reads a record. Raises PlanError, with the part, if it is not of this kind, and OSError if it cannot be opened."""
         try:
             record = json.loads(self.path.read_text(encoding="utf-8"))
         except (ValueError, RecursionError) as error:
@@ -132,7 +132,7 @@ class Reader:
         return PlanError(f"{self.path}: {f'{where}: ' if where else ''}{why}: run {self.again} again")
 
     def demand(self, value: Any, kind: Any, where: str) -> None:
-        """Raises PlanError where a part is of another kind."""
+        """Raises PlanError if a part is of another kind."""
         if isinstance(kind, Expectation):
             if not kind.holds(value):
                 raise self.wrong(where, f"found {cut(json.dumps(value, ensure_ascii=False))}, expected {kind.expected}")
@@ -165,7 +165,7 @@ class Reader:
 
 
 def demand_plan(reader: Reader, record: dict[str, Any]) -> None:
-    """Raises PlanError where parts of the right kinds do not fit each other."""
+    """Raises PlanError if parts of the right kinds do not fit each other."""
     levels, rows, columns = record["grid"]["shape"]
     if levels * rows * columns > MOST_CELLS:
         raise reader.wrong("grid.shape", f"found {levels} x {rows} x {columns} cells, expected {MOST_CELLS:,} at most")
@@ -180,7 +180,7 @@ def demand_plan(reader: Reader, record: dict[str, Any]) -> None:
 
 
 def read_record(folder: Path) -> dict[str, Any]:
-    """What plan.json says. Raises PlanError where a part of it is missing or of another kind, and OSError where it cannot be opened."""
+    """Reads plan.json. Raises PlanError if a part of it is missing or of another kind, and OSError if it cannot be opened."""
     reader = Reader(folder / RECORD, "pitplan shells")
     record = reader.read(PLAN)
     demand_plan(reader, record)
@@ -208,14 +208,14 @@ class Folder:
         return list(self.record["shells"]["revenue_factors"])
 
     def mined(self, factor: float) -> NDArray[Any]:
-        """Whether the pit of a factor mines rock of a cell; a truth for each level (from the top), row and column."""
+        """Returns whether the pit of a factor mines rock of a cell; shape (levels from the top, rows, columns)."""
         first, grid = self.blocks["revenue_factor"], self.grid
         mined = (first > 0) & (first <= factor) & (self.blocks[self.record["tonnes"]] > 0)
         return grid.cube(grid.spread(mined.to_numpy(), fill=False))
 
 
 def read_folder(path: Path) -> Folder:
-    """Raises PlanError where `pitplan shells` has not written the folder, or a file has changed since."""
+    """Raises PlanError if `pitplan shells` has not written the folder, or a file has changed since."""
     try:
         record = read_record(path)
         for name, digest in record["files"].items():
@@ -234,7 +234,7 @@ def read_folder(path: Path) -> Folder:
 
 
 def demand_blocks(blocks: pd.DataFrame, record: dict[str, Any], path: Path) -> None:
-    """Raises PlanError where blocks.csv and plan.json do not fit each other."""
+    """Raises PlanError if blocks.csv and plan.json do not fit each other."""
     wrong = f"{path / RECORD}: does not fit {TABLE}"
     numbers = ["id", "revenue_factor", record["tonnes"], *(metal["column"] for metal in record["metals"])]
     for name in [*numbers, *record["codes"]]:

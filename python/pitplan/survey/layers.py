@@ -41,7 +41,7 @@ class Layer:
         return " and ".join(f"{count:,} {kind}" for kind, count in sorted(self.kinds.items())) or "nothing"
 
     def add_line(self, kind: str, line: np.ndarray, is_closed: bool, has_heights: bool) -> None:
-        """Corners x, y, z of a line, which is a polygon too where it is closed."""
+        """Adds the corners x, y, z of a line, and its polygon if the line is closed."""
         is_closed = len(line) > 2 and (is_closed or np.hypot(*(line[0] - line[-1])[:2]) <= OPEN_LINE)
         self.kinds[f"{kind} ({'closed' if is_closed else 'open'})"] += 1
         if has_heights:
@@ -50,7 +50,7 @@ class Layer:
             self.polygons.append([line[:, :2]])
 
     def places(self) -> np.ndarray:
-        """x and y of all corners."""
+        """Returns x and y of all corners."""
         rings = [ring for polygon in self.polygons for ring in polygon]
         return np.concatenate(
             [np.zeros((0, 2)), *rings, *(part.reshape(-1, 3)[:, :2] for part in (*self.points, *self.faces))]
@@ -58,7 +58,7 @@ class Layer:
 
 
 def named(layers: dict[str, Layer], file: SurveyFile) -> dict[str, Layer]:
-    """Those that the project names; all where it names none. Raises PlanError where it names one that there is not."""
+    """Returns the layers that the project names, or all layers if it names none. Raises PlanError if a named layer does not exist."""
     for wanted in file.layers:
         if not any(is_called(name, wanted) for name in layers):
             raise PlanError(f"{file.path}: has no layer {wanted}; the layers are {listed(list(layers))}")
@@ -74,9 +74,9 @@ def is_called(name: str, wanted: str) -> bool:
 
 
 def chosen(layers: dict[str, Layer], file: SurveyFile, part: str, called: str) -> dict[str, Layer]:
-    """Of the named layers those that have faces, points or polygons, which `called` has in words.
+    """Returns the named layers that have a part: faces, points or polygons; `called` is the part in words.
 
-    Raises PlanError where none has, and where several have and the project names none.
+    Raises PlanError if none has it, or if several have it and the project names none.
     """
     some = named(layers, file)
     found = {name: layer for name, layer in some.items() if getattr(layer, part)}
@@ -107,8 +107,8 @@ EXPLODED = "INSERT (explode it)"
 
 @lru_cache(maxsize=2)
 def drawing_layers(path: Path, state: tuple[tuple[int, int], ...]) -> tuple[dict[str, Layer], list[str]]:
-    """The layers of the model space of a drawing, and notes on it. A file that stays in this state is read once, since 10,000 faces take a
-    second.
+    """Returns the layers of a drawing's model space, and notes on it. Reading 10,000 faces takes a second, so a file is read again only if its state
+    changes.
 
     Raises MissingPackage without ezdxf, and PlanError if the file is no drawing, or is in feet.
     """
@@ -124,8 +124,8 @@ def drawing_layers(path: Path, state: tuple[tuple[int, int], ...]) -> tuple[dict
 
 
 def notes_of_units(drawing: Any, path: Path) -> list[str]:
-    """A warning where the header names other units than metres: programs write one of their own there, for numbers in any unit. Raises
-    PlanError where it names feet, which none does by itself."""
+    """Returns a warning if the header names other units than metres, since programs write their own unit there. Raises PlanError if the header names
+    feet, which no program writes by default."""
     unit = int(drawing.header.get("$INSUNITS", 0))
     if unit in FEET:
         raise PlanError(f"{path}: is in {FEET[unit]} ($INSUNITS is {unit}), and lengths are in metres: convert it")
@@ -158,18 +158,18 @@ def triangles_of(mesh: Any) -> list[np.ndarray]:
 
 
 def fan(corners: Iterable[Any]) -> np.ndarray:
-    """A face of any number of corners as triangles round its first, shape (some, 3, 3)."""
+    """Returns a face with any number of corners as triangles around its first corner, shape (triangles, 3, 3)."""
     places = as_array(corners)
     return np.stack([np.broadcast_to(places[0], places[2:].shape), places[1:-1], places[2:]], axis=1)
 
 
 def has_heights(line: Any) -> bool:
-    """Whether a polyline lies in space, or at an elevation that is given."""
+    """Returns whether a polyline is 3D, or has an elevation."""
     return bool(line.dxftype() == "POLYLINE" and line.is_3d_polyline) or bool(line.dxf.hasattr("elevation"))
 
 
 def line_of(line: Any) -> np.ndarray:
-    """Its corners, with those of chords in the place of arcs."""
+    """Returns the corners of a polyline, with chords in place of arcs."""
     if line.dxftype() == "POLYLINE" and line.is_3d_polyline:
         return as_array(line.points())
     return as_array(load("ezdxf.path", EZDXF, "a .dxf file").make_path(line).flattening(OFF_ARC))
@@ -184,7 +184,8 @@ HEAD = 2
 
 
 def string_layers(path: Path) -> dict[str, Layer]:
-    """The strings of Surpac (.str) by their numbers, each a layer whose lines are its segments. Raises PlanError, with the row, where one has no number, north, east and height."""
+    """Returns the strings of a Surpac file (.str) by number, each as a layer with a line for each segment. Raises PlanError, with the row, if a point
+    lacks its number, north, east or height."""
     found: dict[str, Layer] = defaultdict(Layer)
     segment: list[tuple[float, float, float]] = []
     number = "0"
@@ -218,7 +219,7 @@ DEGREES = (360.0, 90.0)
 
 
 def opened(path: Path, kind: str, drivers: dict[str, str]) -> Any:
-    """The file, of a kind that GDAL calls OF_VECTOR or OF_RASTER. Raises MissingPackage without GDAL, PlanError where it cannot be read."""
+    """Opens a file by GDAL; `kind` is OF_VECTOR or OF_RASTER. Raises MissingPackage without GDAL, and PlanError if the file cannot be read."""
     gdal = load("osgeo.gdal", GDAL, f"a {path.suffix} file")
     driver = drivers[path.suffix.lower()]
     # Else heights have 24 bits, which are 0.2 mm of 2000 m.
@@ -231,7 +232,7 @@ def opened(path: Path, kind: str, drivers: dict[str, str]) -> Any:
 
 
 def demand_metres(system: Any, path: Path, places: np.ndarray) -> None:
-    """Refuses a system of coordinates in degrees or feet, by what the file says of it.
+    """Raises PlanError if a coordinate system is in degrees or feet.
 
     What is said to be in degrees and goes beyond them is not: GeoJSON that names no system counts as WGS 84, and a GeoPackage has one that
     is undefined.
@@ -249,7 +250,7 @@ def demand_metres(system: Any, path: Path, places: np.ndarray) -> None:
 
 
 def map_layers(file: SurveyFile) -> dict[str, Layer]:
-    """The layers of a map. Raises PlanError as `opened` and `demand_metres` do, and where a field of heights is missing or empty."""
+    """Returns the layers of a map. Raises PlanError as `opened` and `demand_metres` do, and if a field of heights is missing or empty."""
     source = opened(file.path, "OF_VECTOR", MAPS)
     found = {}
     for layer in [source.GetLayer(number) for number in range(source.GetLayerCount())]:
@@ -279,7 +280,7 @@ def read_layer(layer: Any, file: SurveyFile) -> Layer:
 
 
 def add_geometry(layer: Layer, geometry: Any, height: Optional[float]) -> None:
-    """Puts a geometry, or each of those that it is made of, into the layer, with its own heights or the given one."""
+    """Adds a geometry, or each of its parts, to a layer, with its own heights or the given one."""
     ogr = load("osgeo.ogr", GDAL, "a map")
     kind, name = ogr.GT_Flatten(geometry.GetGeometryType()), geometry.GetGeometryName()
     has_heights = height is not None or bool(geometry.Is3D())
@@ -303,18 +304,18 @@ def add_geometry(layer: Layer, geometry: Any, height: Optional[float]) -> None:
 
 
 def places_of(geometry: Any, height: Optional[float]) -> np.ndarray:
-    """x, y, z of a geometry's points; without heights z is 0."""
+    """Returns x, y and z of a geometry's points; z is 0 without heights."""
     places = np.array(geometry.GetPoints(), dtype=float)
     z = np.full(len(places), 0.0 if height is None else height)
     return places[:, :3] if places.shape[1] > 2 and height is None else np.column_stack([places[:, :2], z])
 
 
 def raster(path: Path, around: MapBox) -> tuple[np.ndarray, np.ndarray]:
-    """The middles x, y, z of a raster's cells with a height, shape (some, 3), and the triangles between them, three numbers of middles
-    each: a square of four is cut from its first corner, the north-west, to the opposite. Both are of the part round a box, of least and
-    greatest x and least and greatest y in metres.
+    """Returns the middles x, y, z of a raster's cells that have a height, shape (middles, 3), and the triangles between them, shape (triangles, 3),
+    as numbers of middles. Each square of four middles is cut from north-west to south-east. Both cover the part around a box of least and greatest x,
+    and least and greatest y, in metres.
 
-    Raises PlanError as `opened` and `demand_metres` do, and where the raster has several bands, does not say where it lies, or is in feet.
+    Raises PlanError as `opened` and `demand_metres` do, and if the raster has several bands, has no place, or is in feet.
     """
     source = opened(path, "OF_RASTER", RASTERS)
     place = source.GetGeoTransform(can_return_null=True)
@@ -339,12 +340,12 @@ def raster(path: Path, around: MapBox) -> tuple[np.ndarray, np.ndarray]:
 
 
 def at(place: tuple[float, ...], column: Any, row: Any) -> tuple[Any, Any]:
-    """x and y of a place in a raster, counted in cells from its corner at the north-west."""
+    """Returns x and y of a place in a raster, given in cells from its north-west corner."""
     return place[0] + column * place[1] + row * place[2], place[3] + column * place[4] + row * place[5]
 
 
 def window(place: tuple[float, ...], around: MapBox, size: tuple[int, int]) -> tuple[int, int, int, int]:
-    """The first column and row of a raster, and how many, that reach round a box, two cells beyond it."""
+    """Returns the first column and row, and the numbers of columns and rows, of the part of a raster that reaches two cells beyond a box."""
     turn = np.linalg.inv(np.array([[place[1], place[2]], [place[4], place[5]]]))
     corners = np.array([(x - place[0], y - place[3]) for x in around[:2] for y in around[2:]]) @ turn.T
     first = np.clip(np.floor(corners.min(axis=0)).astype(int) - 2, 0, size)
@@ -353,7 +354,7 @@ def window(place: tuple[float, ...], around: MapBox, size: tuple[int, int]) -> t
 
 
 def between(middles: np.ndarray, is_known: np.ndarray) -> tuple[np.ndarray, np.ndarray]:
-    """The known ones of rows and columns of middles, and two triangles for each four, where all three corners of one are known."""
+    """Returns the middles with a height, and the triangles whose three corners have one; each square of four middles has two triangles."""
     numbers = np.where(is_known, np.cumsum(is_known).reshape(is_known.shape) - 1, -1)
     a, b, c, d = numbers[:-1, :-1], numbers[:-1, 1:], numbers[1:, 1:], numbers[1:, :-1]
     faces = np.concatenate([np.stack(corners, axis=-1).reshape(-1, 3) for corners in ((a, b, c), (a, c, d))])

@@ -53,10 +53,10 @@ class Areas:
 
 
 def topography(file: SurveyFile, around: MapBox) -> Topography:
-    """The heights of a file; of a raster those round a box.
+    """Reads the heights of a file; of a raster the part around a box.
 
-    Raises PlanError, with the file and its layer, where it cannot be read or has no heights, and MissingPackage, with the Debian package,
-    where what reads it is not installed.
+    Raises PlanError, with the file and its layer, if it cannot be read or has no heights, and MissingPackage, with the Debian package, if its
+    reader is not installed.
     """
     ending = ending_of(file, (*MAPS, *RASTERS))
     if file.height is not None and ending not in MAPS:
@@ -83,7 +83,7 @@ def topography(file: SurveyFile, around: MapBox) -> Topography:
 
 
 def areas(file: SurveyFile) -> Areas:
-    """The polygons of a file. Raises PlanError and MissingPackage as `topography` does, and PlanError where it has no polygons."""
+    """Reads the polygons of a file. Raises PlanError and MissingPackage as `topography` does, and PlanError if the file has no polygons."""
     if ending_of(file, tuple(MAPS)) in TABLES:
         corners = numbers_in(file.path, ("x", "y"))
         if len(corners) < 3:
@@ -103,7 +103,7 @@ def areas(file: SurveyFile) -> Areas:
 
 
 def ending_of(file: SurveyFile, by_gdal: tuple[str, ...]) -> str:
-    """What a file's name ends with, in small letters. Raises PlanError where nothing reads such, or where it is no file."""
+    """Returns the ending of a file's name in lower case. Raises PlanError if no reader is for that ending, or if it is no file."""
     path, ending = file.path, file.path.suffix.lower()
     endings = (*TABLES, DRAWING, STRINGS, *by_gdal)
     if ending not in endings:
@@ -117,7 +117,7 @@ def ending_of(file: SurveyFile, by_gdal: tuple[str, ...]) -> str:
 
 
 def layers_of(file: SurveyFile) -> tuple[dict[str, Layer], list[str]]:
-    """The layers of a drawing, of strings or of a map, and notes."""
+    """Returns the layers of a drawing, of strings or of a map, and notes."""
     ending = file.path.suffix.lower()
     with reading(file.path):
         if ending == DRAWING:
@@ -127,7 +127,7 @@ def layers_of(file: SurveyFile) -> tuple[dict[str, Layer], list[str]]:
 
 @contextmanager
 def reading(path: Path) -> Iterator[None]:
-    """Raises PlanError in place of any error that a reader of others raises in the middle of a file that is cut short or bent."""
+    """Raises PlanError in place of any error that a library raises for a file that is cut short or damaged."""
     try:
         yield
     except (PlanError, MemoryError):
@@ -167,7 +167,7 @@ def in_layers(layers: dict[str, Layer]) -> str:
 
 
 def numbers_in(file: Path, names: tuple[str, ...]) -> np.ndarray:
-    """Columns of a CSV file as numbers. Raises PlanError, with file, row and column, where one is missing or is no number."""
+    """Returns columns of a CSV file as numbers. Raises PlanError, with file, row and column, if a column is missing or a field is no number."""
     frame = read_columns(
         file,
         TableFormat(guessed_separator(file, "utf-8-sig"), ".", "utf-8-sig"),
