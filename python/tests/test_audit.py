@@ -15,7 +15,7 @@ import planaudit
 from pitplan import BlockModel, Plan, PlanError, load
 from pitplan.blockmodel import row_rules
 from pitplan.config import project_writer
-from pitplan.results.folder import read_plan
+from pitplan.results.folder import read_record
 from planaudit.schedules.closure import maximum_closure
 
 pytestmark = pytest.mark.usefixtures("without_figures")
@@ -68,7 +68,7 @@ def test_an_input_without_a_hash_in_the_report_is_found(plan_folder):
     """The report as it once was: hashes by base name, so that the table's gave way to that of tables/blocks.csv."""
     path = plan_folder(rows(6, 5, 3, **ORE))
     pitplan.write_shells(path)
-    page, record = path.parent / "plan" / "report.html", read_plan(path.parent / "plan" / "plan.json")
+    page, record = path.parent / "plan" / "report.html", read_record(path.parent / "plan")
     assert differences(path.parent / "plan") == {}
     page.write_text(page.read_text().replace(record["inputs"]["blocks.csv"], record["files"]["tables/blocks.csv"]))
     assert differences(path.parent / "plan") == {"inputs": ["report.html has no hash of blocks.csv"]}

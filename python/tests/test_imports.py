@@ -65,7 +65,7 @@ def test_a_missing_package_is_named_by_debians(monkeypatch, capsys):
 
 def test_a_package_that_cannot_be_imported_is_named(tmp_path):
     (tmp_path / "jinja2.py").write_text("from json import nowhere_at_all\n")
-    words = [sys.executable, str(ROOT / "tools" / "pitplan"), "init", "blocks.csv"]
+    words = [sys.executable, str(ROOT / "tools" / "pitplan"), "shells", "project.toml"]
     path = {"PYTHONPATH": str(tmp_path), "PATH": "/usr/bin:/bin"}
     ran = subprocess.run(words, cwd=tmp_path, capture_output=True, text=True, env=path)
     assert ran.returncode == 1 and ran.stdout == "" and len(ran.stderr.splitlines()) == 1

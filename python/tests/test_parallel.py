@@ -79,13 +79,14 @@ class Odd(Exception):
 @pytest.fixture
 def started(monkeypatch):
     """The numbers of the processes that are started."""
-    found, start = [], processes.Child.__init__
+    found, start = [], processes.started
 
-    def noted(self, number, task):
-        start(self, number, task)
-        found.append(self.process)
+    def noted(task):
+        pipe, process = start(task)
+        found.append(process.pid)
+        return pipe, process
 
-    monkeypatch.setattr(processes.Child, "__init__", noted)
+    monkeypatch.setattr(processes, "started", noted)
     return found
 
 

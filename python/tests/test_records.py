@@ -8,7 +8,7 @@ import pytest
 
 import pitplan
 from pitplan import PlanError
-from pitplan.results.folder import PLAN, Reader, demand_plan, read_folder, read_plan, read_record
+from pitplan.results.folder import PLAN, Reader, demand_plan, read_folder, read_record
 from planaudit import AuditError
 from planaudit.inputs.record import read_json
 
@@ -131,10 +131,10 @@ def test_what_is_found_and_what_is_expected(solved, place, value, said):
     record = read_record(folder)
     (folder / "plan.json").write_text(json.dumps(bent(record, place, value)))
     if place == ("title",):
-        read_plan(folder / "plan.json")
+        read_record(folder)
         return
     with pytest.raises(PlanError) as error:
-        read_plan(folder / "plan.json")
+        read_record(folder)
     assert str(error.value) == f"{folder / 'plan.json'}: {said}: run pitplan shells again"
 
 

@@ -6,8 +6,7 @@ from conftest import PROJECT, rows
 from helpers.processes import WITH
 
 import pitplan
-from pitplan.report import table_one
-from pitplan.report.assumptions import selected_shell, topics
+from pitplan.report.assumptions import selected_shell, table_one, topics
 from pitplan.report.statements import risks
 
 RECORD = {
@@ -132,7 +131,7 @@ def test_risks_of_classes(project):
 
 
 def test_table_one_has_all_criteria_and_leaves_the_rest_to_the_competent_person(project):
-    found = dict(table_one.rows(project(), RECORD))
+    found = dict(table_one(project(), RECORD))
     assert len(found) == 17 and all(lines[-1].endswith(": by the Competent Person") for lines in found.values())
     assert found["Site visits"] == ["site visits, or why there were none: by the Competent Person"]
     assert (

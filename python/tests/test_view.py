@@ -132,7 +132,7 @@ def test_a_schedule_has_a_slider_through_its_years_and_colours(solved, tmp_path,
 
 @needs_chromium
 def test_a_click_on_a_block_shows_its_row(page, browser):
-    """The first block of rock below the pixel is told by the test's own ray through the camera; its row is that of blocks.csv, with its worth."""
+    """The first block of rock below the pixel is told by the test's own ray through the camera; its row is that of blocks.csv, with its value."""
     path, blocks = page
     browser.open(path, "rf=1.5&cut=2")
     assert browser.ask("document.getElementById('picked').hidden")
@@ -301,7 +301,7 @@ def test_the_model_of_the_page_by_hand(solved):
     assert (model["grade_colours"][0], model["grade_colours"][-1]) == ([255, 255, 204], [128, 0, 38])
 
 
-def test_the_worth_of_a_block_is_that_of_its_best_process():
+def test_the_value_of_a_block_is_that_of_its_best_process():
     """Of 100 to a mill and 70 to a leach; of what pays nowhere the mining alone is lost."""
     blocks = pd.DataFrame(
         {
@@ -311,9 +311,9 @@ def test_the_worth_of_a_block_is_that_of_its_best_process():
         }
     )
     blocks = blocks.assign(revenue_leach=[100.0, 90.0, 5.0], processing_cost_leach=[30.0, 20.0, 20.0])
-    assert viewer3d.worths(blocks).tolist() == [90, 60, -10]
+    assert viewer3d.mined_values(blocks).tolist() == [90, 60, -10]
     one = pd.DataFrame({"mining_cost": [10.0], "revenue": [25.0], "processing_cost": [12.0], "process": ["mill"]})
-    assert viewer3d.worths(one).tolist() == [3]
+    assert viewer3d.mined_values(one).tolist() == [3]
 
 
 @pytest.mark.parametrize(("low", "high", "most"), [(2.0, 4.0, 4.0), (0.0, 0.0, 1.0)])

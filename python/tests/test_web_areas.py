@@ -12,7 +12,7 @@ import pitplan
 from pitplan.config.geometry import Area
 from pitplan.config.project import load
 from pitplan.config.table import SurveyFile
-from pitplan.web.area_pages import corners_of, with_area
+from pitplan.web.block_pages import corners_of, with_area
 from pitplan.web.grids import changed, grids_of
 from pitplan.web.run_form import WrongForm
 from pitplan.web.security import Access

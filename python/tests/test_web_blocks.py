@@ -14,7 +14,7 @@ from helpers.pushbacks import PUSHBACKS, pillars
 import pitplan
 from pitplan.cli.parser import FORMATS
 from pitplan.web import block_data, project_text
-from pitplan.web.changes import with_pushbacks, with_shell
+from pitplan.web.edit_pages import with_pushbacks, with_shell
 from pitplan.web.jobs import DONE, Jobs
 from pitplan.web.output_pages import export_words
 from pitplan.web.results_page import WORDS, grouped, read_table

@@ -13,8 +13,8 @@ from helpers.pushbacks import pillars
 
 from pitplan.config.project import load
 from pitplan.web import grids, project_text
-from pitplan.web.changes import with_named_process
 from pitplan.web.draft import Draft
+from pitplan.web.edit_pages import with_named_process
 from pitplan.web.grids import KINDS, GridRow, grids_of
 from pitplan.web.run_form import WrongForm
 from pitplan.web.security import Access

@@ -200,7 +200,7 @@ def test_nobody_without_the_cookie_sends(root):
 
 
 def test_a_file_that_is_too_large_is_refused_by_its_size_and_by_its_bytes(root, client, monkeypatch):
-    monkeypatch.setattr(import_pages, "MOST_BYTES", 1000)
+    monkeypatch.setattr(import_pages, "MOST_OF_FILE", 1000)
     given = {"folder": "hill", "file": "blocks.csv"}
     assert client.get("/import/check", params={**given, "size": "1000"}).status_code == 204
     assert client.get("/import/check", params={**given, "size": "1001"}).status_code == 422

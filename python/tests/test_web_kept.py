@@ -12,9 +12,8 @@ from helpers.documentation import ROOT
 
 from pitplan import PlanError
 from pitplan.web import project_text, results_page, workspace
-from pitplan.web.kept import FileCache
 from pitplan.web.security import Access
-from pitplan.web.workspace import Workspace
+from pitplan.web.workspace import FileCache, Workspace
 
 NAME = "hill/project.toml"
 

@@ -14,7 +14,7 @@ import pandas as pd
 from pitplan.config.project import Project
 from pitplan.config.table import BlockSize, Reblock, Share
 from pitplan.core.decimals import Exact
-from pitplan.core.numeric_fields import at_row
+from pitplan.core.numeric_fields import demand_none
 from pitplan.errors import WARNING
 
 from .grid import Frame, azimuth_of
@@ -55,12 +55,8 @@ class CellVolumes:
 def demand_cells(frame: pd.DataFrame, project: Project, source: str) -> None:
     """Raises PlanError for a cell without a size and for a share outside of the block."""
     for name in project.table.rules.cell_size or ():
-        wrong = ~(frame[name].to_numpy() > 0)
-        if wrong.any():
-            row = int(wrong.argmax())
-            raise at_row(
-                source, row, name, f"{frame[name].iloc[row]:g} is not the size of a cell: expected metres above 0"
-            )
+        values, why = frame[name].to_numpy(), "is not the size of a cell: expected metres above 0"
+        demand_none(~(values > 0), source, name, lambda row: f"{values[row]:g} {why}")
     for key in ("rock_percent", "ore_percent"):
         share = getattr(project.table.rules, key)
         if share is not None:
@@ -69,12 +65,8 @@ def demand_cells(frame: pd.DataFrame, project: Project, source: str) -> None:
 
 def demand_share(values: np.ndarray, share: Share, source: str, key: str) -> None:
     wrong = (values < 0) | (values > share.whole)
-    if wrong.any():
-        row = int(wrong.argmax())
-        why = f"{values[row]:g} is not from 0 to {share.whole}, as [table] {key} in {share.unit} is"
-        raise at_row(
-            source, row, share.column, f"{why} ({np.count_nonzero(wrong):,} rows): a null code, or another unit?"
-        )
+    why = f"is not from 0 to {share.whole}, as [table] {key} in {share.unit} is ({np.count_nonzero(wrong):,} rows)"
+    demand_none(wrong, source, share.column, lambda row: f"{values[row]:g} {why}: a null code, or another unit?")
 
 
 def of_share(frame: pd.DataFrame, share: Share) -> Exact:
@@ -138,10 +130,8 @@ def demand_one_size(sides: np.ndarray, project: Project, source: str) -> None:
     """Raises PlanError if a cell is smaller than others."""
     for number, name in enumerate(project.table.rules.cell_size or ()):
         greatest, one = sides[:, number].max(), sides[:, number]
-        if one.min() < greatest:
-            row = int((one < greatest).argmax())
-            why = f"{one[row]:.10g} m is less than the {greatest:.10g} m of other cells: parts of blocks require"
-            raise at_row(source, row, name, f'{why} [table] reblock = "parents"')
+        why = f'the {greatest:.10g} m of other cells: parts of blocks require [table] reblock = "parents"'
+        demand_none(one < greatest, source, name, lambda row: f"{one[row]:.10g} m is less than {why}")
 
 
 def volume_notes(cells: np.ndarray, block: np.ndarray, volume: float) -> list[str]:

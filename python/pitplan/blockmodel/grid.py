@@ -109,7 +109,8 @@ class Axes:
     off: complex = 0j
 
     def counted(self, centres: np.ndarray) -> tuple[np.ndarray, np.ndarray]:
-        """Columns and rows of centres from the start, whole except for what they are off the grid; each a row of two."""
+        """Returns columns and rows of centres from the start as whole numbers, and their distances from these in blocks; two arrays of shape (2,
+        centres)."""
         steps = (centres - self.start - self.off) * np.exp(-1j * self.angle)
         steps = np.stack([steps.real / self.size[0], steps.imag / self.size[1]])
         whole = np.rint(steps)
@@ -117,8 +118,8 @@ class Axes:
 
 
 def azimuth_of(centres: np.ndarray, tolerance: float) -> Optional[float]:
-    """Degrees clockwise, from -45 to 45, by which a grid is turned, of its centres x and y, an array (rows, 2) in metres; None where no
-    grid is seen, and where the rows go east to within a tolerance in metres."""
+    """Returns the azimuth of a grid's north in degrees clockwise, from -45 to 45, by the centres x and y in metres, shape (rows, 2); None if no grid
+    is found, or if its rows run east within the tolerance in metres."""
     places = distinct(centres)
     angle = first_angle(places)
     if angle is None:
@@ -133,9 +134,9 @@ def azimuth_of(centres: np.ndarray, tolerance: float) -> Optional[float]:
 
 
 def of_centres(centres: np.ndarray, azimuth: float, rules: GridRules, source: str, *, columns: str) -> Places:
-    """The places of centres x and y, an array (rows, 2) in metres, on a grid of an azimuth. Errors name the source and its columns.
+    """Returns the places of centres x and y in metres, shape (rows, 2), on a grid with an azimuth. Errors name the source and its columns.
 
-    Raises PlanError where the azimuth is not that of the centres, a size is wanting, or, with its row, where one lies off the grid.
+    Raises PlanError if the azimuth is not that of the centres, if a size is missing, or, with its row, if a centre lies off the grid.
     """
     places = distinct(centres)
     guess, angle = first_angle(places), -np.radians(azimuth)
@@ -159,7 +160,7 @@ def of_centres(centres: np.ndarray, azimuth: float, rules: GridRules, source: st
 
 
 def demand_azimuth(azimuth: float, axes: Axes, places: np.ndarray, rules: GridRules, *, source: str) -> None:
-    """Refuses an azimuth that would move a centre by more than the tolerance."""
+    """Raises PlanError if an azimuth would move a centre by more than the tolerance."""
     if abs(np.angle(np.exp(1j * (np.radians(azimuth) + axes.angle)))) * reach_of(places, axes) > max(
         rules.tolerance, 10.0**-PLACES
     ):
@@ -168,18 +169,18 @@ def demand_azimuth(azimuth: float, axes: Axes, places: np.ndarray, rules: GridRu
 
 
 def distinct(centres: np.ndarray) -> np.ndarray:
-    """Each x + y j once."""
+    """Returns the distinct centres as x + y j."""
     places = centres.round(4)
     return np.unique(places[:, 0] + 1j * places[:, 1])
 
 
 def middle_of(places: np.ndarray) -> complex:
-    """The centre next to the middle of all."""
+    """Returns the centre nearest to the mean of all."""
     return complex(places[np.abs(places - places.mean()).argmin()])
 
 
 def neighbours(places: np.ndarray, count: int) -> np.ndarray:
-    """From some centres the vectors to the nearest others, an array of centres and these."""
+    """Returns the vectors from some centres to their nearest neighbours, shape (centres, neighbours)."""
     tree = load("scipy.spatial", "python3-scipy", "a grid that is turned").cKDTree(
         np.stack([places.real, places.imag], axis=1)
     )
@@ -189,7 +190,8 @@ def neighbours(places: np.ndarray, count: int) -> np.ndarray:
 
 
 def first_angle(places: np.ndarray) -> Optional[float]:
-    """Radians anticlockwise from east, between -pi/4 and pi/4, of the rows or columns of blocks; None where neighbours lie in many ways."""
+    """Returns the angle of rows or columns of blocks in radians anticlockwise from east, between -pi/4 and pi/4; None if neighbours lie in many
+    directions."""
     if len(places) < 3:
         return None
     # Of directions that differ by a quarter of a turn the fourfold is the same.
@@ -198,7 +200,7 @@ def first_angle(places: np.ndarray) -> Optional[float]:
 
 
 def steps_along(places: np.ndarray, angle: float) -> tuple[Optional[float], Optional[float]]:
-    """Metres from centres to the next along both axes, where most that have neighbours agree; None where none exist."""
+    """Returns the median distance in metres from centres to their next neighbours along each axis; None along an axis without neighbours."""
     if len(places) < 2:
         return None, None
     steps = neighbours(places, NEIGHBOURS) * np.exp(-1j * angle)
@@ -211,7 +213,7 @@ def steps_along(places: np.ndarray, angle: float) -> tuple[Optional[float], Opti
 
 
 def fitted(places: np.ndarray, axes: Axes, tolerance: float) -> Axes:
-    """The axes fitted to the centres of wider and wider circles, and last to those that lie on the grid."""
+    """Returns the axes fitted to the centres in circles of growing radius, and at last to the centres that lie on the grid."""
     far = np.abs(places - axes.start)
     reach = 4 * max(axes.size)
     while True:
@@ -224,7 +226,7 @@ def fitted(places: np.ndarray, axes: Axes, tolerance: float) -> Axes:
 
 
 def regressed(places: np.ndarray, axes: Axes, near: float) -> Axes:
-    """Axes by least squares through the centres that lie within a share of a block of their places."""
+    """Returns the axes by least squares through the centres that lie within a share of a block of their places."""
     whole, off = axes.counted(places)
     some = (np.abs(off) <= near).all(axis=0)
     if not some.any():
@@ -245,12 +247,12 @@ def regressed(places: np.ndarray, axes: Axes, near: float) -> Axes:
 
 
 def reach_of(places: np.ndarray, axes: Axes) -> float:
-    """Metres from the start to the farthest centre."""
+    """Returns the distance in metres from the start to the farthest centre."""
     return float(np.abs(places - axes.start).max())
 
 
 def rounded(axes: Axes, places: np.ndarray, tolerance: float) -> float:
-    """Degrees clockwise of the grid's north, with as few digits as the centres allow."""
+    """Returns the azimuth of the grid's north in degrees clockwise, with as few digits as the centres allow."""
     degrees, allowed = -float(np.degrees(axes.angle)), Allowed.of(axes, places, tolerance)
     # Without the sign of a 0.
     rounded = (round(degrees, digits) + 0.0 for digits in range(MOST_DIGITS))
@@ -258,7 +260,7 @@ def rounded(axes: Axes, places: np.ndarray, tolerance: float) -> float:
 
 
 def sizes_told(axes: Axes, places: np.ndarray, tolerance: float) -> tuple[float, float]:
-    """Metres of a block, likewise."""
+    """Returns the size of a block in metres, with as few digits as the centres allow."""
     allowed = Allowed.of(axes, places, tolerance)
     for axis in (0, 1):
         for digits in range(MOST_DIGITS):
@@ -290,12 +292,12 @@ class Allowed:
 
 
 def off_grid(axes: Axes, places: np.ndarray) -> np.ndarray:
-    """Metres of each centre off its place, along the axis where it is more."""
+    """Returns the distance of each centre from its place in metres, along the axis with the greater one."""
     return (np.abs(axes.counted(places)[1]) * np.array(axes.size)[:, None]).max(axis=0)
 
 
 def centred(places: np.ndarray, axes: Axes) -> Axes:
-    """The same axes moved to where most centres lie."""
+    """Returns the axes moved by the median distance of the centres from their places."""
     _, off = axes.counted(places)
     east, north = np.median(off, axis=1) * axes.size
     return replace(axes, off=axes.off + complex(east, north) * np.exp(1j * axes.angle))
@@ -405,7 +407,7 @@ class Grid:
         return *self.frame.back(east, north), up
 
     def greatest_shift(self, table: pd.DataFrame, columns: TableColumns) -> float:
-        """The greatest distance in metres, along an axis, from the centroid of a row to that of its cell."""
+        """Returns the greatest distance in metres, along an axis, from the centroid of a row to that of its cell."""
         x, y, z = (table[name].to_numpy() for name in (columns.x, columns.y, columns.z))
         places = (*self.frame.along(x, y), z)
         off = [np.abs(place - middle).max() for place, middle in zip(places, self.middles(self.rows))]
@@ -569,16 +571,15 @@ def demand_once(cells: np.ndarray, frame: pd.DataFrame, columns: TableColumns, s
     if np.count_nonzero(filled) < len(cells):
         row = int(pd.Series(cells).duplicated().to_numpy().argmax())
         first = int((cells == cells[row]).argmax())
-        raise at_row(
-            source,
-            row,
+        place, why = (
             f"{columns.x}, {columns.y}, {columns.z}",
             f"the block of row {row_of(source, first)} lies there too",
         )
+        raise at_row(source, row, place, why)
 
 
 def demand_neighbours(grid: Grid, columns: TableColumns, source: str) -> None:
-    """Rejects a block size found from coordinates at which hardly any two blocks touch, a sign of sub-blocks."""
+    """Raises PlanError for a block size found from coordinates at which hardly any two blocks touch, a sign of sub-blocks."""
     filled = np.zeros(grid.count, dtype=bool)
     filled[grid.rows] = True
     cube = grid.cube(filled)

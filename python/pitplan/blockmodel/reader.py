@@ -16,7 +16,7 @@ import pandas as pd
 from pitplan.config.project import Project
 from pitplan.config.table import TableColumns
 from pitplan.core import numeric_fields, text_tables
-from pitplan.core.numeric_fields import TableSource, at_row, holds_texts, numbers_of, row_of
+from pitplan.core.numeric_fields import TableSource, demand_none, holds_texts, numbers_of, row_of
 from pitplan.core.text_tables import (
     MIXED,
     NAMES,
@@ -72,12 +72,8 @@ def complete(frame: pd.DataFrame, project: Project, source: str) -> None:
             continue
         factors, expected = frame[name].to_numpy(), f"expected the [economics] {key} of the block, a number from 0"
         negative, empty = factors < 0, np.isnan(factors)
-        if negative.any():
-            row = int(negative.argmax())
-            raise at_row(source, row, name, f"{factors[row]:g} is negative: {expected}")
-        if (empty & solid).any():
-            remedy = "write 1 if its cost is not adjusted"
-            raise at_row(source, int((empty & solid).argmax()), name, f"is empty: {expected}: {remedy}")
+        demand_none(negative, source, name, lambda row: f"{factors[row]:g} is negative: {expected}")
+        demand_none(empty & solid, source, name, f"is empty: {expected}: write 1 if its cost is not adjusted")
         frame[name] = np.where(empty, UNADJUSTED, factors)
 
 
@@ -312,8 +308,8 @@ def filled_numbers(column: pd.Series, source: str, name: str, may_fill: bool) ->
     """Returns the numbers of a column with 0 for empty fields, and their number. Raises PlanError if empty fields are not allowed."""
     numbers = numbers_of(column, source, name)
     empty = np.isnan(numbers)
-    if empty.any() and not may_fill:
-        raise at_row(source, int(empty.argmax()), name, "is empty")
+    if not may_fill:
+        demand_none(empty, source, name, "is empty")
     return np.where(empty, 0.0, numbers), int(empty.sum())
 
 

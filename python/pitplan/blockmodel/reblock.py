@@ -21,7 +21,7 @@ from pitplan.config.project import Project
 from pitplan.config.schedule import ScheduleRules
 from pitplan.config.table import BlockSize, GridRules, Reblock
 from pitplan.core.decimals import MOST_WHOLE, Exact, greatest, nearest, product
-from pitplan.core.numeric_fields import at_row
+from pitplan.core.numeric_fields import demand_none
 from pitplan.errors import PlanError
 
 from . import grid as grids
@@ -88,7 +88,7 @@ def of_table(table: Table, project: Project) -> Reblocked:
     if rules.of_parents and table.cells:
         rules = table.cells.parents
         project = replace(project, grid=replace(project.grid, azimuth=table.cells.azimuth))
-    lattice = of_counts(table, project, rules) if rules.counts else of_corner(table, project, rules)
+    lattice = of_counts(table, project, rules.counts) if rules.counts else of_corner(table, project, rules)
     places, parts = parts_of(table.frame[project.table.tonnes].to_numpy(), lattice)
     frame, mixed = put_together(table.frame, lattice.centres(places), places, parts, project=project)
     x, y, z = (metres(side) for side in lattice.size)
@@ -113,21 +113,19 @@ def of_cell_size(table: Table, project: Project) -> Project:
     return replace(project, grid=replace(project.grid, size=table.cells.size))
 
 
-def of_counts(table: Table, project: Project, rules: Reblock) -> Lattice:
+def of_counts(table: Table, project: Project, counts: tuple[int, int, int]) -> Lattice:
     """Combines a number of whole blocks in each direction, from the west, the south and the floor."""
-    assert rules.counts is not None
     grid = grids.of_table(table.frame, project, table.source, any_size=True)
     column, row, level = grid.indices(grid.rows)
-    places = [place // count for place, count in zip((column, row, grid.shape[0] - 1 - level), rules.counts)]
+    places = [place // count for place, count in zip((column, row, grid.shape[0] - 1 - level), counts)]
     west, _, south, _, floor, _ = grid.extent()
     return lattice_of(
-        (west, south, floor), [side * count for side, count in zip(grid.size, rules.counts)], places, grid.frame
+        (west, south, floor), [side * count for side, count in zip(grid.size, counts)], places, grid.frame
     )
 
 
 def of_corner(table: Table, project: Project, rules: Reblock) -> Lattice:
     """Combines the rows whose centroids lie in blocks of a size from a corner."""
-    assert rules.size is not None and rules.corner is not None
     columns, places = project.table, []
     demand_apart(table, project)
     x, y, z = (table.frame[name].to_numpy() for name in (columns.x, columns.y, columns.z))
@@ -137,10 +135,9 @@ def of_corner(table: Table, project: Project, rules: Reblock) -> Lattice:
     for k, (name, along) in enumerate(zip((columns.x, columns.y, columns.z), (*frame.along(x, y), z))):
         steps = (along - edge[k]) / rules.size[k]
         between = np.abs(steps - np.rint(steps)) * rules.size[k] <= project.grid.tolerance
-        if between.any():
-            size, corner = (metres(it[k]) for it in (rules.size, rules.corner))
-            why = f"lies on the boundary of two blocks of {size} m from {corner}: check the corner"
-            raise at_row(table.source, int(between.argmax()), name, why)
+        size, corner = (metres(it[k]) for it in (rules.size, rules.corner))
+        why = f"lies on the boundary of two blocks of {size} m from {corner}: check the corner"
+        demand_none(between, table.source, name, why)
         place = np.floor(steps).astype(np.int64)
         edge[k] += float(place.min()) * rules.size[k]
         places.append(place - place.min())
@@ -154,12 +151,10 @@ def lattice_of(edge: Sequence[float], size: Sequence[float], places: Sequence[np
 
 
 def demand_apart(table: Table, project: Project) -> None:
-    """Rejects two rows with one centroid."""
+    """Raises PlanError for two rows with one centroid."""
     columns = [project.table.x, project.table.y, project.table.z]
     twice = table.frame.duplicated(columns).to_numpy()
-    if twice.any():
-        row = int(twice.argmax())
-        raise at_row(table.source, row, ", ".join(columns), "another row has the same centroid")
+    demand_none(twice, table.source, ", ".join(columns), "another row has the same centroid")
 
 
 def parts_of(tonnes: np.ndarray, lattice: Lattice) -> tuple[np.ndarray, Parts]:

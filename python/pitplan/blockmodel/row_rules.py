@@ -193,10 +193,10 @@ def calculate(rows: RuledRows) -> None:
             values = values.astype(np.float64)
         if values.dtype.kind == "f":
             numbers_of(pd.Series(values), rows.source, name)
-        rows.frame[name] = stripped(as_codes(values)) if is_code else values
+        rows.frame[name] = stripped(texts_of(values)) if is_code else values
 
 
-def as_codes(values: np.ndarray) -> pd.Series:
+def texts_of(values: np.ndarray) -> pd.Series:
     """Returns values as texts; whole numbers without decimals."""
     if values.dtype.kind != "f":
         return pd.Series(values, dtype=object)

@@ -10,7 +10,7 @@ import pandas as pd
 from pitplan.config.economics import GRADE_SIGNS, GRADE_UNITS, Metal
 from pitplan.config.keys import FARTHEST
 from pitplan.config.project import Project
-from pitplan.core.numeric_fields import at_row, row_of
+from pitplan.core.numeric_fields import at_row, demand_none, row_of
 from pitplan.errors import PlanError
 
 
@@ -86,7 +86,7 @@ def untyped_columns(project: Project) -> list[str]:
 
 
 def demand_codes_apart(project: Project) -> None:
-    """Rejects a column that is both a code and a number."""
+    """Raises PlanError for a column that is both a code and a number."""
     codes = codes_by_key(project)
     for key, name in codes.items():
         if name and named(project).count(name) > list(codes.values()).count(name):
@@ -111,23 +111,15 @@ def demand_codes(frame: pd.DataFrame, project: Project, source: str) -> None:
     demand_ids(frame, columns.id, source)
     for name in (columns.rock_type, columns.domain):
         if name:
-            empty = ((frame[name] == "") & (frame[columns.tonnes] > 0)).to_numpy()
-            if empty.any():
-                raise at_row(source, int(empty.argmax()), name, "is empty")
+            demand_none(((frame[name] == "") & (frame[columns.tonnes] > 0)).to_numpy(), source, name, "is empty")
 
 
 def demand_near(frame: pd.DataFrame, project: Project, source: str) -> None:
     """Raises PlanError if a centroid lies farther away than any ground."""
     for name in centroids(project):
-        far = np.abs(frame[name].to_numpy()) > FARTHEST
-        if far.any():
-            row = int(far.argmax())
-            raise at_row(
-                source,
-                row,
-                name,
-                f"{frame[name].iloc[row]:g} is not a coordinate in metres: expected at most {FARTHEST:,}",
-            )
+        values = frame[name].to_numpy()
+        why = "is not a coordinate in metres: expected at most"
+        demand_none(np.abs(values) > FARTHEST, source, name, lambda row: f"{values[row]:g} {why} {FARTHEST:,}")
 
 
 def demand_amounts(frame: pd.DataFrame, project: Project, source: str) -> None:
@@ -181,11 +173,6 @@ def demand_ids(frame: pd.DataFrame, name: Optional[str], source: str) -> None:
         return
     twice = frame[name].duplicated().to_numpy()
     if twice.any():
-        row = int(twice.argmax())
-        first = int((frame[name] == frame[name].iloc[row]).to_numpy().argmax())
-        raise at_row(
-            source,
-            row,
-            name,
-            f"{frame[name].iloc[row]} is the id of row {row_of(source, first)} too: expected a different id in each row",
-        )
+        code = frame[name].iloc[int(twice.argmax())]
+        first = row_of(source, int((frame[name] == code).to_numpy().argmax()))
+        demand_none(twice, source, name, f"{code} is the id of row {first} too: expected a different id in each row")

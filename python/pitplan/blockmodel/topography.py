@@ -16,7 +16,7 @@ from pitplan.core.libraries import load
 from pitplan.core.tolerances import SUM_ERROR
 from pitplan.errors import PlanError
 from pitplan.survey import readers
-from pitplan.survey.gdal import MapBox
+from pitplan.survey.layers import MapBox
 from pitplan.survey.readers import Topography
 
 from .cell_volumes import TONNES_PLACES
@@ -34,7 +34,7 @@ PAIRS = 100_000
 
 
 def box_of(grid: Grid) -> MapBox:
-    """Least and greatest x, least and greatest y in metres of a grid's corners."""
+    """Returns the least and greatest x, and the least and greatest y, of a grid's corners, in metres."""
     _, rows, columns = grid.shape
     middles = grid.centres(np.array([0, columns - 1, (rows - 1) * columns, rows * columns - 1]))
     x, y, half = middles[0], middles[1], float(np.hypot(*grid.size[:2])) / 2
@@ -42,8 +42,8 @@ def box_of(grid: Grid) -> MapBox:
 
 
 def triangles_of(topography: Topography) -> np.ndarray:
-    """The corners x, y, z of the triangles of a topography, shape (triangles, 3, 3): its faces, or Delaunay's between its points. None
-    where these lie on a line."""
+    """Returns the corners x, y, z of the triangles of a topography, shape (triangles, 3, 3): its faces, or the Delaunay triangulation of its points.
+    Points on a line give no triangle."""
     points, faces = topography.points, topography.faces
     if not len(faces):
         # About the points' middle, since coordinates of seven digits leave little room for differences.
@@ -55,8 +55,8 @@ def triangles_of(topography: Topography) -> np.ndarray:
 
 
 def over_grid(triangles: np.ndarray, grid: Grid) -> np.ndarray:
-    """The triangles that come over a grid and have an area on the map, with corners in columns east and rows north from the middle of the
-    first column, and in levels from the floor; shape (some, 3, 3)."""
+    """Returns the triangles that overlap a grid and have an area on the map, shape (triangles, 3, 3). Corners are in columns east and rows north of
+    the middle of the first column, and in levels above the floor."""
     _, _, _, _, floor, _ = grid.extent()
     east, north = grid.steps(triangles[..., 0], triangles[..., 1])
     corners = np.stack([east, north, (triangles[..., 2] - floor) / grid.size[2]], axis=-1)
@@ -67,14 +67,14 @@ def over_grid(triangles: np.ndarray, grid: Grid) -> np.ndarray:
 
 
 def areas(corners: np.ndarray) -> np.ndarray:
-    """Areas on the map of triangles by their last two axes, above 0 where they go round anticlockwise."""
+    """Returns the areas of triangles on the map, by the last two axes; the area is above 0 if the corners run anticlockwise."""
     a, b, c = (corners[..., corner, :2] for corner in range(3))
     return ((b - a)[..., 0] * (c - a)[..., 1] - (b - a)[..., 1] * (c - a)[..., 0]) / 2
 
 
 def pairs(corners: np.ndarray, grid: Grid, reach: float) -> Iterator[tuple[np.ndarray, np.ndarray]]:
-    """Some at a time, triangles with their corners from the middle of a column that the box round them comes within a reach of, in blocks;
-    and the column's number."""
+    """Yields pairs of triangles and columns in batches. A triangle goes with each column whose middle lies within `reach` blocks of its bounding box;
+    its corners are relative to that middle. The second array has the numbers of the columns."""
     _, rows, columns = grid.shape
     low = np.clip(np.ceil(corners[..., :2].min(axis=1) - reach), 0, None).astype(np.int64)
     high = np.minimum(np.floor(corners[..., :2].max(axis=1) + reach).astype(np.int64), [columns - 1, rows - 1])
@@ -94,7 +94,7 @@ def pairs(corners: np.ndarray, grid: Grid, reach: float) -> Iterator[tuple[np.nd
 
 
 def heights(triangles: np.ndarray, grid: Grid) -> np.ndarray:
-    """The elevation in metres of the triangles at the middle of each column of blocks, of several the greatest; infinite beyond them."""
+    """Returns the greatest elevation in metres of the triangles at the middle of each column of blocks; infinite where there is no triangle."""
     corners = over_grid(triangles, grid)
     found = np.full(grid.per_level, -np.inf)
     for some, place in pairs(corners, grid, SUM_ERROR):
@@ -124,7 +124,7 @@ class Below:
 
 
 def below(triangles: np.ndarray, grid: Grid) -> Below:
-    """Shares of blocks below triangles; 1 in columns that none comes over."""
+    """Returns the shares of blocks below triangles; 1 in columns that no triangle overlaps."""
     sums = Sums(grid.shape[0], grid.per_level)
     for some, place in pairs(over_grid(triangles, grid), grid, 0.5):
         whole = over_column(some)
@@ -141,14 +141,14 @@ def below(triangles: np.ndarray, grid: Grid) -> Below:
 
 
 def over_column(triangles: np.ndarray) -> np.ndarray:
-    """What of triangles lies over the column from whose middle their corners are counted, as `cut` gives it; shape (triangles, 7, 3)."""
+    """Returns the part of each triangle over the column from whose middle its corners are measured, as polygons, shape (triangles, 7, 3)."""
     along_x = cut_polygons(cut_polygons(triangles, 0, 1), 0, -1)
     return cut_polygons(cut_polygons(along_x, 1, 1), 1, -1)
 
 
 def cut_polygons(polygons: np.ndarray, axis: int, side: int) -> np.ndarray:
-    """The parts of convex polygons that lie within half a block on one side of a middle along an axis, by Sutherland and Hodgman (1974):
-    shape (polygons, corners, 3), with a corner more. Where there are fewer corners the first one is repeated."""
+    """Returns the parts of convex polygons within half a block of a middle, on one side of it along an axis (Sutherland and Hodgman, 1974), shape
+    (polygons, corners + 1, 3). A polygon with fewer corners repeats its first one."""
     inner = 0.5 - side * polygons[..., axis]
     following, beyond = np.roll(polygons, -1, axis=1), np.roll(inner, -1, axis=1)
     crosses = (inner >= 0) != (beyond >= 0)
@@ -172,7 +172,7 @@ class Sums:
         self.more = np.zeros((levels + 1, columns))
 
     def add(self, heights: np.ndarray, area: np.ndarray, place: np.ndarray) -> None:
-        """Triangles by the heights of their corners, shape (some, 3), their areas and their columns."""
+        """Adds triangles by the heights of their corners, shape (triangles, 3), their areas and their columns."""
         low, middle, high = np.sort(heights, axis=1).T
         first = np.clip(np.floor(low) + 1, 0, self.levels + 1).astype(np.int64)
         last = np.clip(np.ceil(high), 0, self.levels + 1).astype(np.int64)
@@ -189,14 +189,15 @@ class Sums:
         return np.asarray(self.area.sum(axis=0))
 
     def above(self) -> np.ndarray:
-        """The volume between each boundary and the triangles above it, shape (levels + 1, columns)."""
+        """Returns the volume between each boundary and the triangles above it, shape (levels + 1, columns)."""
         area, volume = (np.cumsum(sums[::-1], axis=0)[::-1][1:] for sums in (self.area, self.volume))
         return np.asarray(volume - np.arange(self.levels + 1)[:, None] * area + self.more)
 
 
 def share_above(heights: np.ndarray, at: np.ndarray) -> np.ndarray:
-    """The mean, over triangles whose corners have heights that rise, shape (some, 3), of what lies above an elevation between the least and
-    the greatest of them: the volume of a pyramid at the highest corner, or all without one at the lowest."""
+    """Returns the mean height of triangles above an elevation between their lowest and highest corner. The heights of the corners, shape (triangles,
+    3), rise. The mean follows from the volume of the pyramid at the highest corner, or of the whole less that at the lowest.
+    """
     low, middle, high = heights.T
     is_upper = at >= middle
     edge = np.where(is_upper, high, low)
@@ -206,7 +207,7 @@ def share_above(heights: np.ndarray, at: np.ndarray) -> np.ndarray:
 
 
 def beside(places: np.ndarray, grid: Grid) -> str:
-    """How far places x, y reach, and the model's blocks: for a file that lies beside these."""
+    """Returns why a file is of no use if its places x, y lie beside the model: the extents of both."""
     x, y, _ = grid.centres(grid.rows)
     reach = [f"{metres(axis.min())} to {metres(axis.max())}" for axis in (*places.T[:2], x, y)]
     return (
@@ -230,10 +231,10 @@ SLIP = 0.01
 def cut_by_topography(
     frame: pd.DataFrame, grid: Grid, project: Project, file: SurveyFile
 ) -> tuple[pd.DataFrame, list[str]]:
-    """The rows of a grid with the tonnes, to a gram, that lie below a topography, and notes.
+    """Returns the rows of a grid with the tonnes, to a gram, that lie below a topography, and notes.
 
-    Raises PlanError where the file is not usable, lies over no block or below all, or has several heights at a place, and MissingPackage
-    where what reads it is not installed.
+    Raises PlanError if the file is not usable, lies over no block or below all, or has several heights at a place, and MissingPackage if its
+    reader is not installed.
     """
     read, found = surveyed(file, file.state, (grid.shape, grid.origin, grid.size, grid.azimuth))
     place = grid.rows % grid.per_level
@@ -257,8 +258,8 @@ def cut_by_topography(
 
 @lru_cache(maxsize=2)
 def surveyed(file: SurveyFile, state: tuple[tuple[int, int], ...], box: GridBox) -> tuple[Topography, Below]:
-    """A topography and what of the cells of a box lies below it; once for all plans of a run, since a sensitivity makes many. Raises as
-    `cut`."""
+    """Returns a topography, and the parts of the cells of a box below it. A run reads each file once, since a sensitivity makes many plans. Raises
+    PlanError and MissingPackage as `cut_by_topography` does."""
     shape, origin, size, azimuth = box
     grid = Grid(shape, origin, size, np.zeros(0, dtype=np.int64), azimuth)
     read = readers.topography(file, box_of(grid))
@@ -277,7 +278,7 @@ def demand_one_height(found: Below, grid: Grid, file: Path) -> None:
 
 
 def cut_note(before: np.ndarray, after: np.ndarray) -> str:
-    """How many blocks of rock are cut, how many are air, and the tonnes before and after."""
+    """Returns a note with the number of blocks of rock that are cut, the number that are air, and the tonnes before and after."""
     air, part = (after == 0) & (before > 0), (after > 0) & (after < before)
     return (
         f"{np.count_nonzero(part):,} blocks are cut by this topography and {np.count_nonzero(air):,} lie above it, as air; "
@@ -286,7 +287,7 @@ def cut_note(before: np.ndarray, after: np.ndarray) -> str:
 
 
 def doubts(found: Below, grid: Grid) -> list[str]:
-    """Columns of blocks that the topography covers in part or not at all, and those whose rock below it is not in the table."""
+    """Returns the doubts about columns of blocks that the topography covers in part or not at all, or whose rock below it is not in the table."""
     over, first = np.unique(grid.rows % grid.per_level, return_inverse=True)
     covered = found.covered[over]
     highest = np.full(len(over), grid.shape[0])
@@ -347,7 +348,7 @@ def depleted(frame: pd.DataFrame, grid: Grid, project: Project) -> tuple[pd.Data
 
 
 def sentence_of(file: Path, before: np.ndarray, after: np.ndarray, mined: np.ndarray) -> str:
-    """Numbers of blocks mined wholly and in part, and the tonnes before and after."""
+    """Returns a note with the numbers of blocks that are mined wholly and in part, and the tonnes before and after."""
     whole, part = (np.count_nonzero((mined >= MINED) & some) for some in (after == 0, after > 0))
     return (
         f"{file}: {whole:,} blocks are mined out and {part:,} are partly mined, by at least {100 * MINED:g} % each; "
@@ -356,12 +357,12 @@ def sentence_of(file: Path, before: np.ndarray, after: np.ndarray, mined: np.nda
 
 
 def is_mined(frame: pd.DataFrame) -> np.ndarray:
-    """Mask of the mined rows, from the column that `depleted` adds; all false without an as-mined surface."""
+    """Returns a mask of the mined rows, from the column that `depleted` adds; all false without an as-mined surface."""
     return frame[MINED_SHARE].to_numpy() >= MINED if MINED_SHARE in frame else np.zeros(len(frame), dtype=bool)
 
 
 def by_volumes(grid: Grid, original: SurveyFile, surface: SurveyFile) -> GroundShares:
-    """Shares by the volumes below both surfaces. Columns that a surface does not cover are whole below it."""
+    """Returns the shares by the volumes below both surfaces. A column that a surface does not cover lies wholly below it."""
     box = (grid.shape, grid.origin, grid.size, grid.azimuth)
     (_, ground), (read, mined) = (surveyed(file, file.state, box) for file in (original, surface))
     level, place = grid.shape[0] - 1 - grid.rows // grid.per_level, grid.rows % grid.per_level
@@ -373,7 +374,7 @@ def by_volumes(grid: Grid, original: SurveyFile, surface: SurveyFile) -> GroundS
 
 
 def by_centres(grid: Grid, file: SurveyFile) -> GroundShares:
-    """Shares by the centres of blocks: a block with its centre above the surface is mined as a whole."""
+    """Returns the shares by the centres of blocks: a block with its centre above the surface is mined as a whole."""
     read = readers.topography(file, box_of(grid))
     surface = surface_of(grid, read)
     height = surface.height[grid.rows % grid.per_level]
@@ -392,7 +393,7 @@ class MinedSurface:
     between: np.ndarray
 
     def notes(self, file: Path, grid: Grid) -> list[str]:
-        """How many columns of the table's blocks have no point over them."""
+        """Returns notes on the columns of the table's blocks without a point over them."""
         over = np.unique(grid.rows % grid.per_level)
         between, unknown = np.count_nonzero(self.between[over]), np.count_nonzero(np.isinf(self.height[over]))
         found = (
@@ -408,7 +409,7 @@ class MinedSurface:
 
 
 def surface_of(grid: Grid, survey: Topography) -> MinedSurface:
-    """The surface over each column of blocks. A survey of triangles gives its height at the middle of the column. A survey of points gives
+    """Returns the surface over each column of blocks. A survey of triangles gives the height at the middle of the column. A survey of points gives
     the mean of the points over the column, or the height of the triangles between points if no point lies over it."""
     at_middle = heights(triangles_of(survey), grid)
     if len(survey.faces):

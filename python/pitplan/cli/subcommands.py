@@ -5,12 +5,16 @@ Each imports its command itself, so that a subcommand loads only the libraries t
 
 from __future__ import annotations
 
+import json
+import math
 from argparse import Namespace
 from collections.abc import Callable
-from typing import TYPE_CHECKING
+from decimal import Decimal
+from typing import TYPE_CHECKING, Any
 
 from minelib.ending import tell
 from pitplan.core.progress import Progress, on_standard_error, silent
+from pitplan.errors import WARNING
 
 if TYPE_CHECKING:
     from pathlib import Path
@@ -19,7 +23,8 @@ if TYPE_CHECKING:
 
     from pitplan.blockmodel.guesses import GuessedModel
     from pitplan.config.project import Project
-    from pitplan.report.columns import Display
+    from pitplan.core.atomic_files import NotedPath
+    from pitplan.report.columns import Columns, Display
     from pitplan.studies.scenarios.result import ScenarioResult
 
     from ..commands.writing import Writing
@@ -54,13 +59,82 @@ def draw_block_model(model: GuessedModel, path: Path) -> None:
     write_block_model(model, path)
 
 
-def init(options: Namespace) -> None:
-    import json
+def print_answer(table: DataFrame, columns: Columns, folder: Path, as_json: bool = False) -> None:
+    """Prints an answer's table and the path of its report, and its notes on standard error."""
+    from pitplan.report.columns import cells_of
+    from pitplan.results.folder import read_record
+    from pitplan.results.names import REPORT
 
+    if not as_json:
+        print_table([heading for _, heading, _, _ in columns], cells_of(table, columns))
+    print_notes(read_record(folder)["notes"])
+    if as_json:
+        print_json(table, folder / REPORT)
+    else:
+        print(folder / REPORT)
+
+
+def print_json(table: DataFrame, path: Path) -> None:
+    """Prints a table and the path of its file as one JSON object: `{"path": .., "table": [{column: value, ..}, ..]}`. Numbers are not
+    rounded, and one that is missing is null."""
+    rows = [{name: plain_of(value) for name, value in row.items()} for row in table.to_dict("records")]
+    print(json.dumps({"path": str(path), "table": rows}, indent=2, ensure_ascii=False))
+
+
+def plain_of(value: Any) -> Any:
+    """A field as JSON has it."""
+    if isinstance(value, Decimal):
+        return str(value)
+    value = value.item() if hasattr(value, "item") else value
+    return None if isinstance(value, float) and not math.isfinite(value) else value
+
+
+def print_path(path: NotedPath) -> None:
+    """Prints a path, and the notes on it on standard error."""
+    print_notes(list(path.notes))
+    print(path)
+
+
+def print_notes(notes: list[str]) -> None:
+    """Prints notes on standard error, and after an empty line all warnings."""
+    warnings = [note for note in notes if note.startswith(WARNING)]
+    plain = [note for note in notes if note not in warnings]
+    for note in [*plain, *([""] if plain and warnings else []), *warnings]:
+        tell(note)
+
+
+def print_frame(table: DataFrame) -> None:
+    """Prints a table with its texts to the left and its numbers to two decimals, and an empty line."""
+    columns = []
+    for name in table:
+        is_number = table[name].dtype.kind in "if"
+        texts = [number_of(value) if is_number else str(value) for value in table[name]]
+        wide = max(map(len, [str(name), *texts]))
+        columns.append([text.rjust(wide) if is_number else text.ljust(wide) for text in [str(name), *texts]])
+    for line in zip(*columns):
+        print("  ".join(line).rstrip())
+    print()
+
+
+def number_of(value: float) -> str:
+    if math.isnan(value):
+        return "-"
+    return f"{value:,.0f}" if float(value).is_integer() else f"{value:,.2f}"
+
+
+def print_table(headings: list[str], rows: list[list[str]]) -> None:
+    """Prints columns, aligned to the right, under two lines of headings."""
+    upper = [heading.split(", ")[0] for heading in headings]
+    lower = [heading.split(", ")[1] if ", " in heading else "" for heading in headings]
+    lines = [upper, lower, *rows]
+    wide = [max(len(line[k]) for line in lines) for k in range(len(headings))]
+    for line in lines:
+        print("  ".join(field.rjust(width) for field, width in zip(line, wide)))
+
+
+def init(options: Namespace) -> None:
     from pitplan.blockmodel import wizard
     from pitplan.blockmodel.guesses import roles_of_words
-
-    from .printing import print_notes
 
     project_file = options.out or options.table.parent / "project.toml"
     choices = wizard.Choices(roles_of_words(options.role), options.replace)
@@ -70,8 +144,6 @@ def init(options: Namespace) -> None:
 
 
 def doctor(options: Namespace) -> int:
-    import json
-
     from .. import __version__
     from ..commands import doctor as doctoring
 
@@ -86,8 +158,6 @@ def doctor(options: Namespace) -> int:
 def check(options: Namespace) -> None:
     from pitplan.commands.plans import check as check_project
 
-    from .printing import print_notes
-
     project = project_of(options)
     print_notes(check_project(project, progress_of(options)))
     print(f"{project.path}: no errors")
@@ -95,8 +165,6 @@ def check(options: Namespace) -> None:
 
 def prepare(options: Namespace) -> None:
     from pitplan.commands.plans import write_plan
-
-    from .printing import print_notes
 
     project = project_of(options)
     folder = options.out or project.folder
@@ -107,7 +175,6 @@ def prepare(options: Namespace) -> None:
 def answered(options: Namespace, write: Callable[..., DataFrame], columns: Display, name: str) -> Path:
     """Writes an answer into the folder that is asked for, by default `name` in the project's output folder, and prints its table, notes and the
     path of its report. Returns the folder."""
-    from .printing import print_answer
 
     project = project_of(options)
     folder = options.out or project.folder / name
@@ -129,7 +196,6 @@ def pit(options: Namespace) -> None:
     from pitplan.results.folder import read_record
 
     from ..results import names
-    from .printing import print_json, print_notes, print_table
 
     project = project_of(options)
     folder = options.out or project.folder / "pit"
@@ -177,7 +243,6 @@ def sensitivity(options: Namespace) -> None:
     from pitplan.studies.sensitivity import RECORD, TABLE
 
     from ..commands.sensitivity import write_sensitivity
-    from .printing import print_json, print_notes, print_table
 
     project = project_of(options)
     folder = options.out or project.folder / "sensitivity"
@@ -197,7 +262,6 @@ def compare(options: Namespace) -> None:
     from pitplan.results import names
 
     from ..commands.compare import compare as write_comparison
-    from .printing import print_frame, print_json
 
     found = write_comparison(options.folders, options.out, not options.no_bridge, writing_of(options))
     if options.json:
@@ -228,7 +292,6 @@ def gather(options: Namespace) -> None:
 
 def print_scenarios(result: ScenarioResult) -> None:
     """Prints the notes, and the folder or the script to start."""
-    from .printing import print_notes
 
     print_notes(list(result.notes))
     print(result.start or result.folder)
@@ -259,16 +322,12 @@ def export(options: Namespace) -> None:
     from pitplan.commands.outputs import write_export
     from pitplan.results.pit_states import Shape
 
-    from .printing import print_path
-
     shape = Shape(options.of, options.surface, options.smooth, options.revenue_factor)
     print_path(write_export(options.folder, options.to, shape, progress_of(options), out=options.out))
 
 
 def audit(options: Namespace) -> None:
     from pitplan.commands.outputs import audit as write_audit
-
-    from .printing import print_path
 
     print_path(write_audit(options.folder, options.revenue_factor, progress_of(options), options.out))
 
@@ -305,8 +364,6 @@ def serve(options: Namespace) -> None:
 
 
 def schema(options: Namespace) -> None:
-    import json
-
     from pitplan.config.project import schema as of_project
 
     print(json.dumps(of_project(), indent=1, default=float))

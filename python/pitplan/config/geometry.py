@@ -229,8 +229,3 @@ class ConstraintRules:
     def topography(self) -> Optional[SurveyFile]:
         """Heights of the original ground, by which the table's tonnes are cut already; None: [table] topography, or the blocks' tops."""
         return self.original if isinstance(self.original, SurveyFile) else None
-
-    @property
-    def by_blocks(self) -> bool:
-        """Whether the original ground of the as-mined surface is the blocks' tops, since they are whole."""
-        return self.original == BLOCKS

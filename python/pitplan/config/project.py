@@ -189,11 +189,6 @@ class Project:
         terms = [metal.smelter for metal in self.metals if metal.smelter]
         return tuple(dict.fromkeys(penalty.column for it in terms for penalty in it.penalties))
 
-    @property
-    def cuts_blocks(self) -> bool:
-        """Whether blocks have less than the table's tonnes, by a topography or an as-mined surface."""
-        return bool(self.table.topography or self.constraints and self.constraints.as_mined)
-
     def to_toml(self, folder: Optional[Path] = None) -> str:
         """The text of a project.toml in a folder, by default that of the project's own file. It reads back as this project, except `path`
         and `solver`."""

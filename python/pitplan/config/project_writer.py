@@ -6,7 +6,7 @@ import json
 from dataclasses import replace
 from decimal import Decimal
 from pathlib import Path
-from typing import Any, Mapping, Optional
+from typing import Any, Mapping
 
 from pitplan.config.project import Project, load
 from pitplan.core.atomic_files import hash_of
@@ -50,14 +50,13 @@ def write(project: Project, path: Path, folder: Path) -> None:
     path.write_text(of_project(project, folder), encoding="utf-8")
 
 
-def as_run(folder: Path, place_of_first: str, written: Optional[Path] = None) -> Project:
+def as_run(folder: Path, place_of_first: str) -> Project:
     """The project of a run into a folder. Its path is that of the file that it was read from: the record gives this relative to the folder.
 
-    While a run goes on, its text is in `written`. If the folder has no text, as those of earlier releases, the file itself is read.
-    Raises PlanError.
+    If the folder has no text, as those of earlier releases, the file itself is read. Raises PlanError.
     """
-    first, text = folder / place_of_first, (written or folder) / AS_RUN
-    return replace(load(text, folder / AS_RUN), path=first) if text.is_file() else load(first)
+    first, text = folder / place_of_first, folder / AS_RUN
+    return replace(load(text), path=first) if text.is_file() else load(first)
 
 
 def as_run_or_edited(folder: Path, record: dict[str, Any]) -> Project:

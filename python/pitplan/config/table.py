@@ -294,17 +294,18 @@ class Reblock:
     """The rows that make up a block: a count of blocks each way, or all that lie in blocks of a size, from a corner on, in metres. With neither
     the blocks are as large as the largest cells.
 
-    Counts and sizes are east, north and up; the corner is x, y, z at the west, the south and the floor of some block.
+    Counts and sizes are east, north and up; the corner is x, y, z at the west, the south and the floor of some block. Size and corner are zeros
+    if they are not given.
     """
 
     counts: Optional[tuple[int, int, int]] = None
-    size: Optional[BlockSize] = key(SIZE, "size of a block", unit="m", in_python=None)
-    corner: Optional[tuple[float, float, float]] = key(POINT, "corner of a block", unit="m", in_python=None)
+    size: BlockSize = key(SIZE, "size of a block", unit="m", in_python=(0.0, 0.0, 0.0))
+    corner: tuple[float, float, float] = key(POINT, "corner of a block", unit="m", in_python=(0.0, 0.0, 0.0))
 
     @property
     def of_parents(self) -> bool:
         """Whether size and corner are those of the largest cells."""
-        return self.counts is None and self.size is None
+        return self.counts is None and not any(self.size)
 
 
 def read_counts(section: Section, name: str, value: Any) -> Reblock:

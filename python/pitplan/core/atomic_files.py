@@ -97,13 +97,13 @@ def take_away(folder: Path, names: list[str], kept: list[Path]) -> None:
 
 @contextmanager
 def staged_file(path: Path) -> Iterator[Path]:
-    """A name to write one file to; where no error comes, it is moved to `path`."""
+    """Yields a path to write one file to, which moves to `path` if no error is raised."""
     with staged(path.parent) as stage:
         yield stage / path.name
 
 
 def hash_of(path: Path) -> str:
-    """SHA-256 of a file, in hexadecimal digits."""
+    """Returns the SHA-256 of a file, in hexadecimal digits."""
     digest = hashlib.sha256()
     with open(path, "rb") as file:
         for piece in iter(lambda: file.read(1 << 20), b""):
@@ -112,7 +112,7 @@ def hash_of(path: Path) -> str:
 
 
 def hashes_of(paths: Mapping[str, Path]) -> dict[str, str]:
-    """Hashes of files by the names that they have here."""
+    """Returns the hashes of files by the names that they have here."""
     return {name: hash_of(path) for name, path in paths.items()}
 
 
@@ -143,7 +143,7 @@ class NotedPath(SystemPath):
 
 
 def noted(path: Path, notes: Iterable[str]) -> NotedPath:
-    """The path with these notes."""
+    """Returns the path with these notes."""
     found = NotedPath(path)
     found.notes = tuple(notes)
     return found

@@ -13,7 +13,7 @@ PLACES = 6
 
 
 def whole(values: np.ndarray) -> np.ndarray:
-    """Whole numbers that are not negative, without leading zeros."""
+    """Returns whole numbers that are not negative as fields, without leading zeros."""
     values = np.asarray(values, dtype=np.int64)
     width = len(str(int(values.max(initial=0))))
     result = padded(values, width)
@@ -23,7 +23,7 @@ def whole(values: np.ndarray) -> np.ndarray:
 
 
 def padded(values: np.ndarray, width: int) -> np.ndarray:
-    """Whole numbers with leading zeros to a width."""
+    """Returns whole numbers as fields, with leading zeros to a width."""
     result = np.empty((len(values), width), dtype=np.uint8)
     left = values
     for place in range(width - 1, -1, -1):
@@ -33,7 +33,7 @@ def padded(values: np.ndarray, width: int) -> np.ndarray:
 
 
 def decimals(millionths: np.ndarray) -> np.ndarray:
-    """Millionths as decimals, `-12.5` for -12500000, without zeros at the end; up to twelve digits before the point."""
+    """Returns millionths as fields, such as `-12.5` for -12500000, without zeros at the end; up to twelve digits before the point."""
     millionths = np.asarray(millionths, dtype=np.int64)
     size = np.abs(millionths)
     sign = np.where(millionths < 0, MINUS, 0).astype(np.uint8)[:, None]
@@ -45,7 +45,7 @@ def decimals(millionths: np.ndarray) -> np.ndarray:
 
 
 def lines(fields: list[np.ndarray]) -> bytes:
-    """One line a row, its fields joined by spaces; a field of zero bytes alone is left out with its space."""
+    """Returns a line for each row, its fields joined by spaces. A field of zero bytes alone is left out with its space."""
     rows = len(fields[0])
     parts = [fields[0]]
     for field in fields[1:]:
@@ -57,7 +57,7 @@ def lines(fields: list[np.ndarray]) -> bytes:
 
 
 def ragged(firsts: list[np.ndarray], many: np.ndarray, absent: int) -> bytes:
-    """One line a row: the first fields, and then the whole numbers of its row of `many` that are not `absent`."""
+    """Returns a line for each row: the first fields, and then the whole numbers of the row of `many` that are not `absent`."""
     rows, most = many.shape
     there = many != absent
     field = whole(np.where(there, many, 0).ravel())

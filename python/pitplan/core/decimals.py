@@ -44,13 +44,13 @@ class Exact:
 
     @staticmethod
     def of(value: Union[int, Decimal], count: int) -> "Exact":
-        """The same value `count` times."""
+        """Returns `count` times the same value."""
         whole, places = whole_and_places(value)
         return Exact(np.full(count, whole, dtype=np.int64 if abs(whole) <= MOST_WHOLE else object), places)
 
     @staticmethod
     def of_floats(values: np.ndarray) -> "Exact":
-        """The shortest decimal that reads back as each float: 0.1 for 0.1. The floats must be finite."""
+        """Returns the shortest decimal that reads back as each float: 0.1 for 0.1. The floats must be finite."""
         numbers = np.asarray(values, dtype=np.float64)
         for places in range(MOST_PLACES + 1):
             scaled = np.rint(numbers * 10.0**places)
@@ -69,7 +69,7 @@ class Exact:
         return Exact(whole.astype(np.int64) if greatest(whole) <= MOST_WHOLE else whole, most)
 
     def at(self, places: int) -> np.ndarray:
-        """The whole numbers of 10**-places; `places` may not be less than the value's own."""
+        """Returns the values in units of 10**-places; `places` may not be less than the value's own."""
         return product(self.whole, 10 ** (places - self.places))
 
     def times(self, other: "Exact") -> "Exact":
@@ -83,7 +83,7 @@ class Exact:
         return self.plus(Exact(-other.whole, other.places))
 
     def floats(self) -> np.ndarray:
-        """The nearest floats, for pictures and reports."""
+        """Returns the nearest floats, for figures and reports."""
         if self.places <= EXACT_POWER and greatest(self.whole) <= EXACT_WHOLE:
             return self.whole.astype(np.float64) / 10.0**self.places
         found, unit, some = np.zeros(len(self.whole)), 10**self.places, np.flatnonzero(self.whole != 0)
@@ -91,7 +91,7 @@ class Exact:
         return found
 
     def rounded(self, places: int) -> tuple[np.ndarray, Rounding]:
-        """Whole numbers of 10**-places, halves to the even one, and what the rounding did."""
+        """Returns the values rounded to units of 10**-places, half to even, and what the rounding changed."""
         if self.places <= places:
             return self.at(places), Rounding(len(self.whole), 0, Decimal(0))
         unit = 10 ** (self.places - places)
@@ -102,29 +102,29 @@ class Exact:
 
 
 def greatest(whole: Union[int, np.ndarray]) -> int:
-    """The greatest size of whole numbers."""
+    """Returns the greatest magnitude of whole numbers."""
     return abs(whole) if isinstance(whole, int) else max(int(whole.max(initial=0)), -int(whole.min(initial=0)))
 
 
 def product(left: np.ndarray, right: Union[int, np.ndarray]) -> np.ndarray:
-    """Products of whole numbers, exact; of a right one that is no array by it."""
+    """Returns the exact products of whole numbers; `right` may be one factor for all."""
     # A product of zeros fits with any factor, which may have more than 64 bits.
     fits = max(greatest(left), 1) * greatest(right) <= MOST_WHOLE
     return left * right if fits else left.astype(object) * right
 
 
 def total(left: np.ndarray, right: np.ndarray) -> np.ndarray:
-    """Sums of whole numbers, exact."""
+    """Returns the exact sums of whole numbers."""
     return left + right if greatest(left) + greatest(right) <= MOST_WHOLE else left.astype(object) + right
 
 
 def at_factor(factor: float, revenue: np.ndarray, cost: np.ndarray) -> np.ndarray:
-    """`factor * revenue - cost` in billionths, exact, of a revenue factor and amounts in millionths."""
+    """Returns `factor * revenue - cost` in billionths, exactly, from a revenue factor and amounts in millionths."""
     return total(product(revenue, per_mille(factor)), product(cost, -PER_MILLE))
 
 
 def nearest(whole: np.ndarray, unit: Union[int, np.ndarray]) -> np.ndarray:
-    """The whole numbers nearest to these parts of a unit above 0, one for all or one each; halves to the even one."""
+    """Returns the whole numbers nearest to `whole / unit`, half to even; the unit, above 0, is one for all or one for each."""
     if 2 * greatest(unit) > MOST_WHOLE:
         whole = whole.astype(object)
     if whole.dtype == object and not (whole != 0).all():
@@ -138,7 +138,7 @@ def nearest(whole: np.ndarray, unit: Union[int, np.ndarray]) -> np.ndarray:
 
 
 def whole_and_places(value: Union[int, Decimal]) -> tuple[int, int]:
-    """`(whole, places)` with value = whole * 10**-places and places not negative."""
+    """Returns `(whole, places)` with value = whole * 10**-places, and places not negative."""
     sign, digits, exponent = Decimal(value).as_tuple()
     whole = int("".join(map(str, digits))) * (-1 if sign else 1)
     power = int(exponent)

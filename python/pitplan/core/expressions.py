@@ -221,8 +221,7 @@ def evaluated(node: ast.expr, known: Mapping[str, NDArray[Any]]) -> Any:
         return np.float64(node.value) if isinstance(node.value, float) else np.array(node.value, dtype=object)
     if isinstance(node, ast.Name):
         return known[node.id]
-    if isinstance(node, ast.Call):
-        assert isinstance(node.func, ast.Name)
+    if isinstance(node, ast.Call) and isinstance(node.func, ast.Name):
         return FUNCTIONS[node.func.id.removeprefix("f_")][1](*(evaluated(it, known) for it in node.args))
     if isinstance(node, ast.UnaryOp):
         return of_one(node.op, evaluated(node.operand, known))
@@ -233,10 +232,11 @@ def evaluated(node: ast.expr, known: Mapping[str, NDArray[Any]]) -> Any:
         demand_truths("and" if isinstance(node.op, ast.And) else "or", *parts)
         join: Any = np.logical_and if isinstance(node.op, ast.And) else np.logical_or
         return functools.reduce(join, parts)
-    assert isinstance(node, ast.Compare)
-    sides = [node.left, *node.comparators]
-    pairs = zip(sides, node.ops, sides[1:])
-    return functools.reduce(np.logical_and, (compared(left, by, right, known) for left, by, right in pairs))
+    if isinstance(node, ast.Compare):
+        sides = [node.left, *node.comparators]
+        pairs = zip(sides, node.ops, sides[1:])
+        return functools.reduce(np.logical_and, (compared(left, by, right, known) for left, by, right in pairs))
+    raise ExpressionError(f"may not have {type(node).__name__}")
 
 
 def of_one(by: ast.unaryop, value: Any) -> Any:

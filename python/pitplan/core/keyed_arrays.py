@@ -14,7 +14,7 @@ from numpy.typing import NDArray
 
 
 def hash_of_all(text: str, arrays: list[NDArray[Any]]) -> str:
-    """A hash of a text and of arrays, with their types and shapes."""
+    """Returns a hash of a text and of arrays, with their types and shapes."""
     digest = hashlib.sha256(text.encode())
     for array in arrays:
         digest.update(f"{array.dtype} {array.shape};".encode())
@@ -49,7 +49,7 @@ def write(path: Path, key: str, **arrays: Any) -> None:
 
 
 def read(path: Path, key: str) -> dict[str, np.ndarray]:
-    """All arrays. Raises NoAnswer where the file is cut short or bent, or answers something else, and OSError where it cannot be opened."""
+    """Returns all arrays. Raises NoAnswer if the file is cut short, damaged or the answer to something else, and OSError if it cannot be opened."""
     try:
         with zipfile.ZipFile(path) as packed:
             # Before numpy takes memory for as much as a bent head says.

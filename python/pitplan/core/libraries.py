@@ -18,7 +18,7 @@ THREE = Path("/usr/share/javascript/three")
 
 
 def load(module: str, package: str, purpose: str) -> ModuleType:
-    """The module. Raises MissingPackage if it cannot be imported, with the Debian package's name, or with the error of a module that it
+    """Imports a module. Raises MissingPackage if it cannot be imported, with the name of the Debian package, or with the error of a module that it
     imports itself."""
     try:
         return importlib.import_module(module)
@@ -46,13 +46,13 @@ def load_library(purpose: str) -> ModuleType:
 
 
 def is_of(error: ImportError, module: str) -> bool:
-    """Whether it is the module itself, or its package, that cannot be imported, and no other one on the way."""
+    """Returns whether an import failed for the module itself or its package, and not for another module that it imports."""
     name = error.name or ""
     return f"{module}.".startswith(f"{name}.") and name != ""
 
 
 def three_scripts(folder: Path = THREE) -> list[str]:
-    """The texts of three.js and of its orbit controls. Raises MissingPackage where they are not installed."""
+    """Returns the texts of three.js and of its orbit controls. Raises MissingPackage if they are not installed."""
     paths = [folder / "three.min.js", folder / "examples" / "js" / "controls" / "OrbitControls.js"]
     for path in paths:
         if not path.is_file():

@@ -4,7 +4,7 @@ from __future__ import annotations
 
 from collections.abc import Callable, Iterator, Sequence
 from itertools import chain
-from typing import Any, Optional
+from typing import Any, Optional, Union
 
 import numpy as np
 import pandas as pd
@@ -60,45 +60,50 @@ def header_row_of(source: str) -> int:
 
 
 def at_row(source: str, row: int, column: str, why: str) -> PlanError:
-    """`row` counts the blocks from 0."""
+    """Returns the error of a field, with file, row and column; `row` is the index of the block from 0."""
     place = ErrorPlace(row=row_of(source, row), column=column)
     return PlanError(f"{source} row {place.row} column {column}: {why}", place=place)
 
 
+def demand_none(wrong: np.ndarray, source: str, column: str, why: Union[str, Callable[[int], str]]) -> None:
+    """Raises PlanError for the first row that is wrong, with a sentence on it, which may be made of its index from 0."""
+    if wrong.any():
+        row = int(wrong.argmax())
+        raise at_row(source, row, column, why if isinstance(why, str) else why(row))
+
+
 def is_numeric(column: pd.Series) -> bool:
-    """Whether pandas holds each field as a number or as missing. Truths are no numbers."""
+    """Returns whether pandas holds each field as a number or as missing. Truths are no numbers."""
     dtype = column.dtype
     return types.is_numeric_dtype(dtype) and not types.is_bool_dtype(dtype) and not types.is_complex_dtype(dtype)
 
 
 def holds_texts(column: pd.Series) -> bool:
-    """Whether pandas holds the fields as texts or as objects, under any name of a dtype."""
+    """Returns whether pandas holds the fields as texts or as objects, under any name of a dtype."""
     return not is_numeric(column) and not types.is_bool_dtype(column.dtype)
 
 
 def without_truths(frame: pd.DataFrame) -> pd.DataFrame:
-    """A frame that was read, whose columns of True and False are texts again: a table has no such fields."""
+    """Returns a frame with columns of True and False as texts again, since tables have no such fields."""
     for name in frame.columns[frame.dtypes == bool]:
         frame[name] = frame[name].astype(str)
     return frame
 
 
 def numbers_of(column: pd.Series, source: str, name: str) -> np.ndarray:
-    """float64, nan where the field is empty. Raises PlanError, by the row, where a field is no number or is infinite."""
+    """Returns a column as float64, with nan for an empty field. Raises PlanError, by the row, if a field is no number or is infinite."""
     if not is_numeric(column):
         numbers = numbers_of_fields(column.astype(object), source, name)
     elif isinstance(column.dtype, np.dtype):
         numbers = column.to_numpy(dtype=np.float64)
     else:
         numbers = column.to_numpy(dtype=np.float64, na_value=np.nan)
-    infinite = np.isinf(numbers)
-    if infinite.any():
-        raise at_row(source, int(infinite.argmax()), name, "is infinite")
+    demand_none(np.isinf(numbers), source, name, "is infinite")
     return numbers
 
 
 def numbers_of_fields(fields: pd.Series, source: str, name: str) -> np.ndarray:
-    """As `numbers_of`, of fields that may be anything."""
+    """Returns the numbers of fields of any type, as `numbers_of` does."""
     texts = fields.astype(str).str.strip()
     is_other = np.zeros(len(fields), dtype=bool)
     if types.infer_dtype(fields, skipna=True) not in PLAIN:
@@ -113,7 +118,7 @@ def numbers_of_fields(fields: pd.Series, source: str, name: str) -> np.ndarray:
 
 
 def as_codes(values: np.ndarray) -> np.ndarray:
-    """Numbers as texts, empty where they are missing: 3 for 3.0. Texts stay as they are."""
+    """Returns numbers as texts, such as 3 for 3.0, and nan as an empty text. Texts stay as they are."""
     if values.dtype == object:
         return values
     used, place = np.unique(values, return_inverse=True)
@@ -129,7 +134,7 @@ MOST_SHOWN = 40
 def warnings_of(
     frame: pd.DataFrame, codes: Sequence[str], source: str, nulls: Callable[[str], Sequence[str]] = lambda name: ()
 ) -> list[str]:
-    """One warning that names the first such text by its row and column, and counts the others; none where there is no such text.
+    """Returns a warning that names row and column of the first text that a spreadsheet may evaluate, and counts the others; none without such texts.
 
     Numbers written as text are skipped, except in codes: a spreadsheet reads the same number. So are the null codes that `nulls` gives for a
     column.
@@ -149,7 +154,7 @@ def warnings_of(
 def in_column(
     column: pd.Series, codes: Sequence[str], source: str, nulls: Callable[[str], Sequence[str]]
 ) -> Iterator[tuple[int, str, str]]:
-    """The row of the file, the column's name and the text of each."""
+    """Yields the row in the file, the column's name and the text of each field of a column that a spreadsheet may evaluate."""
     name = str(column.name)
     if name[:1] in SIGNS:
         yield header_row_of(source), name, name

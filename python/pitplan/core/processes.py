@@ -2,13 +2,12 @@
 
 from __future__ import annotations
 
+import multiprocessing
 import os
 import pickle
-import select
-import signal
-import sys
 from collections.abc import Callable, Iterator, Sequence
-from contextlib import suppress
+from multiprocessing.connection import Connection, wait
+from multiprocessing.process import BaseProcess
 from typing import Optional
 
 from pitplan.errors import ProgramError
@@ -45,91 +44,59 @@ def each_done(tasks: Sequence[Task], most: Optional[int] = None) -> Iterator[int
         If a process was killed.
     """
     count = min(len(tasks), most or cores())
-    if count <= 1 or not hasattr(os, "fork"):
+    # A daemon, such as a process of a pool, may have no processes of its own.
+    if count <= 1 or not hasattr(os, "fork") or multiprocessing.current_process().daemon:
         for number, task in enumerate(tasks):
             task()
             yield number
         return
-    # What is not written yet would be written by each process.
-    sys.stdout.flush()
-    sys.stderr.flush()
-    children: dict[int, Child] = {}
+    running: dict[Connection, tuple[int, BaseProcess]] = {}
     waiting = list(enumerate(tasks))[::-1]
     try:
-        while waiting or children:
-            while waiting and len(children) < count:
+        while waiting or running:
+            while waiting and len(running) < count:
                 number, task = waiting.pop()
-                child = Child(number, task)
-                children[child.pipe] = child
-            for pipe in select.select(list(children), [], [])[0]:
-                if children[pipe].is_done():
-                    yield children.pop(pipe).number
+                pipe, process = started(task)
+                running[pipe] = number, process
+            ended = wait(list(running))
+            for pipe in [it for it in running if it in ended]:
+                demand_done(pipe, running[pipe][1])
+                yield running.pop(pipe)[0]
     finally:
-        for child in children.values():
-            child.kill()
+        for _, process in running.values():
+            process.kill()
+            process.join()
 
 
-class Child:
-    """A process that runs a task.
-
-    Parameters
-    ----------
-    number : int
-        The number of the task.
-    """
-
-    def __init__(self, number: int, task: Task) -> None:
-        self.number, self.said = number, b""
-        self.pipe, writes = os.pipe()
-        self.process = os.fork()
-        if self.process:
-            os.close(writes)
-            return
-        os.close(self.pipe)
-        run(task, writes)
-
-    def is_done(self) -> bool:
-        """Reads from its pipe, and returns whether it has ended. Raises the error of the task, and ProgramError if it was killed."""
-        part = os.read(self.pipe, 1 << 16)
-        self.said += part
-        if part:
-            return False
-        os.close(self.pipe)
-        self.pipe = -1
-        _, status = os.waitpid(self.process, 0)
-        self.process = 0
-        if self.said:
-            raise pickle.loads(self.said)
-        if status:
-            why = f"a process ended with status {os.waitstatus_to_exitcode(status)}"
-            raise ProgramError(f"{why}: free some memory, or use fewer processors")
-        return True
-
-    def kill(self) -> None:
-        """Ends it, unless it has ended."""
-        if self.pipe >= 0:
-            os.close(self.pipe)
-        if self.process:
-            with suppress(ProcessLookupError):
-                os.kill(self.process, signal.SIGKILL)
-            os.waitpid(self.process, 0)
+def started(task: Task) -> tuple[Connection, BaseProcess]:
+    """Starts a process that runs a task; returns it with the pipe through which it sends an error."""
+    forks = multiprocessing.get_context("fork")
+    receives, sends = forks.Pipe(duplex=False)
+    process = forks.Process(target=run, args=(task, sends))
+    process.start()
+    sends.close()
+    return receives, process
 
 
-def run(task: Task, pipe: int) -> None:
-    """Runs a task in a fork, sends its error through the pipe, and ends the process."""
-    status = 1
+def run(task: Task, pipe: Connection) -> None:
     try:
+        task()
+    except BaseException as error:
+        pipe.send_bytes(pickled(error))
+
+
+def demand_done(pipe: Connection, process: BaseProcess) -> None:
+    """Waits for the end of a process. Raises the error of its task, and ProgramError if it was killed."""
+    try:
+        sent = pipe.recv_bytes()
+    except EOFError:
         sent = b""
-        try:
-            task()
-            status = 0
-        except BaseException as error:
-            sent = pickled(error)
-        with os.fdopen(pipe, "wb") as writes:
-            writes.write(sent)
-    finally:
-        # Neither buffers nor temporary files of the process before are this one's to end.
-        os._exit(status)
+    process.join()
+    if sent:
+        raise pickle.loads(sent)
+    if process.exitcode:
+        why = f"a process ended with status {process.exitcode}"
+        raise ProgramError(f"{why}: free some memory, or use fewer processors")
 
 
 def pickled(error: BaseException) -> bytes:

@@ -18,12 +18,12 @@ PER_MILLE = 1000
 
 
 def of_per_mille(count: int) -> float:
-    """The revenue factor of a whole number of thousandths."""
+    """Returns the revenue factor of a whole number of thousandths."""
     return count / PER_MILLE
 
 
 def per_mille(factor: SupportsFloat) -> int:
-    """A revenue factor as the solver takes it.
+    """Returns a revenue factor in thousandths, as the solver takes it.
 
     Raises
     ------
@@ -37,7 +37,7 @@ def per_mille(factor: SupportsFloat) -> int:
 
 
 def of_decimal(value: Union[int, Decimal]) -> float:
-    """The revenue factor of a decimal from 0 to 100. Raises ValueError if it is another, or has more than three decimals."""
+    """Returns the revenue factor of a decimal from 0 to 100. Raises ValueError if the decimal is another, or has more than three places."""
     if not 0 <= value <= GREATEST_FACTOR or value * PER_MILLE % 1:
         raise ValueError(f"{value} is not a revenue factor")
     return of_per_mille(int(value * PER_MILLE))
@@ -50,18 +50,18 @@ def is_factor(value: Any) -> bool:
 
 
 def with_exact_factors(table: pd.DataFrame) -> pd.DataFrame:
-    """A table that was read from a file, with the nearest thousandth for each revenue factor: pandas' reader may miss the last bit."""
+    """Returns a table that was read from a file with the nearest thousandth for each revenue factor, since pandas' reader may miss the last bit."""
     names = [name for name in table.columns if str(name).endswith("revenue_factor")]
     numbers = [name for name in names if table[name].dtype.kind in "if"]
     return table.assign(**{name: table[name].astype(float).round(3) for name in numbers})
 
 
 def factor_text(factor: SupportsFloat) -> str:
-    """A revenue factor with at least two decimals, as 0.80 or 0.755."""
+    """Returns a revenue factor with at least two decimals, such as 0.80 or 0.755."""
     text = f"{float(factor):.3f}"
     return text[:-1] if text.endswith("0") else text
 
 
 def factor_texts(factors: Iterable[SupportsFloat]) -> str:
-    """Revenue factors in words, as `0.50, 1.00`."""
+    """Returns revenue factors in words, such as `0.50, 1.00`."""
     return ", ".join(map(factor_text, factors))

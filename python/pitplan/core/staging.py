@@ -46,7 +46,7 @@ def alone(folder: Path, *within: str) -> Iterator[None]:
 
 
 def locked(folder: Path) -> int:
-    """The descriptor of the folder's lock file, which is locked. Raises PlanError if another process holds it."""
+    """Opens and locks the lock file of a folder; returns its descriptor. Raises PlanError if another process holds the lock."""
     path = folder / LOCK
     while True:
         descriptor = opened(path)
@@ -67,7 +67,7 @@ def locked(folder: Path) -> int:
 
 
 def opened(path: Path) -> int:
-    """A lock file, which is made if it is missing; one that another user left may be locked by all who may read it."""
+    """Opens a lock file, which is made if it is missing. Readers of another user's file may lock it too."""
     always = os.O_CLOEXEC | os.O_NOFOLLOW
     try:
         return os.open(path, os.O_RDWR | os.O_CREAT | always, 0o644)
@@ -76,7 +76,7 @@ def opened(path: Path) -> int:
 
 
 def is_locked(descriptor: int) -> bool:
-    """Locks a file or folder, unless another process holds it; gives whether one does."""
+    """Locks a file or folder unless another process holds the lock; returns whether another process does."""
     try:
         fcntl.flock(descriptor, fcntl.LOCK_EX | fcntl.LOCK_NB)
     except BlockingIOError:
@@ -88,7 +88,7 @@ def is_locked(descriptor: int) -> bool:
 
 
 def is_at(descriptor: int, path: Path) -> bool:
-    """Whether what is open is still what lies there."""
+    """Returns whether an open file is still the one at a path."""
     try:
         return os.path.samestat(os.fstat(descriptor), os.stat(path, follow_symlinks=False))
     except FileNotFoundError:
@@ -111,7 +111,7 @@ def made(folder: Path) -> Iterator[None]:
 
 @contextmanager
 def stage_in(folder: Path) -> Iterator[Path]:
-    """A new folder within a folder, which is there for the time being. It is locked, so that no other run takes it for one of a killed run.
+    """Yields a new folder within a folder, which is removed at the end. It is locked, so that no other run takes it for one of a killed run.
 
     Raises OSError if it cannot be made.
     """

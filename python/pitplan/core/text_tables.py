@@ -98,7 +98,7 @@ class Layout:
         )
 
     def below(self) -> list[list[str]]:
-        """The fields of the header lines below the names."""
+        """Returns the fields of the header lines below the names."""
         return [fields_of(line, self.separator) for line in self.above[self.header_row :]]
 
 
@@ -303,7 +303,7 @@ def encoding_of(file: Path) -> str:
 
 
 class WholeText(io.TextIOWrapper):
-    """A table's text. Raises NulByte where it holds one, at which pandas would end the field without a word, and LongLine where a line has no end."""
+    """A table's text. Raises NulByte for a NUL byte, at which pandas would end the field without a word, and LongLine for a line without an end."""
 
     ended = letters = 0
 
@@ -332,13 +332,13 @@ class LongLine(Exception):
 
 
 def long_line(file: Path, error: LongLine) -> PlanError:
-    """Names the row of a line without an end."""
+    """Returns the error of a line without an end, by its row."""
     remedy = "expected a line for each block: export the table again as CSV"
     return PlanError(f"{file} row {error}: has more than {MOST_IN_A_LINE:,} letters, {remedy}")
 
 
 def nul_byte(file: Path, form: TableFormat) -> PlanError:
-    """Names the row and the column of the first NUL byte of a table."""
+    """Returns the error of the first NUL byte of a table, by its row and column."""
     remedy = 'export it again as text, or name its encoding by [table] encoding, such as "utf-16"'
     with opened(file) as data, io.TextIOWrapper(data, encoding=form.encoding, errors=form.errors) as text:
         row, line = next(((number, line) for number, line in enumerate(text, 1) if "\0" in line), (1, ""))
@@ -354,8 +354,8 @@ def nul_byte(file: Path, form: TableFormat) -> PlanError:
 
 @contextmanager
 def opened(file: Path) -> Iterator[IO[bytes]]:
-    """The bytes of a table's text, of a .gz or a .zip file those that it packs. Raises one of UNREADABLE, and PlanError where a .zip file
-    packs several files or none, and where another file is packed too."""
+    """Yields the bytes of a table's text, those of the packed file if it is a .gz or a .zip file. Raises one of UNREADABLE, and PlanError if a .zip
+    file packs several files or none, or if another file is packed."""
     if file.suffix == ".gz":
         with gzip.open(file) as unzipped:
             yield cast(IO[bytes], unzipped)
@@ -372,7 +372,7 @@ def opened(file: Path) -> Iterator[IO[bytes]]:
 
 
 def unpacked(file: Path, packed: zipfile.ZipFile) -> IO[bytes]:
-    """The one file that is packed. Raises PlanError where there are several or none, or where it cannot be unpacked here."""
+    """Opens the only file of a .zip file. Raises PlanError if there are several or none, or if it cannot be unpacked here."""
     there = [member for member in packed.infolist() if not member.is_dir()]
     if len(there) != 1:
         raise PlanError(f"{file}: packs {len(there)} files, and must pack one table")
@@ -387,7 +387,7 @@ def unpacked(file: Path, packed: zipfile.ZipFile) -> IO[bytes]:
 
 
 def demand_text(file: Path, purpose: str) -> None:
-    """Raises PlanError where a table is no text, which the purpose needs."""
+    """Raises PlanError if a table is no text, which the purpose needs."""
     kind = "Parquet" if is_parquet(file) else MODELS.get(file.suffix.lower())
     if kind:
         raise PlanError(f"{file}: is {kind}, and {purpose} needs a table that is text, such as CSV")
@@ -412,9 +412,9 @@ def is_parquet(file: Path) -> bool:
 
 
 def read_parquet(file: Path, codes: list[str], wanted: list[str]) -> tuple[pd.DataFrame, list[str]]:
-    """The wanted columns that the file has, numbers as float64 and codes as texts, and the names of all its columns.
+    """Reads the wanted columns of a file, numbers as float64 and codes as texts; returns also the names of all its columns.
 
-    Raises MissingPackage without pyarrow, and PlanError where the file is not one that it reads.
+    Raises MissingPackage without pyarrow, and PlanError if it cannot read the file.
     """
     pyarrow = reader_of(file)
     try:
@@ -426,7 +426,7 @@ def read_parquet(file: Path, codes: list[str], wanted: list[str]) -> tuple[pd.Da
 
 
 def reader_of(file: Path) -> Any:
-    """Its module for files. Raises MissingPackage if it is not installed."""
+    """Returns pyarrow's module for Parquet files. Raises MissingPackage if it is not installed."""
     try:
         from pyarrow import parquet
     except ImportError as error:
@@ -438,7 +438,7 @@ def reader_of(file: Path) -> Any:
 
 
 def plain(frame: pd.DataFrame, codes: list[str]) -> pd.DataFrame:
-    """Codes as texts, empty where none exists; and single floats as the shortest decimals that are theirs: 0.3 and not 0.300000012."""
+    """Returns codes as texts, which are empty if missing, and single floats as their shortest decimals: 0.3 and not 0.300000012."""
     result = frame.copy()
     for name in frame.columns:
         if name in codes:
@@ -539,7 +539,7 @@ def pandas_separator(form: TableFormat) -> str:
 
 
 def joined(pieces: list[pd.DataFrame]) -> pd.DataFrame:
-    """One table of several, which are emptied column by column, so that no more than one column is held twice."""
+    """Returns one table of several, which are emptied column by column, so that no more than one column is held twice."""
     if len(pieces) == 1:
         return pieces[0]
     names = list(pieces[0].columns)
@@ -552,7 +552,7 @@ def joined(pieces: list[pd.DataFrame]) -> pd.DataFrame:
 
 
 def give_back_memory() -> None:
-    """Gives freed memory back to the system: what threads have freed is lost to others otherwise. Only glibc has the call."""
+    """Gives freed memory back to the system, since memory that threads have freed is lost to others otherwise. Only glibc has the call."""
     with suppress(AttributeError, OSError):
         ctypes.CDLL(None).malloc_trim(0)
 
@@ -565,7 +565,7 @@ def stacked(columns: list[pd.Series]) -> Any:
 
 
 def read_header(file: Path, form: TableFormat) -> list[str]:
-    """The names of a table's columns. Raises PlanError where it cannot be read."""
+    """Returns the names of a table's columns. Raises PlanError if it cannot be read."""
     try:
         with opened(file) as data, WholeText(data, encoding=form.encoding, errors=form.errors, newline="") as text:
             header = pd.read_csv(text, sep=pandas_separator(form), skiprows=form.skipped, nrows=0)

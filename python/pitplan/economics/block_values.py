@@ -92,16 +92,16 @@ def best_way(ways: tuple[Way, ...], factor: float) -> np.ndarray:
     best = np.zeros(len(ways[0].revenue), dtype=np.int8)
     if len(ways) == 1:
         return best
-    gain, revenue = worth(ways[0], factor), ways[0].revenue
+    gain, revenue = value_in(ways[0], factor), ways[0].revenue
     for number, way in enumerate(ways[1:], 1):
-        other = worth(way, factor)
+        other = value_in(way, factor)
         better = np.array((other > gain) | ((other == gain) & (way.revenue < revenue)), dtype=bool)
         best[better] = number
         gain, revenue = np.where(better, other, gain), np.where(better, way.revenue, revenue)
     return best
 
 
-def worth(way: Way, factor: float) -> np.ndarray:
+def value_in(way: Way, factor: float) -> np.ndarray:
     """Returns the value of each cell in a process at a revenue factor, without mining, in billionths."""
     return at_factor(factor, way.revenue, way.cost)
 
@@ -249,7 +249,11 @@ def recovery_notes(rows: ValuedRows, feed: Feed) -> list[str]:
     notes = []
     for metal in rows.project.metals:
         of_rocks = metal.recovery if isinstance(metal.recovery, dict) else {"": metal.recovery}
-        notes += [curve_note(rows, feed, metal, rock) for rock, share in of_rocks.items() if isinstance(share, Curve)]
+        notes += [
+            curve_note(rows, feed, metal, rock, curve=share)
+            for rock, share in of_rocks.items()
+            if isinstance(share, Curve)
+        ]
         if metal.tail_grade:
             notes.append(
                 f"constant tail of {metal.name}: {said_of(metal.tail_grade)} {metal.sign} of every tonne of feed are lost"
@@ -257,10 +261,8 @@ def recovery_notes(rows: ValuedRows, feed: Feed) -> list[str]:
     return notes
 
 
-def curve_note(rows: ValuedRows, feed: Feed, metal: Metal, rock: str) -> str:
+def curve_note(rows: ValuedRows, feed: Feed, metal: Metal, rock: str, *, curve: Curve) -> str:
     """Returns a note on a recovery curve, of a rock type or of all, with the number of blocks beyond its grades."""
-    curve = metal.recovery[rock] if isinstance(metal.recovery, dict) else metal.recovery
-    assert isinstance(curve, Curve)
     least, most = float(curve.points[0][0]), float(curve.points[-1][0])
     grades = rows.frame[metal.column].to_numpy() / feed.tonnes_of.floats()
     mine = (grades > 0) & ((rows.rock == rock) | (not isinstance(metal.recovery, dict)))
@@ -402,7 +404,7 @@ class Values:
 
     def value_bound(self, factor: float) -> np.ndarray:
         """Returns the same for either cut-off, if no cell has more revenue or less cost in any process than here."""
-        gain = np.maximum(np.max([worth(way, factor) for way in self.by_process], axis=0), 0)
+        gain = np.maximum(np.max([value_in(way, factor) for way in self.by_process], axis=0), 0)
         return total(gain, product(self.mining, -1000))
 
     def with_shared_nodes(self) -> Values:

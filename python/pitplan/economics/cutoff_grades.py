@@ -119,9 +119,9 @@ BINS = 8
 DECIMALS = 9
 
 
-def edges_of(worth: NDArray[np.float64], tonnes: NDArray[np.float64], count: int) -> NDArray[np.float64]:
+def edges_of(values: NDArray[np.float64], tonnes: NDArray[np.float64], count: int) -> NDArray[np.float64]:
     """Returns the values between `count` bins of nearly even tonnage, or fewer: each the middle between two adjacent values."""
-    found, place = np.unique(worth, return_inverse=True)
+    found, place = np.unique(values, return_inverse=True)
     if len(found) < 2 or count < 2:
         return np.zeros(0)
     through = np.cumsum(np.bincount(place, tonnes))

@@ -8,7 +8,7 @@ from __future__ import annotations
 
 from decimal import ROUND_HALF_EVEN, Context, Decimal
 
-from pitplan.config.economics import ABOVE, BOTH, GRADE_UNITS, PRICE_PLACES, Metal, Participation, Penalty, Smelter
+from pitplan.config.economics import ABOVE, BOTH, GRADE_UNITS, PRICE_PLACES, Metal, Participation, Penalty
 from pitplan.errors import PlanError
 
 SELLING, TREATMENT, REFINING, PARTICIPATION, FREIGHT = "selling", "treatment", "refining", "participation", "freight"
@@ -24,15 +24,12 @@ def rounded(value: Decimal) -> Decimal:
 def payable_share(metal: Metal) -> Decimal:
     """Returns the share of the recovered metal that is paid: `payable`, or less by the minimum deduction from the concentrate's grade."""
     terms = metal.smelter
-    if terms is None or not terms.minimum_deduction:
-        return Decimal(1) if terms is None else terms.payable
-    grade = grade_of(terms)
+    if terms is None:
+        return Decimal(1)
+    grade = terms.concentrate_grade
+    if grade is None or not terms.minimum_deduction:
+        return terms.payable
     return min(terms.payable, rounded((grade - terms.minimum_deduction) / grade))
-
-
-def grade_of(terms: Smelter) -> Decimal:
-    assert terms.concentrate_grade is not None
-    return terms.concentrate_grade
 
 
 def paid(metal: Metal, price: Decimal) -> Decimal:
@@ -44,9 +41,9 @@ def paid(metal: Metal, price: Decimal) -> Decimal:
 def concentrate(metal: Metal) -> Decimal:
     """Returns the dry tonnes of concentrate per recovered tonne or gram; 0 if the terms do not count them."""
     terms = metal.smelter
-    if terms is None or not terms.is_shipped:
+    if terms is None or terms.concentrate_grade is None or not terms.is_shipped:
         return Decimal(0)
-    return rounded(1 / (grade_of(terms) * GRADE_UNITS[metal.unit]))
+    return rounded(1 / (terms.concentrate_grade * GRADE_UNITS[metal.unit]))
 
 
 def charges(metal: Metal, price: Decimal) -> dict[str, Decimal]:

@@ -18,7 +18,7 @@ from pitplan.config.geometry import Haulage, Road
 from pitplan.config.material import Accepts
 from pitplan.config.project import Project
 from pitplan.core.decimals import Exact, Rounding, nearest, whole_and_places
-from pitplan.core.numeric_fields import at_row
+from pitplan.core.numeric_fields import at_row, demand_none
 from pitplan.core.tolerances import SUM_ERROR
 
 from .smelter_terms import charge_of_ore, paid, penalty_rates
@@ -366,19 +366,18 @@ class ValuedRows:
         yields = np.array(revenue.whole > 0, dtype=bool)
         a_tonne = self.processing_rate(yields).plus(self.every(costs.royalty_per_tonne))
         if self.roads:
-            a_tonne = self.with_haulage(a_tonne, yields)
+            a_tonne = self.with_haulage(a_tonne, yields, self.roads)
         amounts = {"revenue": revenue, "processing cost": feed.tonnes.times(a_tonne).plus(selling)}
         (gain, first), (cost, second) = (self.millionths(value, name) for name, value in amounts.items())
         return Weighed(gain, cost, metal, dict(zip(amounts, (first, second))))
 
-    def with_haulage(self, a_tonne: Exact, yields: np.ndarray) -> Exact:
+    def with_haulage(self, a_tonne: Exact, yields: np.ndarray, roads: Roads) -> Exact:
         """Returns the processing cost per tonne, with what ore costs more to haul than waste. Raises PlanError if it is below 0."""
-        assert self.roads is not None
-        found = a_tonne.plus(self.roads.ore_more)
+        found = a_tonne.plus(roads.ore_more)
         below = yields & np.array(found.whole < 0, dtype=bool)
         if below.any():
             columns, row = self.project.table, int(below.argmax())
-            less, cost = (float(it.floats()[row]) for it in (self.roads.ore_more, a_tonne))
+            less, cost = (float(it.floats()[row]) for it in (roads.ore_more, a_tonne))
             why = f"[haulage] hauling ore costs {-less:.6g} per tonne less than waste from here, more than its processing cost of {cost:.6g}"
             raise at_row(self.source, row, f"{columns.x}, {columns.y}, {columns.z}", why)
         return found
@@ -401,7 +400,6 @@ class ValuedRows:
         rounded, rounding = value.rounded(decimals)
         millionths = Exact(rounded, decimals).at(MILLIONTHS)
         too_great = np.array(millionths >= GREATEST, dtype=bool)
-        if too_great.any():
-            why = "the amount is 10^11 or more: give prices and costs in a larger unit of money"
-            raise at_row(self.source, int(too_great.argmax()), name, why)
+        why = "the amount is 10^11 or more: give prices and costs in a larger unit of money"
+        demand_none(too_great, self.source, name, why)
         return millionths.astype(np.int64), rounding

@@ -125,14 +125,14 @@ def write(stage: Path, folder: Folder, factor: float, progress: Progress) -> Non
     for name in fixed:
         options += ["--fixed", stage / name]
     (stage / PIT).write_bytes(program.call("solve", *options))
-    worth = demand_same(stage, folder, factor)
+    value = demand_same(stage, folder, factor)
     digests = hashes(stage, [MODEL, PREC, *fixed, CERTIFICATE, PIT, CHECKER.name])
     lines = "".join(f"{digest}  {name}\n" for name, digest in digests.items())
     (stage / HASHES).write_text(lines, encoding="ascii")
     record = {
         "title": folder.record["title"],
         "revenue_factor": factor,
-        "value_at_revenue_factor": str(worth),
+        "value_at_revenue_factor": str(value),
         "solver": folder.record["shells"]["solver"],
         "program": program.identity(),
         "files": digests,
@@ -174,13 +174,13 @@ def demand_same(stage: Path, folder: Folder, factor: float) -> Decimal:
     """Returns the value of the shell. Raises PlanError if the audited pit has other blocks than blocks.csv, or another value than shells.csv."""
     lines = (stage / PIT).read_text(encoding="ascii").split("\n")
     pit = np.array(lines[4:-1], dtype=np.int64)
-    worth = Decimal(lines[3].split()[1]) / 1000
+    value = Decimal(lines[3].split()[1]) / 1000
     shells = with_exact_factors(pd.read_csv(folder.path / names.SHELLS, dtype={"value_at_revenue_factor": str}))
     shells = shells.set_index("revenue_factor")
     ids, first = folder.blocks["id"].to_numpy(), folder.blocks["revenue_factor"].to_numpy()
     expected = ids[(first > 0) & (first <= factor)]
-    if not np.array_equal(np.intersect1d(pit, ids), expected) or worth != Decimal(
+    if not np.array_equal(np.intersect1d(pit, ids), expected) or value != Decimal(
         shells["value_at_revenue_factor"][factor]
     ):
         raise PlanError(f"{stage / PIT}: the audited pit is not the shell of revenue factor {factor_text(factor)}")
-    return worth
+    return value

@@ -10,18 +10,15 @@ from typing import Iterable
 import numpy as np
 import pandas as pd
 
+from pitplan.blockmodel.datamine import ABSENT, CHARACTERS, DATA, ENCODING, FIELD, HEAD, PAGE
 from pitplan.errors import PlanError
 from pitplan.results.folder import Folder
 from pitplan.results.pit_states import Shape
 
 from .planner_table import places_of
 
-# Words of a page and of its data, and bytes of a word; the definition has 24 words before its fields, of 7 words each.
-PAGE, DATA, WORD = 512, 508, 8
 # Words of a record and implicit fields together that older releases read, and letters of a name.
 MOST_FIELDS, LETTERS = 64, 8
-CHARACTERS, ENCODING = 4, "cp1252"
-ABSENT = -1e30
 # Names of columns of results that eight letters would cut.
 SHORT = {
     "revenue_factor": "RF",
@@ -124,7 +121,7 @@ def columns_of(blocks: pd.DataFrame, taken: set[str], left: set[str]) -> tuple[l
         renamed += [f"{name} is {short}"] if short != name.upper() else []
         column = blocks[name]
         if pd.api.types.is_numeric_dtype(column):
-            fields.append(DatamineField(short, 0, column.astype(float).fillna(ABSENT).to_numpy()))
+            fields.append(DatamineField(short, 0, column.astype(float).fillna(-ABSENT).to_numpy()))
         else:
             texts = column.astype(str).to_numpy(dtype=object)
             parts = -(-max(map(len, texts)) // CHARACTERS) or 1
@@ -168,7 +165,7 @@ def definition(fields: list[DatamineField], records: int, length: int) -> np.nda
     write(2, "", 2)
     write(4, "blocks of pitplan", 16)
     put(20, 0.0, sum(field.count for field in fields), pages + 1, records - (pages - 1) * per_page)
-    at, word = 24, 1
+    at, word = HEAD, 1
     for field in fields:
         for part in range(1, field.count + 1):
             write(at, field.name, 2)
@@ -178,8 +175,8 @@ def definition(fields: list[DatamineField], records: int, length: int) -> np.nda
             if field.parts:
                 write(at + 6, "", 1)
             else:
-                put(at + 6, float(field.values) if field.is_implicit else ABSENT)
-            at, word = at + 7, word + (not field.is_implicit)
+                put(at + 6, float(field.values) if field.is_implicit else -ABSENT)
+            at, word = at + FIELD, word + (not field.is_implicit)
     return page
 
 

@@ -82,7 +82,7 @@ def write_dxf(path: Path, folder: Folder, shape: Shape) -> list[str]:
     MissingPackage
         Without ezdxf.
     PlanError
-        As `stages_of` and `pit_topography.of_stage`.
+        As `stages_of` and `mesh.of_stage`.
     """
     ezdxf = load("ezdxf", "python3-ezdxf", "export --to dxf")
     drawing = ezdxf.new("R2010", units=6)

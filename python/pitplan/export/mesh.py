@@ -184,7 +184,7 @@ def of_stage(rock: np.ndarray, stage: Stage, grid: Grid, smooth: bool) -> tuple[
     Raises
     ------
     PlanError
-        If rock remains above a mined cell, or the two volumes differ by more than TOLERANCE.
+        If rock remains above a mined cell, or the two volumes differ by more than the share MESH_VOLUME.
     """
     heights = heights_of(rock, stage, grid)
     untouched = Heights(heights.before, heights.before)
@@ -217,7 +217,7 @@ def image_of(grid: Grid, cells: dict[str, np.ndarray], purpose: str) -> Any:
     MissingPackage
         Without VTK; `purpose` is what needs it.
     """
-    vtk, numpy_support = load("vtk", PACKAGE, purpose), load("vtk.util.numpy_support", PACKAGE, purpose)
+    vtk = load("vtk", PACKAGE, purpose)
     levels, rows, columns = grid.shape
     west, _, south, _, floor, _ = grid.extent()
     image = vtk.vtkImageData()
@@ -227,12 +227,28 @@ def image_of(grid: Grid, cells: dict[str, np.ndarray], purpose: str) -> Any:
     image.SetOrigin(float(x), float(y), floor)
     east = turn_of(grid.azimuth)
     image.SetDirectionMatrix(east.real, -east.imag, 0, east.imag, east.real, 0, 0, 0, 1)
-    for name, values in cells.items():
-        # VTK counts levels from the floor.
-        array = numpy_support.numpy_to_vtk(np.ascontiguousarray(grid.cube(values)[::-1]).ravel(), deep=True)
-        array.SetName(name)
-        image.GetCellData().AddArray(array)
+    # VTK counts levels from the floor.
+    add_values(image, {name: grid.cube(values)[::-1].ravel() for name, values in cells.items()}, purpose)
     return image
+
+
+def add_values(data: Any, values: dict[str, np.ndarray], purpose: str) -> None:
+    """Adds named arrays with a value per cell to data of VTK."""
+    for name, of_cells in values.items():
+        array = load("vtk.util.numpy_support", PACKAGE, purpose).numpy_to_vtk(of_cells, deep=True)
+        array.SetName(name)
+        data.GetCellData().AddArray(array)
+
+
+def points_and_cells(places: np.ndarray, corners: np.ndarray, purpose: str) -> tuple[Any, Any]:
+    """Returns vtkPoints at places in metres, shape (points, 3), and vtkCellArray with the points of each cell, shape (cells, corners)."""
+    vtk, numpy_support = load("vtk", PACKAGE, purpose), load("vtk.util.numpy_support", PACKAGE, purpose)
+    points, cells = vtk.vtkPoints(), vtk.vtkCellArray()
+    points.SetData(numpy_support.numpy_to_vtk(places, deep=True))
+    starts = np.arange(0, corners.size + 1, corners.shape[1])
+    arrays = (part.ravel().astype(np.int64) for part in (starts, corners))
+    cells.SetData(*(numpy_support.numpy_to_vtkIdTypeArray(part, deep=True) for part in arrays))
+    return points, cells
 
 
 def write_image(path: Path, grid: Grid, cells: dict[str, np.ndarray]) -> None:
@@ -247,9 +263,6 @@ def save(writer: Any, path: Path, data: Any) -> None:
     writer.SetInputData(data)
     if not writer.Write():
         raise PlanError(f"{path}: cannot be written")
-
-
-# Relative difference that is allowed between the volume of the mesh and that of the blocks.
 
 
 def write_stl(path: Path, folder: Folder, shape: Shape) -> list[str]:
@@ -300,17 +313,10 @@ def write_each(path: Path, folder: Folder, shape: Shape, kind: str, *, writer_of
 
 
 def of_ground(folder: Folder, stage: Stage, shape: Shape) -> tuple[Any, str]:
-    """Returns the ground at a stage as vtkPolyData, and a sentence on its volume. Raises PlanError as `pit_topography.of_stage`."""
-    vtk, numpy_support = load("vtk", PACKAGE, "a surface"), load("vtk.util.numpy_support", PACKAGE, "a surface")
+    """Returns the ground at a stage as vtkPolyData, and a sentence on its volume. Raises PlanError as `of_stage`."""
+    mesh = load("vtk", PACKAGE, "a surface").vtkPolyData()
     surface, said = of_stage(rock(folder), stage, folder.grid, shape.smooth)
-    points, triangles, mesh = vtk.vtkPoints(), vtk.vtkCellArray(), vtk.vtkPolyData()
-    points.SetData(numpy_support.numpy_to_vtk(places_of(folder.grid, surface.corners), deep=True))
-    starts = np.arange(0, 3 * len(surface.faces) + 1, 3, dtype=np.int64)
-    arrays = (
-        numpy_support.numpy_to_vtkIdTypeArray(part.ravel().astype(np.int64), deep=True)
-        for part in (starts, surface.faces)
-    )
-    triangles.SetData(*arrays)
+    points, triangles = points_and_cells(places_of(folder.grid, surface.corners), surface.faces, "a surface")
     mesh.SetPoints(points)
     mesh.SetPolys(triangles)
     return mesh, said

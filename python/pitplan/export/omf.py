@@ -3,7 +3,6 @@
 from __future__ import annotations
 
 import json
-import struct
 import uuid
 import zlib
 from pathlib import Path
@@ -13,14 +12,13 @@ import numpy as np
 import pandas as pd
 
 from pitplan.blockmodel.grid import Grid, turn_of
+from pitplan.blockmodel.omf import HEADER, MAGIC, VERSION
 from pitplan.results.folder import Folder
 from pitplan.results.names import TABLE
 from pitplan.results.pit_states import Shape
 
 from .planner_table import places_of
 
-MAGIC, VERSION = b"\x84\x83\x82\x81", b"OMF-v0.9.0"
-HEAD = struct.Struct("<4s32s16sQ")
 # A text column with at most this number of distinct values becomes categories with a legend.
 MOST_CATEGORIES = 1000
 # The format asks for dates. They are constant, so that equal results give equal files.
@@ -59,7 +57,7 @@ class Objects:
 def write_omf(path: Path, folder: Folder, shape: Shape) -> None:
     """Writes all cells of the grid with the columns of blocks.csv but the centroids. Cells without a row have no values. `shape` is not used."""
     with open(path, "wb") as handle:
-        handle.write(bytes(HEAD.size))
+        handle.write(bytes(HEADER.size))
         objects = Objects(handle, folder.record["files"].get(TABLE, ""))
         project = objects.identifier()
         element = str(uuid.uuid5(project, "blocks"))
@@ -82,7 +80,7 @@ def write_omf(path: Path, folder: Folder, shape: Shape) -> None:
         start = handle.tell()
         handle.write(json.dumps(objects.by_identifier).encode("utf-8"))
         handle.seek(0)
-        handle.write(HEAD.pack(MAGIC, VERSION, project.bytes, start))
+        handle.write(HEADER.pack(MAGIC, VERSION, project.bytes, start))
 
 
 def geometry_of(grid: Grid) -> dict[str, Any]:

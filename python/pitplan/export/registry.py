@@ -21,7 +21,7 @@ from pitplan.results.pit_states import FACTOR, GROUND, Shape, places_of
 from pitplan.results.rounding import heads_of
 
 from . import datamine, lines, mesh as mesh_export, omf, planner_table, xlsx
-from .mesh import PACKAGE, save, write_image
+from .mesh import PACKAGE, add_values, points_and_cells, save, write_image
 
 # Writes the shells of a folder, or the pits of a shape; returns notes, if any.
 Writer = Callable[[Path, Folder, Shape], Optional[list[str]]]
@@ -107,8 +107,9 @@ def write_vti(path: Path, folder: Folder, shape: Shape) -> None:
 
 def write_vtu(path: Path, folder: Folder, shape: Shape) -> None:
     """Writes the blocks with tonnes as VTK voxels, in metres, with the numeric columns of blocks.csv. `shape` is not used."""
-    vtk, numpy_support = load("vtk", PACKAGE, "a .vtu file"), load("vtk.util.numpy_support", PACKAGE, "a .vtu file")
-    grid, blocks = folder.grid, folder.blocks[folder.blocks[folder.record["tonnes"]] > 0]
+    purpose = "a .vtu file"
+    vtk, grid = load("vtk", PACKAGE, purpose), folder.grid
+    blocks = folder.blocks[folder.blocks[folder.record["tonnes"]] > 0]
     levels, rows, columns = grid.shape
     column, row, level = grid.indices(blocks["id"].to_numpy())
     corners = np.stack([column, row, levels - 1 - level], axis=1)[:, None] + CORNERS
@@ -118,19 +119,11 @@ def write_vtu(path: Path, folder: Folder, shape: Shape) -> None:
     steps = np.stack(
         [used % (columns + 1), used // (columns + 1) % (rows + 1), used // ((columns + 1) * (rows + 1))], axis=1
     )
-    points, cells = vtk.vtkPoints(), vtk.vtkCellArray()
-    points.SetData(numpy_support.numpy_to_vtk(places_of(grid, steps), deep=True))
-    each = np.arange(0, 8 * len(blocks) + 1, 8, dtype=np.int64)
-    cells.SetData(
-        *(numpy_support.numpy_to_vtkIdTypeArray(part.ravel().astype(np.int64), deep=True) for part in (each, at))
-    )
+    points, cells = points_and_cells(places_of(grid, steps), at.reshape(len(blocks), 8), purpose)
     mesh = vtk.vtkUnstructuredGrid()
     mesh.SetPoints(points)
     mesh.SetCells(vtk.VTK_VOXEL, cells)
-    for name in blocks.select_dtypes("number").columns:
-        array = numpy_support.numpy_to_vtk(blocks[name].to_numpy(), deep=True)
-        array.SetName(name)
-        mesh.GetCellData().AddArray(array)
+    add_values(mesh, {name: blocks[name].to_numpy() for name in blocks.select_dtypes("number")}, purpose)
     save(vtk.vtkXMLUnstructuredGridWriter(), path, mesh)
 
 

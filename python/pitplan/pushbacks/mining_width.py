@@ -55,7 +55,7 @@ class MinableArea:
         Room for every pushback: air and must-mine blocks.
     may : bool array
         What may be mined: neither excluded nor missing blocks, nor their successors.
-    worth : int64 array
+    value : int64 array
         The value of each cell at the revenue factor of the last pushback, in billionths of the currency.
     width : tuple, optional
         The rectangle of a pushback in blocks; None: any.
@@ -67,12 +67,12 @@ class MinableArea:
     tonnes: np.ndarray
     free: np.ndarray
     may: np.ndarray
-    worth: np.ndarray
+    value: np.ndarray
     width: Optional[Rectangle]
     bottom: Optional[Rectangle]
 
-    def worth_of(self, pit: np.ndarray) -> int:
-        return int(self.worth[pit].sum())
+    def value_of(self, pit: np.ndarray) -> int:
+        return int(self.value[pit].sum())
 
 
 def ground_of(plan: Plan, rules: PushbackRules) -> MinableArea:
@@ -84,8 +84,8 @@ def ground_of(plan: Plan, rules: PushbackRules) -> MinableArea:
     width, bottom = (
         None if wide is None else rectangle(wide, sides) for wide in (rules.min_mining_width, rules.min_bottom_width)
     )
-    tonnes, may, worth = (grid.cube(cells) for cells in (plan.values.tonnes, ~closed, plan.values.greatest_value(last)))
-    return MinableArea(plan, tonnes, free_of(plan), may, worth, width, bottom)
+    tonnes, may, value = (grid.cube(cells) for cells in (plan.values.tonnes, ~closed, plan.values.greatest_value(last)))
+    return MinableArea(plan, tonnes, free_of(plan), may, value, width, bottom)
 
 
 def unknown(plan: Plan) -> np.ndarray:
@@ -142,18 +142,18 @@ def best(pit: np.ndarray, ground: MinableArea) -> np.ndarray:
     """Returns the last pit made wide enough: the most valuable of itself, of it grown, and of it grown only in the pieces where that gains."""
     alone, more = lean(pit, ground), lean(grown(pit, ground), ground)
     pieces, count = ndimage.label(alone ^ more, TOUCHING)
-    gains = ndimage.sum_labels(np.where(more, 1.0, -1.0) * ground.worth.astype(float), pieces, np.arange(count + 1))
+    gains = ndimage.sum_labels(np.where(more, 1.0, -1.0) * ground.value.astype(float), pieces, np.arange(count + 1))
     some = lean(with_precedences(np.where((gains > 0)[pieces], more, alone), ground), ground)
-    return max((alone, more, some), key=ground.worth_of)
+    return max((alone, more, some), key=ground.value_of)
 
 
 def lean(pit: np.ndarray, ground: MinableArea) -> np.ndarray:
     """Returns the wide part of a last pit, without waste on which only the removed part depended, if that gains."""
     nothing = np.zeros_like(pit)
     whole = shrunk(pit, nothing, ground)
-    wanted = (ground.worth > 0).astype(bool) | (ground.free & (ground.tonnes > 0))
+    wanted = (ground.value > 0).astype(bool) | (ground.free & (ground.tonnes > 0))
     less = shrunk(with_precedences(whole & wanted, ground), nothing, ground)
-    return max((whole, less), key=ground.worth_of)
+    return max((whole, less), key=ground.value_of)
 
 
 def advanced(inner: np.ndarray, outer: np.ndarray, ground: MinableArea) -> np.ndarray:

@@ -26,8 +26,8 @@ from pitplan.results.rounding import OF_SHELLS
 from pitplan.scheduling import methods
 from planaudit import NOT_VERIFIED
 
-from . import columns as report, statements, table_one
-from .assumptions import selected_shell, topics
+from . import columns as report, statements
+from .assumptions import selected_shell, table_one, topics
 from .columns import TEMPLATES, Columns
 from .statements import BY_BLOCK, WrittenTable, of_hill, of_prices, physicals, picture, read_table, risks
 
@@ -153,7 +153,7 @@ def in_words(
         "assumptions": topics(project, "by_block" in record),
         "selection": selected_shell(project, record),
         "risks": risks(project, record, shells.loc[selected], cases),
-        "table_one": table_one.rows(project, record),
+        "table_one": table_one(project, record),
     }
 
 

@@ -148,7 +148,7 @@ def metal_of(folder: Folder, metal: dict[str, Any], solid: np.ndarray) -> dict[s
 def value_of(folder: Folder, solid: np.ndarray) -> dict[str, Any]:
     """Returns a byte per cell of the value per tonne at the base price once it is mined; 0 if it does not pay."""
     tonnes = folder.blocks[folder.record["tonnes"]].to_numpy()
-    value = np.where(solid, worths(folder.blocks) / np.where(solid, tonnes, 1.0), 0.0)
+    value = np.where(solid, mined_values(folder.blocks) / np.where(solid, tonnes, 1.0), 0.0)
     sign = f"{folder.record['money'].get('currency', '')} per t".strip()
     return {"name": "value", "sign": sign, **tinted(folder, np.maximum(value, 0.0))}
 
@@ -176,13 +176,13 @@ def rows_of(folder: Folder) -> str:
     """Returns the rows of blocks.csv with the value of each mined block at the base price; of a large table those of mined blocks."""
     blocks = folder.blocks
     written = pd.read_csv(folder.path / TABLE, dtype=str, keep_default_na=False, na_values={})
-    written["undiscounted_cash_flow"] = worths(blocks).round(6)
+    written["undiscounted_cash_flow"] = mined_values(blocks).round(6)
     return written[(blocks["revenue_factor"] > 0).to_numpy() | (len(blocks) <= MOST_ROWS)].to_csv(
         index=False, lineterminator="\n"
     )
 
 
-def worths(blocks: pd.DataFrame) -> pd.Series:
+def mined_values(blocks: pd.DataFrame) -> pd.Series:
     """Returns the value of each block once it is mined: the gain of its best process, if above 0, less the mining cost."""
     pairs = [
         (name, name.replace("revenue", "processing_cost", 1))

@@ -103,18 +103,14 @@ PLAN = {
     "metals": [{"name": TEXT, "column": TEXT, "sign": TEXT}],
     "project": Lacking(PATH),
     "verified": Lacking([TEXT]),
-    "inputs": Lacking({"*": SHA256}),
-    "files": Lacking({"*": SHA256}),
+    "inputs": {"*": SHA256},
+    "files": {"*": SHA256},
     "shells": Lacking(SHELLS),
     "pushbacks": Lacking(whole(1, 100_000)),
     "schedule": Lacking(TEXT),
     "by_block": Lacking(TRUTH),
     "figures": Lacking(TRUTH),
 }
-
-# The verification requires the grid, and checks the other parts where they are present.
-LAID = {key: kind if key == "grid" or isinstance(kind, Lacking) else Lacking(kind) for key, kind in PLAN.items()}
-LAID["shells"] = Lacking({key: kind if key == "revenue_factors" else Lacking(kind) for key, kind in SHELLS.items()})
 
 
 class Reader:
@@ -124,7 +120,7 @@ class Reader:
         self.path, self.again = path, again
 
     def read(self, kind: Any) -> dict[str, Any]:
-        """The record. Raises PlanError, with the part, where it is not of this kind, and OSError where it cannot be opened."""
+        """Reads a record. Raises PlanError, with the part, if it is not of this kind, and OSError if it cannot be opened."""
         try:
             record = json.loads(self.path.read_text(encoding="utf-8"))
         except (ValueError, RecursionError) as error:
@@ -136,7 +132,7 @@ class Reader:
         return PlanError(f"{self.path}: {f'{where}: ' if where else ''}{why}: run {self.again} again")
 
     def demand(self, value: Any, kind: Any, where: str) -> None:
-        """Raises PlanError where a part is of another kind."""
+        """Raises PlanError if a part is of another kind."""
         if isinstance(kind, Expectation):
             if not kind.holds(value):
                 raise self.wrong(where, f"found {cut(json.dumps(value, ensure_ascii=False))}, expected {kind.expected}")
@@ -168,32 +164,27 @@ class Reader:
             self.demand(item, kinds[number] if count is not None else kinds[0], f"{where}[{number}]")
 
 
-def read_plan(path: Path, is_whole: bool = True) -> dict[str, Any]:
-    """What plan.json says; while a run is verified it has no hashes yet. Raises PlanError as `Reader.read` does."""
-    reader = Reader(path, "pitplan shells")
-    record = reader.read(PLAN if is_whole else LAID)
-    demand_plan(reader, record)
-    for key in ("inputs", "files", *(("project", "verified") if "shells" in record else ())):
-        if is_whole and key not in record:
-            raise reader.wrong(key, "is missing")
-    return record
-
-
 def demand_plan(reader: Reader, record: dict[str, Any]) -> None:
-    """Raises PlanError where parts of the right kinds do not fit each other."""
+    """Raises PlanError if parts of the right kinds do not fit each other."""
     levels, rows, columns = record["grid"]["shape"]
     if levels * rows * columns > MOST_CELLS:
         raise reader.wrong("grid.shape", f"found {levels} x {rows} x {columns} cells, expected {MOST_CELLS:,} at most")
     shells = record.get("shells", {})
     if "selected" in shells and shells["selected"] not in shells["revenue_factors"]:
         raise reader.wrong("shells.selected", f"found {shells['selected']}, expected one of the revenue factors")
-    for name in record.get("files", ()):
+    for name in record["files"]:
         reader.demand(name, FILE, "files")
+    for key in ("project", "verified") if "shells" in record else ():
+        if key not in record:
+            raise reader.wrong(key, "is missing")
 
 
 def read_record(folder: Path) -> dict[str, Any]:
-    """What plan.json says. Raises PlanError where a part of it is missing or of another kind, and OSError where it cannot be opened."""
-    return read_plan(folder / RECORD)
+    """Reads plan.json. Raises PlanError if a part of it is missing or of another kind, and OSError if it cannot be opened."""
+    reader = Reader(folder / RECORD, "pitplan shells")
+    record = reader.read(PLAN)
+    demand_plan(reader, record)
+    return record
 
 
 @dataclass(frozen=True)
@@ -217,14 +208,14 @@ class Folder:
         return list(self.record["shells"]["revenue_factors"])
 
     def mined(self, factor: float) -> NDArray[Any]:
-        """Whether the pit of a factor mines rock of a cell; a truth for each level (from the top), row and column."""
+        """Returns whether the pit of a factor mines rock of a cell; shape (levels from the top, rows, columns)."""
         first, grid = self.blocks["revenue_factor"], self.grid
         mined = (first > 0) & (first <= factor) & (self.blocks[self.record["tonnes"]] > 0)
         return grid.cube(grid.spread(mined.to_numpy(), fill=False))
 
 
 def read_folder(path: Path) -> Folder:
-    """Raises PlanError where `pitplan shells` has not written the folder, or a file has changed since."""
+    """Raises PlanError if `pitplan shells` has not written the folder, or a file has changed since."""
     try:
         record = read_record(path)
         for name, digest in record["files"].items():
@@ -243,7 +234,7 @@ def read_folder(path: Path) -> Folder:
 
 
 def demand_blocks(blocks: pd.DataFrame, record: dict[str, Any], path: Path) -> None:
-    """Raises PlanError where blocks.csv and plan.json do not fit each other."""
+    """Raises PlanError if blocks.csv and plan.json do not fit each other."""
     wrong = f"{path / RECORD}: does not fit {TABLE}"
     numbers = ["id", "revenue_factor", record["tonnes"], *(metal["column"] for metal in record["metals"])]
     for name in [*numbers, *record["codes"]]:

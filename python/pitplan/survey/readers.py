@@ -15,13 +15,12 @@ import numpy as np
 
 from pitplan.config.keys import FARTHEST
 from pitplan.config.table import SurveyFile
-from pitplan.core.numeric_fields import at_row, numbers_of
+from pitplan.core.numeric_fields import demand_none, numbers_of
 from pitplan.core.text_tables import Fields, TableFormat, demand_columns, guessed_separator, read_columns
 from pitplan.errors import PlanError
 
-from . import dxf, gdal, surpac
-from .gdal import MapBox
-from .layers import Layer, chosen, named
+from . import layers as files
+from .layers import MAPS, RASTERS, Layer, MapBox, chosen, named
 
 TABLES = (".csv", ".txt", ".dat", ".xyz", ".gz", ".zip")
 DRAWING, STRINGS = ".dxf", ".str"
@@ -54,19 +53,19 @@ class Areas:
 
 
 def topography(file: SurveyFile, around: MapBox) -> Topography:
-    """The heights of a file; of a raster those round a box.
+    """Reads the heights of a file; of a raster the part around a box.
 
-    Raises PlanError, with the file and its layer, where it cannot be read or has no heights, and MissingPackage, with the Debian package,
-    where what reads it is not installed.
+    Raises PlanError, with the file and its layer, if it cannot be read or has no heights, and MissingPackage, with the Debian package, if its
+    reader is not installed.
     """
-    ending = ending_of(file, (*gdal.MAPS, *gdal.RASTERS))
-    if file.height is not None and ending not in gdal.MAPS:
-        raise PlanError(f"{file.path}: has heights of its own: height is a field of {', '.join(gdal.MAPS)}")
+    ending = ending_of(file, (*MAPS, *RASTERS))
+    if file.height is not None and ending not in MAPS:
+        raise PlanError(f"{file.path}: has heights of its own: height is a field of {', '.join(MAPS)}")
     if ending in TABLES:
         return demand_points(Topography(numbers_in(file.path, ("x", "y", "z")), NO_FACES), file)
-    if ending in gdal.RASTERS:
+    if ending in RASTERS:
         with reading(file.path):
-            points, faces = gdal.raster(file.path, around)
+            points, faces = files.raster(file.path, around)
         return demand_points(Topography(points, faces, (told(file, f"{len(points):,} cells of the raster"),)), file)
     layers, notes = layers_of(file)
     if any(layer.faces for layer in named(layers, file).values()):
@@ -84,8 +83,8 @@ def topography(file: SurveyFile, around: MapBox) -> Topography:
 
 
 def areas(file: SurveyFile) -> Areas:
-    """The polygons of a file. Raises PlanError and MissingPackage as `topography` does, and PlanError where it has no polygons."""
-    if ending_of(file, tuple(gdal.MAPS)) in TABLES:
+    """Reads the polygons of a file. Raises PlanError and MissingPackage as `topography` does, and PlanError if the file has no polygons."""
+    if ending_of(file, tuple(MAPS)) in TABLES:
         corners = numbers_in(file.path, ("x", "y"))
         if len(corners) < 3:
             raise PlanError(f"{file.path}: a polygon has three corners or more")
@@ -104,7 +103,7 @@ def areas(file: SurveyFile) -> Areas:
 
 
 def ending_of(file: SurveyFile, by_gdal: tuple[str, ...]) -> str:
-    """What a file's name ends with, in small letters. Raises PlanError where nothing reads such, or where it is no file."""
+    """Returns the ending of a file's name in lower case. Raises PlanError if no reader is for that ending, or if it is no file."""
     path, ending = file.path, file.path.suffix.lower()
     endings = (*TABLES, DRAWING, STRINGS, *by_gdal)
     if ending not in endings:
@@ -112,23 +111,23 @@ def ending_of(file: SurveyFile, by_gdal: tuple[str, ...]) -> str:
         raise PlanError(f"{path}: {why}: give one of {', '.join(endings)}")
     if not path.is_file():
         raise PlanError(f"{path}: cannot be read: {'is a folder' if path.is_dir() else 'No such file or directory'}")
-    if file.layers and ending in (*TABLES, *gdal.RASTERS):
+    if file.layers and ending in (*TABLES, *RASTERS):
         raise PlanError(f"{path}: has no layers: leave out layer")
     return ending
 
 
 def layers_of(file: SurveyFile) -> tuple[dict[str, Layer], list[str]]:
-    """The layers of a drawing, of strings or of a map, and notes."""
+    """Returns the layers of a drawing, of strings or of a map, and notes."""
     ending = file.path.suffix.lower()
     with reading(file.path):
         if ending == DRAWING:
-            return dxf.layers_of(file)
-        return (surpac.layers_of(file.path) if ending == STRINGS else gdal.layers_of(file)), []
+            return files.drawing_layers(file.path, file.state)
+        return (files.string_layers(file.path) if ending == STRINGS else files.map_layers(file)), []
 
 
 @contextmanager
 def reading(path: Path) -> Iterator[None]:
-    """Raises PlanError in place of any error that a reader of others raises in the middle of a file that is cut short or bent."""
+    """Raises PlanError in place of any error that a library raises for a file that is cut short or damaged."""
     try:
         yield
     except (PlanError, MemoryError):
@@ -168,7 +167,7 @@ def in_layers(layers: dict[str, Layer]) -> str:
 
 
 def numbers_in(file: Path, names: tuple[str, ...]) -> np.ndarray:
-    """Columns of a CSV file as numbers. Raises PlanError, with file, row and column, where one is missing or is no number."""
+    """Returns columns of a CSV file as numbers. Raises PlanError, with file, row and column, if a column is missing or a field is no number."""
     frame = read_columns(
         file,
         TableFormat(guessed_separator(file, "utf-8-sig"), ".", "utf-8-sig"),
@@ -177,6 +176,5 @@ def numbers_in(file: Path, names: tuple[str, ...]) -> np.ndarray:
     demand_columns(frame, list(names), str(file))
     columns = [numbers_of(frame[name], str(file), name) for name in names]
     for name, numbers in zip(names, columns):
-        if np.isnan(numbers).any():
-            raise at_row(str(file), int(np.isnan(numbers).argmax()), name, "is empty")
+        demand_none(np.isnan(numbers), str(file), name, "is empty")
     return np.stack(columns, axis=1)

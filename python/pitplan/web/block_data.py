@@ -28,7 +28,7 @@ from pitplan.results.names import RECORD
 from pitplan.results.rounding import unit_in
 from pitplan.survey import readers
 
-from .kept import FileCache
+from .workspace import FileCache
 
 # Whole numbers from 1 that have a colour each, 0 being none; the colour map of each.
 STAGES = {"pushback": "viridis_r", "year": "plasma_r", "period": "plasma_r"}

@@ -3,6 +3,7 @@
 from __future__ import annotations
 
 from collections.abc import Sequence
+from contextlib import suppress
 from dataclasses import asdict, dataclass, field, replace
 from pathlib import Path
 from typing import Any, Optional
@@ -73,54 +74,51 @@ class Tables:
     folder: Path
     record: dict[str, Any]
     project: Project
-    kept: dict[str, Optional[pd.DataFrame]] = field(default_factory=dict)
+    kept: dict[str, pd.DataFrame] = field(default_factory=dict)
 
-    def get(self, name: str) -> Optional[pd.DataFrame]:
-        """Returns a table; None if it does not exist or cannot be read."""
+    def get(self, name: str) -> pd.DataFrame:
+        """Returns a table. Raises OSError or ValueError if it does not exist or cannot be read."""
         if name not in self.kept:
-            try:
-                self.kept[name] = pd.read_csv(self.folder / name, keep_default_na=True)
-            except (OSError, ValueError):
-                self.kept[name] = None
+            self.kept[name] = pd.read_csv(self.folder / name, keep_default_na=True)
         return self.kept[name]
 
-    def shown(self, name: str) -> Optional[pd.DataFrame]:
-        """Returns the rows of the schedule that is shown, with the period as a column `period`."""
+    def shown(self, name: str) -> pd.DataFrame:
+        """Returns the rows of the schedule that is shown, with the period as a column `period`. Raises as `get` does."""
         table = self.get(name)
-        if table is None:
-            return None
         if "method" in table:
             table = table[table["method"] == self.record.get("schedule", table["method"].iloc[-1])]
         return table.rename(columns={"year": "period"}) if "period" not in table else table
+
+    def by_period(
+        self, name: str, title: str, values: Sequence[Any], series: list[Series], table: str, *, units: tuple[str, str]
+    ) -> Chart:
+        """Returns a chart of a table by period, with the units of both scales."""
+        word, categories = self.project.shells.calendar.word, [f"{int(it)}" for it in values]
+        return Chart(name, title, word, categories, series, *units, table)
 
 
 def charts_of(folder: Path, record: dict[str, Any], project: Project) -> list[Chart]:
     """Returns the charts of an output folder, without those whose tables are missing or have other columns."""
     tables, found = Tables(folder, record, project), []
     for make in (pit_by_pit, by_pushback, by_destination, head_grades, metal, cash_flow):
-        try:
-            chart = make(tables)
-        except (KeyError, IndexError, TypeError, ValueError):
-            chart = None
-        found += [chart] if chart and chart.categories else []
-    return found
+        with suppress(OSError, KeyError, IndexError, TypeError, ValueError):
+            found.append(make(tables))
+    return [chart for chart in found if chart.categories]
 
 
 def numbers(values: Sequence[Any], by: float = 1.0) -> list[Optional[float]]:
     return [float(it) / by if np.isfinite(it) else None for it in values]
 
 
-def pit_by_pit(tables: Tables) -> Optional[Chart]:
-    """Returns tonnes and NPV by revenue factor."""
+def pit_by_pit(tables: Tables) -> Chart:
+    """Returns tonnes and NPV by revenue factor. Raises KeyError without NPVs."""
     shells = tables.get(names.SHELLS)
-    if shells is None or "npv_best" not in shells:
-        return None
     money = f"M {tables.project.economics.currency}"
     cases = [("npv_best", "NPV, best case"), ("npv_specified", "NPV, specified case"), ("npv_worst", "NPV, worst case")]
     lines = [
         Series(words, LINE, LINES[k], numbers(shells[name], MILLION), RIGHT)
         for k, (name, words) in enumerate(cases)
-        if name in shells
+        if name in shells or name == "npv_best"
     ]
     bars = [
         Series("in-situ ore", BAR, ORE, numbers(shells["in_situ_ore_tonnes"], MILLION)),
@@ -132,11 +130,9 @@ def pit_by_pit(tables: Tables) -> Optional[Chart]:
     return replace(chart, mark=factor_text(float(selected)), says="selected shell") if selected else chart
 
 
-def by_pushback(tables: Tables) -> Optional[Chart]:
+def by_pushback(tables: Tables) -> Chart:
     """Returns tonnes and strip ratio by pushback."""
     found = tables.get(names.PUSHBACKS)
-    if found is None:
-        return None
     series = [
         Series("in-situ ore", BAR, ORE, numbers(found["in_situ_ore_tonnes"], MILLION)),
         Series("waste", BAR, WASTE, numbers(found["waste_tonnes"], MILLION)),
@@ -146,19 +142,15 @@ def by_pushback(tables: Tables) -> Optional[Chart]:
     return Chart("pushbacks", "Pushbacks", "pushback", number, series, "Mt", "t of waste per t of ore", names.PUSHBACKS)
 
 
-def by_destination(tables: Tables) -> Optional[Chart]:
+def by_destination(tables: Tables) -> Chart:
     """Returns the tonnes mined in each period by destination."""
     flows = tables.shown(names.MATERIAL_FLOWS)
-    if flows is None:
-        return None
     mined = flows[flows["source"] == "pit"].pivot_table("total_tonnes", "period", "destination", "sum", fill_value=0.0)
     known = colours_of(tables.project)
     order = sorted(mined.columns, key=lambda it: (list(known).index(it) if it in known else len(known), it))
     series = [Series(str(it), BAR, known.get(str(it), WASTE), numbers(mined[it], MILLION)) for it in order]
-    word = tables.project.shells.calendar.word
-    return Chart(
-        "flows", "Tonnes mined by destination", word, periods(mined.index), series, "Mt", "", names.MATERIAL_FLOWS
-    )
+    title = "Tonnes mined by destination"
+    return tables.by_period("flows", title, mined.index, series, names.MATERIAL_FLOWS, units=("Mt", ""))
 
 
 def colours_of(project: Project) -> dict[str, str]:
@@ -173,15 +165,9 @@ def colours_of(project: Project) -> dict[str, str]:
     }
 
 
-def periods(values: Sequence[Any]) -> list[str]:
-    return [f"{int(it)}" for it in values]
-
-
-def head_grades(tables: Tables) -> Optional[Chart]:
+def head_grades(tables: Tables) -> Chart:
     """Returns mill feed and head grades of each process by period."""
     feed = tables.shown(names.FEED)
-    if feed is None:
-        return None
     known, project = colours_of(tables.project), tables.project
     by = {name: part.set_index("period") for name, part in feed.groupby("process", sort=False)}
     index = sorted(set(feed["period"]))
@@ -200,15 +186,13 @@ def head_grades(tables: Tables) -> Optional[Chart]:
         )
         for k, (name, part) in enumerate(by.items())
     ]
-    word, sign = project.shells.calendar.word, f"{first.name}, {first.sign}"
-    return Chart("feed", "Mill feed and head grade", word, periods(index), [*bars, *lines], "Mt", sign, names.FEED)
+    units = ("Mt", f"{first.name}, {first.sign}")
+    return tables.by_period("feed", "Mill feed and head grade", index, [*bars, *lines], names.FEED, units=units)
 
 
-def metal(tables: Tables) -> Optional[Chart]:
+def metal(tables: Tables) -> Chart:
     """Returns the recovered metal by period, each metal on a scale of its own; the first two."""
     found = tables.shown(names.CASH_FLOW)
-    if found is None:
-        return None
     both = tables.project.metals[:2]
     scale = {"t": (1e3, "kt"), "g": (31.1034768e3, "koz")}
     kinds = ((BAR, ORE, LEFT), (LINE, LINES[0], RIGHT))
@@ -216,35 +200,16 @@ def metal(tables: Tables) -> Optional[Chart]:
         Series(it.name, kind, colour, numbers(found[f"recovered_{it.name}"], scale[it.quantity][0]), axis)
         for it, (kind, colour, axis) in zip(both, kinds)
     ]
-    units = [f"{it.name}, {scale[it.quantity][1]}" for it in both]
-    word = tables.project.shells.calendar.word
-    return Chart(
-        "metal",
-        "Recovered metal",
-        word,
-        periods(found["period"]),
-        series,
-        units[0],
-        units[1] if len(units) > 1 else "",
-        names.CASH_FLOW,
-    )
+    left, right = [*(f"{it.name}, {scale[it.quantity][1]}" for it in both), ""][:2]
+    return tables.by_period("metal", "Recovered metal", found["period"], series, names.CASH_FLOW, units=(left, right))
 
 
-def cash_flow(tables: Tables) -> Optional[Chart]:
+def cash_flow(tables: Tables) -> Chart:
     """Returns the cash flow of each period, and the discounted cash flow to date."""
-    found = tables.shown(names.CASH_FLOW)
-    if found is None:
-        return None
-    money = f"M {tables.project.economics.currency}"
+    found, money = tables.shown(names.CASH_FLOW), f"M {tables.project.economics.currency}"
+    to_date = numbers(found["discounted_cash_flow"].cumsum(), MILLION)
     series = [
         Series("cash flow", BAR, ORE, numbers(found["cash_flow"], MILLION)),
-        Series(
-            "discounted cash flow to date",
-            LINE,
-            LINES[0],
-            numbers(found["discounted_cash_flow"].cumsum(), MILLION),
-            RIGHT,
-        ),
+        Series("discounted cash flow to date", LINE, LINES[0], to_date, RIGHT),
     ]
-    word = tables.project.shells.calendar.word
-    return Chart("cash_flow", "Cash flow", word, periods(found["period"]), series, money, money, names.CASH_FLOW)
+    return tables.by_period("cash_flow", "Cash flow", found["period"], series, names.CASH_FLOW, units=(money, money))

@@ -11,15 +11,19 @@ from urllib.parse import quote
 from starlette.requests import Request
 from starlette.responses import RedirectResponse, Response
 from starlette.routing import Route
+from tomlkit.items import Table
 
+from pitplan.config import toml_text
+from pitplan.config.project_writer import shown as toml_of
 from pitplan.errors import PlanError
 
-from . import changes, grids, project_text, values_form
+from . import grids, project_text, values_form
+from .draft import Draft, Path as Place
 from .grids import KINDS
 from .pages import PageGroup, form_of
 from .project_text import Changed, Editor, Forms
 from .run_form import WrongForm
-from .values_form import FormValues
+from .values_form import NUMBER, FormValues
 from .workspace import NotThere
 
 # A letter of the text has up to twelve in the form; a grid has a thousand rows.
@@ -114,7 +118,7 @@ class EditPages(PageGroup):
 
         def change(forms: Forms) -> str:
             project_text.demand_seen(path, name, form.get("seen", ""))
-            return changes.with_named_process(forms.editor.text, form.get("name", "").strip())
+            return with_named_process(forms.editor.text, form.get("name", "").strip())
 
         def again(forms: Forms, error: PlanError) -> dict[str, Any]:
             return {"grid": replace(forms.grids["processes"], wrong=str(error))}
@@ -149,9 +153,9 @@ class EditPages(PageGroup):
         factors = [it for it in form.get("factors", "").split(",") if it]
         project_text.demand_seen(path, name, form.get("seen", ""))
         if form.get("use") == "pushbacks":
-            text = changes.with_pushbacks(editor.text, factors)
+            text = with_pushbacks(editor.text, factors)
         else:
-            text = changes.with_shell(editor.text, factors[0] if len(factors) == 1 else "")
+            text = with_shell(editor.text, factors[0] if len(factors) == 1 else "")
         self.write(path, name, Editor(text, form.get("seen", "")))
         return saved(name, "schedule")
 
@@ -167,3 +171,80 @@ def status_of(error: PlanError) -> int:
 def saved(name: str, kind: str, place: str = "") -> Response:
     """Returns the way to the page of a project, at the form that was saved."""
     return RedirectResponse(f"/project?name={quote(name)}&saved={kind}#{place or kind}", status_code=303)
+
+
+MOST_FACTORS = 100
+# The keys of one process without a name, and those of its entry in [[processes]].
+MOVED: dict[Place, Place] = {
+    ("economics", "processing_cost"): ("cost",),
+    ("shells", "processing_capacity"): ("capacity",),
+    ("schedule", "feed"): ("feed",),
+}
+
+
+def with_shell(text: str, factor: str) -> str:
+    """Returns a project's text with a selected shell. Raises WrongForm if the revenue factor is no number."""
+    demand_number(factor)
+    draft = Draft(text)
+    draft.set(("shells", "selected"), factor)
+    return draft.text
+
+
+def with_pushbacks(text: str, factors: list[str]) -> str:
+    """Returns a project's text whose pushbacks have these revenue factors, in place of a count or tonnes. Raises WrongForm if one is no number."""
+    if not factors or len(factors) > MOST_FACTORS:
+        raise WrongForm(
+            f"Pushbacks: found {len(factors)} shells, expected 1 to {MOST_FACTORS}: click bars of the chart"
+        )
+    for factor in factors:
+        demand_number(factor)
+    draft = Draft(text)
+    if not isinstance(draft.at(("pushbacks",)) or {}, dict):
+        raise WrongForm("Pushbacks: [pushbacks] is not written as a section: change it in the text")
+    draft.set(("pushbacks", "revenue_factors"), f"[{', '.join(sorted(factors, key=float))}]")
+    for key in ("count", "tonnes", "ultimate_pit"):
+        draft.remove(("pushbacks", key))
+    return draft.text
+
+
+def demand_number(factor: str) -> None:
+    if not NUMBER.fullmatch(factor) or len(factor) > 10:
+        raise WrongForm(
+            f"Shell: found {factor[:10]!r}, expected a revenue factor such as 0.80: click a bar of the chart"
+        )
+
+
+def with_named_process(text: str, process: str) -> str:
+    """Returns a project's text whose only process has a name, so that others can be added.
+
+    Its cost, capacity, recoveries and limits on head grades move to `[[processes]]`. Raises WrongForm if the project names processes already,
+    or if the name is empty.
+    """
+    draft, data = Draft(text), toml_text.parsed(text, "project")
+    if draft.at(("processes",)) is not None:
+        raise WrongForm("Processes: the project names them already: add a row to the grid")
+    if not process:
+        raise WrongForm("Name of the process: found nothing, expected a name such as mill")
+    metals = draft.at(("metals",)) or []
+    moved = MOVED | {
+        ("metals", k, "recovery"): ("recovery", str(metal.get("name", k + 1))) for k, metal in enumerate(metals)
+    }
+    keys: dict[Place, str] = {("name",): toml_of(process)}
+    for place, key in moved.items():
+        if draft.at(place) is not None:
+            keys[key] = written(draft, data, place)
+    for place in moved:
+        draft.remove(place)
+    draft.insert(("processes",), 0, keys)
+    return draft.text
+
+
+def written(draft: Draft, data: Any, place: Place) -> str:
+    """Returns the value of a key as the text has it, on one line."""
+    item = draft.at(place)
+    text = "" if item is None or isinstance(item, Table) else item.as_string().strip()
+    if text and "\n" not in text:
+        return text
+    for key in place:
+        data = data[key]
+    return toml_of(data)

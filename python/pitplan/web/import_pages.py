@@ -1,34 +1,114 @@
-"""The pages that import a block model: the form, the file that it sends, and what the file was recognised as."""
+"""The pages that import a block model: the form, the file that it sends, what the file was recognised as, and other roles for its columns."""
 
 from __future__ import annotations
 
 import json
 import os
-from collections.abc import AsyncIterator
+import threading
+from collections.abc import AsyncIterator, Mapping
 from contextlib import suppress
 from dataclasses import dataclass
+from functools import cache, cached_property
 from pathlib import Path
-from typing import Any
+from typing import TYPE_CHECKING, Any
 
 from starlette.concurrency import run_in_threadpool
 from starlette.requests import ClientDisconnect, Request
-from starlette.responses import JSONResponse, Response
+from starlette.responses import JSONResponse, RedirectResponse, Response
 from starlette.routing import Route
 
 from pitplan.core import staging
-from pitplan.errors import PlanError
+from pitplan.core.atomic_files import hash_of
+from pitplan.errors import WARNING, PlanError
 
-from . import import_roles
-from .import_roles import Recognised, RolePages
 from .jobs import DONE, IMPORT, Job
-from .pages import PageGroup, in_words, number_of, threaded
+from .pages import MOST_BYTES, PageGroup, form_of, in_words, number_of, threaded
 from .run_form import WrongForm, plain
 from .workspace import NotThere, Workspace
+
+# The modules of block models need pandas, which is loaded when a page needs it.
+if TYPE_CHECKING:
+    from pitplan.blockmodel.guesses import Role, TableRows
+
+# The names of fields that hold the role of a column begin with this, those of options of the command with the other.
+PREFIX, OPTION = "role:", "--role="
+
+
+@cache
+def groups() -> dict[str, list[tuple[str, str]]]:
+    """Returns the roles to choose from, by their keys and in words, in groups."""
+    from pitplan.blockmodel.guesses import METALS, ROLE_WORDS, Role
+    from pitplan.config.economics import GRADE_SIGNS
+
+    def named(*keys: str) -> list[tuple[str, str]]:
+        return [(key, ROLE_WORDS[key]) for key in keys]
+
+    grades = {
+        f"Grade, {sign}": [(Role(metal, unit).text, f"grade of {metal}, {sign}") for metal in METALS.values()]
+        for unit, sign in GRADE_SIGNS.items()
+    }
+    return {
+        "": named("unused"),
+        "Place": named("x", "y", "z", "xinc", "yinc", "zinc"),
+        "Amount": named("tonnes", "density", "volume", "rock_percent", "mcaf", "pcaf"),
+        "Code": named("id", "rock_type", "domain", "class"),
+        **grades,
+    }
+
+
+@dataclass(frozen=True)
+class Recognised:
+    """What `pitplan init` found in a block model.
+
+    Attributes
+    ----------
+    columns : list of dict
+        Column, role, unit, nulls, least, mean, greatest, why and set (the role as `--role` has it), as texts.
+    figure : str
+        The path of the figure from the folder that is served; empty without one.
+    project_hash : str
+        SHA-256 of the project as written.
+    """
+
+    notes: list[str]
+    warnings: list[str]
+    columns: list[dict[str, str]]
+    figure: str
+    project_hash: str
+
+
+class RowsOfLast:
+    """The rows of the file that was read last: a change of a role does not read it again."""
+
+    def __init__(self) -> None:
+        self.lock, self.key = threading.Lock(), ("", 0, 0)
+        self.rows: TableRows | None = None
+
+    def of(self, file: Path) -> TableRows:
+        """Returns the rows of a file. Raises PlanError if it cannot be read."""
+        from pitplan.blockmodel import guesses
+
+        with self.lock:
+            try:
+                state = file.stat()
+            except OSError as error:
+                raise PlanError(f"{file.name}: cannot be read: {error.strerror}: import it again") from error
+            key = (str(file), state.st_mtime_ns, state.st_size)
+            if self.rows is None or key != self.key:
+                self.rows = None
+                self.rows, self.key = guesses.rows_of(file), key
+            return self.rows
+
+
+def table_of(job: Job) -> str:
+    """Returns the name of the block model of an import."""
+    return job.words[1].removeprefix("./")
+
 
 # The formats that are taken, by their endings.
 ENDINGS = (".csv", ".csv.gz", ".zip", ".omf", ".dm")
 # The most bytes of a file, and of a part that is written.
-MOST_BYTES, PART = 4 << 30, 1 << 20
+MOST_OF_FILE, PART = 4 << 30, 1 << 20
 MOST_LETTERS = 100
 PROJECT = "project.toml"
 # Below the folder that is served: files that are not whole yet.
@@ -125,9 +205,9 @@ def demand_room(workspace: Workspace, upload: Upload) -> None:
 
 def demand_size(length: int) -> None:
     """Raises WrongForm if a file is too large."""
-    if length > MOST_BYTES:
+    if length > MOST_OF_FILE:
         raise WrongForm(
-            f"Block model: has more than {MOST_BYTES >> 30} GiB: pack it as .csv.gz, or copy it into the folder "
+            f"Block model: has more than {MOST_OF_FILE >> 30} GiB: pack it as .csv.gz, or copy it into the folder "
             "that is served and run pitplan init"
         )
 
@@ -158,12 +238,12 @@ async def receive(parts: AsyncIterator[bytes], workspace: Workspace, upload: Upl
 
 
 async def drain(parts: AsyncIterator[bytes]) -> None:
-    """Reads what is still sent of a file that is refused, up to MOST_BYTES, since a browser shows the answer only after it has sent all."""
+    """Reads what is still sent of a file that is refused, up to MOST_OF_FILE, since a browser shows the answer only after it has sent all."""
     count = 0
     with suppress(ClientDisconnect):
         async for part in parts:
             count += len(part)
-            if count > MOST_BYTES:
+            if count > MOST_OF_FILE:
                 return
 
 
@@ -198,7 +278,11 @@ def settle(partial: Path, workspace: Workspace, upload: Upload) -> None:
 
 
 class ImportPages(PageGroup):
-    """The pages of an import."""
+    """The pages of an import, and of a change of roles."""
+
+    @cached_property
+    def last(self) -> RowsOfLast:
+        return RowsOfLast()
 
     @property
     def routes(self) -> list[Route]:
@@ -207,7 +291,8 @@ class ImportPages(PageGroup):
             Route("/import/check", in_words(threaded(self.check))),
             Route("/import/file", in_words(self.file), methods=["PUT"]),
             Route("/imported", self.pages.answering(self.imported)),
-            *RolePages(self.pages, self.recognised).routes,
+            Route("/import/preview", in_words(threaded(self.preview, 16 * MOST_BYTES)), methods=["POST"]),
+            self.posted("/import/roles", self.write_roles, 16 * MOST_BYTES),
         ]
 
     def form(self, request: Request) -> Response:
@@ -216,7 +301,7 @@ class ImportPages(PageGroup):
             title="Import a block model",
             root=self.workspace.root,
             endings=ENDINGS,
-            most=MOST_BYTES >> 30,
+            most=MOST_OF_FILE >> 30,
         )
 
     def check(self, request: Request) -> Response:
@@ -259,7 +344,7 @@ class ImportPages(PageGroup):
             title=f"Block model of {job.folder}",
             job=job,
             found=self.recognised(job),
-            groups=import_roles.groups(),
+            groups=groups(),
         )
 
     def recognised(self, job: Job) -> Recognised:
@@ -272,6 +357,47 @@ class ImportPages(PageGroup):
             return Recognised(*parts)
         except (ValueError, KeyError, TypeError) as error:
             raise NotThere(f"job {job.number}: its answer cannot be read: open its project") from error
+
+    def preview(self, request: Request) -> Response:
+        """The project that follows from other roles, which nothing writes: its text, the columns, and the warnings."""
+        from pitplan.blockmodel import guesses, wizard
+
+        form = form_of(request)
+        job = self.jobs.read(number_of(form.get("number", "")))
+        roles = self.roles_of(job, form)
+        model = guesses.model_of(self.last.of(self.workspace.place(table_of(job))), roles)
+        text, found = wizard.project_of(model, self.workspace.root / job.project)
+        warnings = [it.removeprefix(WARNING) for it in found.warnings]
+        return JSONResponse({"text": text, "columns": found.records, "warnings": warnings})
+
+    def write_roles(self, request: Request) -> Response:
+        """Starts the job that writes the project again with other roles."""
+        form = form_of(request)
+        job = self.jobs.read(number_of(form.get("number", "")))
+        roles = self.roles_of(job, form)
+        path = self.workspace.place(job.project)
+        if hash_of(path) != self.recognised(job).project_hash:
+            raise WrongForm(
+                f"{job.project}: has changed since the block model was imported: change its columns in its text, "
+                "or import the file under another name"
+            )
+        words = [f"{OPTION}{column}={role.text}" for column, role in roles.items()]
+        words = [IMPORT, job.words[1], f"--out={job.project}", *words, "--replace", "--figures", "--json"]
+        again = self.jobs.ask(tuple(words), job.project, job.folder)
+        return RedirectResponse(f"/job?number={again.number}", status_code=303)
+
+    def roles_of(self, job: Job, form: Mapping[str, str]) -> dict[str, Role]:
+        """Returns the roles of a form that differ from the guesses, and those that the import had. Raises PlanError if one is wrong."""
+        from pitplan.blockmodel.guesses import demand_each_once, role_of_text
+
+        texts = dict(word.removeprefix(OPTION).rpartition("=")[::2] for word in job.words if word.startswith(OPTION))
+        for it in self.recognised(job).columns:
+            text = form.get(PREFIX + it["column"], it["set"])
+            if text != it["set"]:
+                texts[it["column"]] = text
+        roles = {column: role_of_text(column, text) for column, text in texts.items()}
+        demand_each_once(roles)
+        return roles
 
 
 def size_of(text: str) -> int:

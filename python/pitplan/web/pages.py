@@ -34,12 +34,11 @@ from pitplan.errors import PlanError
 from . import project_text, results_page, run_form
 from .grids import FormGrid
 from .jobs import DONE, EXPORT, IMPORT, Job, Jobs, steps_of
-from .kept import FileCache
 from .project_text import Editor, Forms
 from .run_form import COMMANDS, OPTIONS, AskedCommand, WrongForm
 from .security import SANDBOX
 from .values_form import FormValues
-from .workspace import RECORDS, NotThere, Workspace, shown
+from .workspace import RECORDS, FileCache, NotThere, Workspace, shown
 
 # Charts need pandas, which is loaded when a page needs it.
 if TYPE_CHECKING:

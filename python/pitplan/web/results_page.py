@@ -22,8 +22,7 @@ from pitplan.errors import WARNING, PlanError
 from pitplan.results.names import TABLE
 from pitplan.results.rounding import heads_of
 
-from .kept import FileCache
-from .workspace import RECORDS, Workspace
+from .workspace import RECORDS, FileCache, Workspace
 
 # Charts need pandas, which is loaded when a page needs it.
 if TYPE_CHECKING:

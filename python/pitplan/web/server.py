@@ -29,8 +29,7 @@ from pitplan.core import input_places
 from pitplan.core.libraries import load
 from pitplan.errors import PlanError
 
-from .area_pages import AreaPages
-from .block_pages import BlockPages
+from .block_pages import AreaPages, BlockPages
 from .edit_pages import EditPages
 from .import_pages import ImportPages
 from .jobs import Jobs

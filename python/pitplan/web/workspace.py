@@ -1,21 +1,84 @@
-"""The projects and the results below a folder, and paths that never lead out of it."""
+"""The projects and the results below a folder, paths that never lead out of it, and what was read from files, kept while these are unchanged."""
 
 from __future__ import annotations
 
 import json
 import os
-from collections.abc import Collection, Iterator
+import threading
+from collections import OrderedDict
+from collections.abc import Callable, Collection, Hashable, Iterator, Sequence
 from dataclasses import dataclass, field
 from datetime import datetime
 from pathlib import Path
-from typing import Any
+from typing import Any, Generic, TypeVar
 
 from pitplan.config import project_writer, toml_text
 from pitplan.core import layout
 from pitplan.errors import PlanError
 from pitplan.results import names
 
-from .kept import FileCache
+Value = TypeVar("Value")
+
+
+# A path, and what changes if its file does: a new file in its place has another inode.
+State = tuple[str, int, int, int]
+
+
+class FileCache(Generic[Value]):
+    """Values that were read from files, each by its key. Threads may share it.
+
+    Parameters
+    ----------
+    most : int
+        How many are kept: the one that was asked for longest ago goes first.
+    """
+
+    def __init__(self, most: int) -> None:
+        self.most, self.lock = most, threading.Lock()
+        # By key the value, and the states of its files before it was read.
+        self.entries: OrderedDict[Hashable, tuple[Sequence[State], Value]] = OrderedDict()
+
+    def of(
+        self,
+        key: Hashable,
+        files: Sequence[Path],
+        read: Callable[[], Value],
+        *,
+        keeps: Callable[[Value], bool] = lambda value: True,
+    ) -> Value:
+        """Returns the value of a key: the kept one if its files are unchanged, otherwise the one that `read` returns, which is kept if `keeps` says so.
+
+        Raises
+        ------
+        PlanError
+            If a file does not exist.
+        """
+        states = [state_of(file) for file in files]
+        with self.lock:
+            known = self.entries.get(key)
+            if known and known[0] == states:
+                self.entries.move_to_end(key)
+                return known[1]
+        # Other keys do not wait for slow files.
+        found = read()
+        with self.lock:
+            self.entries.pop(key, None)
+            if keeps(found):
+                self.entries[key] = states, found
+                while len(self.entries) > self.most:
+                    self.entries.popitem(last=False)
+        return found
+
+
+def state_of(file: Path) -> State:
+    """Returns what changes if a file does. Raises PlanError if it does not exist."""
+    try:
+        state = file.stat()
+    except (OSError, ValueError) as error:
+        why = getattr(error, "strerror", None) or str(error)
+        raise PlanError(f"{file.name}: cannot be read: {why}: run the command again") from error
+    return str(file), state.st_ino, state.st_mtime_ns, state.st_size
+
 
 # Folders below the one that is served are searched to this depth.
 DEPTH = 5
