@@ -10,6 +10,7 @@ from conftest import PROGRAM, TOP
 
 sys.path.insert(0, str(TOP / "tools"))
 
+import clone  # noqa: E402
 import mutants as tool  # noqa: E402
 from mutation import crate_tests, edits, lock, program_tests, proofs, prover, states  # noqa: E402
 from mutation.clauses import mismatch, refused_at  # noqa: E402
@@ -179,7 +180,8 @@ def test_refusals_and_survivors_by_kind(mutant: edits.Mutant) -> None:
 def test_a_copy_has_the_proofs_of_a_module_out(tmp_path: pathlib.Path) -> None:
     proofs.copy_crates(tmp_path, ["faults", "report"])
     assert (tmp_path / "crates" / "report" / "proofs" / "out").is_dir()
-    assert not (tmp_path / "crates" / "report" / "out").exists()
+    left = tmp_path / "crates" / "report" / "out"
+    assert not left.exists() or {it.name for it in left.iterdir()} <= {clone.COMPILED}
     assert [line.partition(":")[0] for line in (tmp_path / "crates.txt").read_text().splitlines() if line[0] != "#"] == ["faults", "report"]
 
 

@@ -2,7 +2,8 @@
 
 A definition that could change in one quantifier, sign or number while all stays proved would be pinned by the reader's eye alone. A proof
 that breaks shows little: it may repeat the definition. So a mutant names a function whose contract is false by the changed definition,
-and only that function is proved, in a copy of its crate. The crates below it are proved once for each copy.
+and only that function is proved, in a copy of its crate. A copy takes the compiled crates below from the folders `out/` of this
+checkout, as `rt check` leaves them; where there is none, or one of other sources, the crate is proved once for each copy.
 """
 
 import concurrent.futures
@@ -14,16 +15,16 @@ import subprocess
 import tempfile
 from collections.abc import Iterator
 
-from clone import keep_only, left_out
+from clone import keep_only, link_compiled, unneeded
 from crates import TOP, in_order
 from mutation.edits import Mutant, planted_in
 from mutation.outcomes import Outcome
 
 
 def copy_crates(folder: pathlib.Path, names: list[str]) -> None:
-    """These crates, without what proofs have left in their folders."""
+    """These crates; of what proofs have left in their folders only the compiled crates."""
     for name in names:
-        shutil.copytree(TOP / "crates" / name, folder / "crates" / name, ignore=left_out)
+        shutil.copytree(TOP / "crates" / name, folder / "crates" / name, ignore=unneeded, copy_function=link_compiled)
     shutil.copy(TOP / "crates.txt", folder)
     shutil.copy(TOP / "HANDLES", folder)
     keep_only(folder, set(names))
