@@ -21,7 +21,8 @@ from pitplan.figures import schedule
 from pitplan.results.folder import read_record
 from pitplan.scheduling.blocks import from_plan
 
-RULES = ["block order", "block limits", "block value", "upper bound", "inventory", "cash flow", "grade tonnage"]
+RULES = ["block order", "block limits", "block value", "upper bound", "inventory", "feed and limits", "cash flow"]
+RULES += ["grade tonnage"]
 
 
 def test_three_pillars_by_hand(plan_folder):
@@ -243,7 +244,7 @@ def test_what_is_right_passes(copied, capsys):
     assert wrong(copied) == set()
     assert main(["verify", str(copied)]) == 0
     told = [line.split(":")[0] for line in capsys.readouterr().out.splitlines()]
-    assert told[-8:] == [*RULES, "verified"]
+    assert told[-9:] == [*RULES, "verified"]
     record = read_record(copied)
     assert "block_schedule.json" in record["files"] and any(
         line.startswith("block order") for line in record["verified"]
@@ -336,10 +337,10 @@ def test_a_mined_out_surface_is_scheduled_around(plan_folder):
 
 @pytest.mark.parametrize("times", [0.0, 0.9, 1.5])
 def test_multipliers_that_are_others_are_found(copied, times):
-    """All together. Any multipliers give a bound, and these a greater one."""
+    """All together. Any multipliers give a bound, and these a greater one, and other shadow prices."""
     table = pd.read_csv(copied / "tables/bound.csv", float_precision="round_trip")
     table.assign(price=table["price"] * times).to_csv(copied / "tables/bound.csv", index=False)
-    assert wrong(copied) == {"upper bound"}
+    assert wrong(copied) == {"upper bound", "feed and limits"}
 
 
 @pytest.mark.parametrize(
@@ -355,8 +356,8 @@ def test_multipliers_that_are_others_are_found(copied, times):
 def test_multipliers_of_other_limits_are_found(copied, change, said):
     path = copied / "tables/bound.csv"
     change(pd.read_csv(path)).to_csv(path, index=False)
-    (rule,) = [rule for rule in verify(copied) if rule.differences]
-    assert rule.name == "upper bound" and said in rule.differences[0]
+    (rule,) = [rule for rule in verify(copied) if rule.name == "upper bound"]
+    assert said in rule.differences[0]
     path.unlink()
     (rule,) = [rule for rule in verify(copied) if rule.differences]
     assert rule.differences == ("bound.csv is missing",)

@@ -173,4 +173,4 @@ def test_other_multipliers_of_a_head_grade_are_found(mixed, change):
     assert mine.sum() == 1 and (table["price"][mine] > 0).all()
     table.loc[mine, "price"] = change(table["price"][mine])
     table.to_csv(mixed / "tables/bound.csv", index=False)
-    assert wrong(mixed) == {"upper bound"}
+    assert wrong(mixed) == {"upper bound", "feed and limits"}

@@ -352,4 +352,21 @@ def test_a_cutoff_is_the_price_of_the_capacity(plan_folder):
     for column in ("feed_tonnes", "head_grade_copper", "cutoff", "realised_cutoff"):
         changed = shutil.copytree(folder, folder.parent / column)
         rewrite(changed / "tables/feed.csv", lambda it: it.__setitem__(column, it[column] + 1))
-        assert wrong(changed) == {"feed"}
+        assert wrong(changed) == {"feed and limits"}
+
+
+def test_limits_have_their_use_and_shadow_prices(plan_folder):
+    """A pillar a year of three: the mill is full, the shovels too, and what one more tonne of a limit earns is its multiplier."""
+    _, folder = block_commands.scheduled(plan_folder, "[schedule]\nyears = 3\nminimum = { feed = 40 }\n")
+    found = pd.read_csv(folder / "tables/limits.csv")
+    feed, rock = (found[found["limit"] == name] for name in ("feed_tonnes", "total_tonnes"))
+    assert found["limit"].tolist() == ["feed_tonnes", "total_tonnes"] * 3
+    assert feed["used"].tolist() == feed["maximum"].tolist() == [100] * 3 and feed["minimum"].tolist() == [40] * 3
+    assert (
+        rock["used"].tolist() == [200] * 3 and rock["minimum"].isna().all() and rock["utilisation"].tolist() == [1] * 3
+    )
+    assert feed["shadow_price"].tolist() == pytest.approx(table(folder, "feed")["cutoff"].tolist(), abs=1e-6)
+    for column in ("used", "minimum", "maximum", "utilisation", "shadow_price"):
+        changed = shutil.copytree(folder, folder.parent / f"limit_{column}")
+        rewrite(changed / "tables/limits.csv", lambda it: it.__setitem__(column, it[column] + 1))
+        assert wrong(changed) == {"feed and limits"}

@@ -38,7 +38,7 @@ def schedule():
     }
     grid = SimpleNamespace(toes=lambda: np.array([10.0, 0.0]))
     project = SimpleNamespace(economics=SimpleNamespace(currency="USD"), metals=(METAL,))
-    project.processes, project.schedule = (), None
+    project.processes, project.schedule, project.shells = (), None, problem.settings
     pushbacks = SimpleNamespace(plan=SimpleNamespace(grid=grid, project=project), factors=(0.5, 1.0))
     model, nothing = without_flows(problem, 3), np.zeros((0, 3))
     cumulative, cash = np.array([[1.0, 1, 1], [0.5, 1, 1], [0, 0.5, 1]]), np.array([300.0, 700, 300])

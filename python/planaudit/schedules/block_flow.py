@@ -12,7 +12,7 @@ import pandas as pd
 
 from planaudit.inputs.answer import Answer
 from planaudit.inputs.matching import own_name
-from planaudit.inputs.tables import TABLES, YEAR, read_table
+from planaudit.inputs.tables import TABLES, YEAR, read_prices, read_table
 from planaudit.rules import TOLD, Checks, Rule, rule
 from planaudit.schedules import (
     block_grades,
@@ -35,6 +35,8 @@ CASE = "block"
 SLIGHT = 1e-9
 # The last decimals of all shares of a block.
 SHARE = 1e-6
+# The columns with texts of the tables of feed and limits.
+TEXTS = {"feed.csv": ["method", "process"], limit_table.FILE: ["method", "limit"]}
 
 
 @dataclass(frozen=True)
@@ -83,7 +85,7 @@ def checks_of(answer: Answer, told: dict[str, Any]) -> Checks:
     flow = flow_of(answer)
     found: Checks = {
         "inventory": lambda: [inventory.rule_of([*untaken(flow), *inventory.unlike_rows(flow)])],
-        "feed": lambda: [verify_feed(flow, told)],
+        "feed and limits": lambda: [verify_feed(flow, told)],
         "cash flow": lambda: [cash_flow.verify(flow, [CASE])],
         "grade tonnage": lambda: [grade_tonnage.verify(answer)],
     }
@@ -97,17 +99,20 @@ def checks_of(answer: Answer, told: dict[str, Any]) -> Checks:
 def verify_feed(flow: MaterialFlow, told: dict[str, Any]) -> Rule:
     """Verifies that feed.csv has the sums of blocks by process and year, limits.csv the use of each limit, and both the prices of bound.csv."""
     answer, last = flow.answer, int(flow.rows["year"].max()) if len(flow.rows) else 0
-    said = read_table(answer.folder / TABLES / "feed.csv", ["method", "process"])
-    rows, prices = limit_table.read(answer)
-    assert prices is not None
+    tables = answer.folder / TABLES
+    holds = "feed and the use of limits are sums over blocks, and cut-offs and shadow prices are multipliers"
+    said, rows = (read_table(tables / name, texts) for name, texts in TEXTS.items())
+    found = [*material_flow.unlike_feed(flow, said), *material_flow.unlike_realised(flow, said)]
+    if not (tables / bounds.FILE).is_file():
+        # The rule of the upper bound says so.
+        return rule("feed and limits", holds, found[:TOLD], len(found))
+    prices = read_prices(tables / bounds.FILE)
     # By block the price of a minimum is below 0, and that of all years is shown in the last one.
     prices = prices.assign(price=np.where(prices["side"] == bounds.MIN, -prices["price"], prices["price"]))
     prices.loc[prices["year"] == 0, "year"] = last
     table = limit_table.LimitTable(answer, by_year(answer, max(last, 1)), prices, told["years"])
-    found = [*material_flow.unlike_feed(flow, said), *material_flow.unlike_realised(flow, said)]
     found += [*table.unlike_cutoffs(said), *table.unlike(CASE, rows, lambda name: used(flow, name, last), last)]
-    holds = "feed, head grades, metal and the use of limits are sums over blocks, and cut-offs and shadow prices are multipliers"
-    return rule("feed", holds, found[:TOLD], len(found))
+    return rule("feed and limits", holds, found[:TOLD], len(found))
 
 
 def used(flow: MaterialFlow, name: str, last: int) -> tuple[pd.Series, pd.Series]:

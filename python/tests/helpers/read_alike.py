@@ -29,6 +29,8 @@ PLAIN = {
     "ByDomain": lambda it: {"domain": it.values},
     "ClassRules": lambda it: it.given,
     "Curve": lambda it: it.points,
+    "Reblock": lambda it: {"counts": it.counts}
+    | {key: getattr(it, key) if any(it.size) else None for key in ("size", "corner")},
     "RowRules": lambda it: as_audited(it),
 }
 

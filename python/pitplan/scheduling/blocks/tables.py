@@ -390,8 +390,9 @@ def uses_of_limits(blocks: BlockSchedule) -> Iterator[LimitUse]:
         name, placed = f"{DUMP}{it.name}", by_year(f"{DUMP}{it.name}")
         low, high = (values[:count] for values in limits.dumped(it.name, max(count, 1)))
         if any(limit.name == name for limit in planned.problem.limits):
-            sides = low if low.any() else nothing, np.where(np.isfinite(high), high, nothing)
-            yield LimitUse(name, placed, *sides, blocks.shadow_price(name)[:count])
+            least_of_dump = low if low.any() else nothing
+            most_of_dump = np.where(np.isfinite(high), high, nothing)
+            yield LimitUse(name, placed, least_of_dump, most_of_dump, blocks.shadow_price(name)[:count])
         if it.capacity is not None:
             name, room = f"{DUMPED}{it.name}", np.full(count, float(it.capacity))
             yield LimitUse(name, placed.cumsum(), nothing, room, blocks.shadow_price(name)[:count])
