@@ -9,12 +9,11 @@ from pathlib import Path
 from typing import Any, Mapping
 
 from pitplan.config.project import Project, load
-from pitplan.core.atomic_files import hash_of
 
 from . import keys
 from .keys import place
 
-__all__ = ["AS_RUN", "as_run", "as_run_or_edited", "lines_of", "of_project", "place", "shown", "write"]
+__all__ = ["AS_RUN", "as_run", "lines_of", "of_project", "place", "shown", "write"]
 
 # A section: values by key. A key whose value is None is left out.
 Values = Mapping[str, Any]
@@ -57,16 +56,6 @@ def as_run(folder: Path, place_of_first: str) -> Project:
     """
     first, text = folder / place_of_first, folder / AS_RUN
     return replace(load(text), path=first) if text.is_file() else load(first)
-
-
-def as_run_or_edited(folder: Path, record: dict[str, Any]) -> Project:
-    """The project of a run into a folder. If the file that it was read from has changed since the run, the project of that file.
-
-    Raises PlanError, and OSError if the file cannot be read.
-    """
-    first = folder / record["project"]
-    is_edited = record.get("inputs", {}).get(first.name, "") != hash_of(first)
-    return load(first) if is_edited else as_run(folder, record["project"])
 
 
 def lines_of(values: Values, name: str) -> list[str]:
