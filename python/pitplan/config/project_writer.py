@@ -23,7 +23,7 @@ AS_RUN = "project-as-run.toml"
 
 
 def of_project(project: Project, folder: Path) -> str:
-    """The project.toml for a file in this folder. Paths in it are relative to the folder. It has no solver."""
+    """Returns the text of a project.toml in a folder, to which its paths are relative. It has no solver."""
     sections: dict[str, Any] = {}
     for name, value in keys.write(project, folder).items():
         sections[name] = without_processes(name, value) if project.processes else value
@@ -37,7 +37,7 @@ def of_project(project: Project, folder: Path) -> str:
 
 
 def without_processes(name: str, value: Any) -> Any:
-    """A section without the keys that each process has in their place."""
+    """Returns a section without the keys that each process has in their place."""
     record = keys.keys_of(Project)[name].kind.record
     left = {key for key, it in keys.keys_of(record).items() if it.of_processes} if record else set()
     if isinstance(value, list):
@@ -50,7 +50,7 @@ def write(project: Project, path: Path, folder: Path) -> None:
 
 
 def as_run(folder: Path, place_of_first: str) -> Project:
-    """The project of a run into a folder. Its path is that of the file that it was read from: the record gives this relative to the folder.
+    """Returns the project of a run into a folder. Its path is that of the file that it was read from, which the record gives relative to the folder.
 
     If the folder has no text, as those of earlier releases, the file itself is read. Raises PlanError.
     """
@@ -59,7 +59,7 @@ def as_run(folder: Path, place_of_first: str) -> Project:
 
 
 def lines_of(values: Values, name: str) -> list[str]:
-    """The keys of a section, and behind them its own lists of sections."""
+    """Returns the keys of a section as lines, and behind them its own lists of sections."""
     given = {key: value for key, value in values.items() if value is not None}
     of_sections = {
         key: value for key, value in given.items() if isinstance(value, list) and value and isinstance(value[0], dict)
