@@ -185,7 +185,7 @@ def test_a_code_of_a_frame_holds_no_nul_byte(plan_folder, column):
 def begun(tmp_path, table):
     (tmp_path / "model.csv").write_text(table if isinstance(table, str) else table.to_csv(index=False))
     with pytest.raises(PlanError) as said:
-        wizard.write(tmp_path / "model.csv", tmp_path / "project.toml")
+        wizard.write_project(tmp_path / "model.csv", tmp_path / "project.toml")
     assert not (tmp_path / "project.toml").exists()
     return str(said.value)
 

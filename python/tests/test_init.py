@@ -81,7 +81,7 @@ def test_increments_a_density_and_decimal_commas(tmp_path):
 def test_grams_a_tonne_and_regions(tmp_path):
     more = {"region": lambda i, j, k: "NE" if i < 4 else "SW", "cu": lambda i, j, k: 12000.0 if k == 1 else 30.0}
     exported(tmp_path / "m.csv", SURPAC, "\t", **more)
-    wizard.write(tmp_path / "m.csv", tmp_path / "project.toml")
+    wizard.write_project(tmp_path / "m.csv", tmp_path / "project.toml")
     _, project = said(tmp_path / "project.toml")
     assert (project.metals[0].name, project.metals[0].unit, project.metals[0].price) == (
         "copper",
@@ -94,7 +94,7 @@ def test_grams_a_tonne_and_regions(tmp_path):
 
 def test_semicolons_do_not_make_decimals_of_commas(tmp_path):
     exported(tmp_path / "m.csv", SURPAC, ";")
-    told = wizard.write(tmp_path / "m.csv", tmp_path / "project.toml")
+    told = wizard.write_project(tmp_path / "m.csv", tmp_path / "project.toml").lines
     assert "the fields are separated by semicolons" in told and "decimals are written with a comma" not in told
     assert load(tmp_path / "project.toml").table.decimal in (None, ".")
 
@@ -102,7 +102,7 @@ def test_semicolons_do_not_make_decimals_of_commas(tmp_path):
 def test_a_volume_and_a_density(tmp_path):
     more = {"volume": lambda i, j, k: 1000.0 - k, "density": lambda i, j, k: 2.5 + i}
     exported(tmp_path / "m.csv", VULCAN, **more)
-    wizard.write(tmp_path / "m.csv", tmp_path / "project.toml")
+    wizard.write_project(tmp_path / "m.csv", tmp_path / "project.toml")
     table, plan = rows(8, 8, 4, **more), Plan.from_project(tmp_path / "project.toml")
     assert plan.table["tonnes"].tolist() == (table["volume"] * table["density"]).tolist()
     assert load(tmp_path / "project.toml").metals[0].column == "cu (%)"
@@ -110,7 +110,7 @@ def test_a_volume_and_a_density(tmp_path):
 
 def test_ids_and_letters_of_windows(tmp_path):
     exported(tmp_path / "m.csv", DESWIK, encoding="cp1252")
-    wizard.write(tmp_path / "m.csv", tmp_path / "project.toml")
+    wizard.write_project(tmp_path / "m.csv", tmp_path / "project.toml")
     _, project = said(tmp_path / "project.toml")
     assert (project.table.id, project.table.encoding, project.table.rock_type) == ("Block ID", None, None)
     assert (project.table.x, project.table.y, project.table.z) == ("Easting", "Northing", "RL")
@@ -138,7 +138,7 @@ def test_the_project_runs_as_it_stands(tmp_path, capsys):
 
 def test_each_guess_says_why(tmp_path):
     exported(tmp_path / "m.csv", SURPAC)
-    wizard.write(tmp_path / "m.csv", tmp_path / "project.toml")
+    wizard.write_project(tmp_path / "m.csv", tmp_path / "project.toml")
     why, _ = said(tmp_path / "project.toml")
     assert why.count("by its name") == 6
     assert "unit from the column name" in why
@@ -184,7 +184,7 @@ def test_rows_without_tonnes_are_counted_and_are_no_blocks(tmp_path, headings, c
         headings,
         **{**more, column: lambda i, j, k: float("nan") if (i, j) == (0, 0) and k < count else 2.5},
     )
-    told = wizard.write(tmp_path / "m.csv", tmp_path / "project.toml")
+    told = wizard.write_project(tmp_path / "m.csv", tmp_path / "project.toml").lines
     column = {"tonnes": "tonnage", "density": "DENSITY"}.get(column, column)
     assert f"WARNING: {count} rows are read as missing blocks, since {column} is null" in told
     assert load(tmp_path / "project.toml").table.rules.nulls.meaning(column, "refuse") == "missing"
@@ -238,14 +238,14 @@ def test_ore_a_year_is_by_taylors_rule(tmp_path):
     """
     table = rows(8, 8, 4, cu=lambda i, j, k: 0.16 if k == 1 else 0.15, tonnes=lambda i, j, k: 250_000)
     table.to_csv(tmp_path / "m.csv", index=False)
-    wizard.write(tmp_path / "m.csv", tmp_path / "project.toml")
+    wizard.write_project(tmp_path / "m.csv", tmp_path / "project.toml")
     assert load(tmp_path / "project.toml").shells.processing_capacity == 1_300_000
 
 
 def test_sub_blocks_and_empty_grades_are_told(tmp_path):
     more = {**INCREMENTS, "density": lambda i, j, k: 2.5, "dx": lambda i, j, k: 10.0 if i else 5.0}
     exported(tmp_path / "m.csv", DATAMINE, **{**more, "cu": lambda i, j, k: 2.0 if k else float("nan")})
-    told = wizard.write(tmp_path / "m.csv", tmp_path / "project.toml")
+    told = wizard.write_project(tmp_path / "m.csv", tmp_path / "project.toml").lines
     parts = "cells have several sizes: parts of blocks are put together to blocks of the largest cell's size"
     assert f"WARNING: {parts}" in told
     assert "x: centres in XC from 5 to 75 m, by its name" in told
@@ -266,7 +266,7 @@ def test_what_cannot_be_guessed_is_named(tmp_path, dropped, why):
     table = rows(3, 3, 3, cu=lambda i, j, k: 0.5 * (i + j) + 0.1 * k).drop(columns=[dropped, "name"])
     table.to_csv(tmp_path / "m.csv", index=False)
     with pytest.raises(PlanError, match=f"m.csv row 1: {why}"):
-        wizard.write(tmp_path / "m.csv", tmp_path / "project.toml")
+        wizard.write_project(tmp_path / "m.csv", tmp_path / "project.toml")
     assert not (tmp_path / "project.toml").exists()
 
 
@@ -336,7 +336,7 @@ def test_a_folder_of_the_project_is_made_or_named(tmp_path, capsys):
 @pytest.mark.parametrize("name", ["a b.csv", "Größe <1>.csv", 'a "q" \\.csv', "two\nlines.csv", "\x7f.csv"])
 def test_a_table_may_have_any_name(tmp_path, name):
     rows(3, 3, 3, cu=lambda i, j, k: 1.0).rename(columns={"cu": "Cu \x7f é"}).to_csv(tmp_path / name, index=False)
-    wizard.write(tmp_path / name, tmp_path / "project.toml")
+    wizard.write_project(tmp_path / name, tmp_path / "project.toml")
     project = load(tmp_path / "project.toml")
     assert (project.table.file, project.metals[0].column) == (tmp_path / name, "Cu \x7f é")
     assert "\\u00" not in (tmp_path / "project.toml").read_text().replace("\\u007f", "")
@@ -346,7 +346,7 @@ def test_a_name_that_no_project_can_hold_is_told(tmp_path):
     table = tmp_path / os.fsdecode(b"caf\xe9.csv")
     rows(3, 3, 3, cu=lambda i, j, k: 1.0).to_csv(table, index=False)
     with pytest.raises(PlanError, match="its name is not UTF-8, as a project must be: rename it"):
-        wizard.write(table, tmp_path / "project.toml")
+        wizard.write_project(table, tmp_path / "project.toml")
     assert list(tmp_path.iterdir()) == [table]
 
 
@@ -355,7 +355,7 @@ def test_a_name_that_no_project_can_hold_is_told(tmp_path):
 )
 def test_a_section_or_a_level_alone_runs_too(tmp_path, counts, size):
     rows(*counts, cu=lambda i, j, k: 1.0).to_csv(tmp_path / "m.csv", index=False)
-    told = wizard.write(tmp_path / "m.csv", tmp_path / "project.toml")
+    told = wizard.write_project(tmp_path / "m.csv", tmp_path / "project.toml").lines
     why, project = said(tmp_path / "project.toml")
     assert project.grid.size == size and Plan.from_project(tmp_path / "project.toml").grid.shape == counts[::-1]
     flat = " and ".join(axis for axis, count in zip("xyz", counts) if count == 1)
@@ -376,7 +376,7 @@ def test_a_workbook_and_a_file_that_is_no_text_are_told_so(tmp_path):
         ("m.dm", "is no Datamine file: found no data definition in its first page"),
     ):
         with pytest.raises(PlanError, match=f"{name}: {why}"):
-            wizard.write(tmp_path / name, tmp_path / "project.toml")
+            wizard.write_project(tmp_path / name, tmp_path / "project.toml")
 
 
 def test_a_project_that_names_a_workbook_is_told_so(plan_folder, tmp_path):
@@ -425,7 +425,7 @@ def test_a_null_code_that_is_a_centroid_too_is_one_of_its_own_columns(tmp_path):
     table = rows(4, 4, 3, cu=lambda i, j, k: -99 if i == 0 else 1.0).rename(columns={"cu": "cu_pct"})
     table["z"] = table["z"] - 104
     table.to_csv(tmp_path / "m.csv", index=False)
-    wizard.write(tmp_path / "m.csv", tmp_path / "project.toml")
+    wizard.write_project(tmp_path / "m.csv", tmp_path / "project.toml")
     rules = load(tmp_path / "project.toml").table.rules
     assert rules.nulls.values == () and rules.nulls.of("cu_pct") == ("-99",) and rules.nulls.of("z") == ()
     plan = Plan.from_project(tmp_path / "project.toml")

@@ -92,7 +92,8 @@ def test_help_lists_each_subcommand_once():
 
 def test_the_words_of_options_are_those_of_the_modules():
     assert arguments.FORMATS == tuple(registry.WRITERS)
-    assert (arguments.STAGES, arguments.SURFACES) == (pit_states.KINDS, (pit_states.PIT, pit_states.GROUND))
+    assert arguments.STAGES == (pit_states.FACTOR, pit_states.PUSHBACK, pit_states.YEAR)
+    assert arguments.SURFACES == (pit_states.PIT, pit_states.GROUND)
     assert (arguments.SOLVERS, arguments.BASE_PRICE) == (choice.BY, BASE_PRICE)
 
 

@@ -72,4 +72,4 @@ def test_what_needs_text_says_so(tmp_path):
     with pytest.raises(
         PlanError, match="model.parquet: is Parquet, and pitplan init needs a table that is text, such as CSV"
     ):
-        wizard.write(tmp_path / "model.parquet", tmp_path / "project.toml")
+        wizard.write_project(tmp_path / "model.parquet", tmp_path / "project.toml")

@@ -379,7 +379,7 @@ def test_a_turned_table_has_a_project_to_begin_with(tmp_path):
     """Blocks of 10 x 10 x 10 m whose volumes the density needs."""
     table = turned(rows(12, 11, 3, cu=lambda i, j, k: 0.5), 30).assign(density=2.5).drop(columns=["tonnes"])
     table.to_csv(tmp_path / "model.csv", index=False)
-    said = wizard.write(tmp_path / "model.csv", tmp_path / "project.toml")
+    said = wizard.write_project(tmp_path / "model.csv", tmp_path / "project.toml").lines
     assert any("azimuth 30" in line for line in said)
     assert "size = [10.0, 10.0, 10.0]" in (tmp_path / "project.toml").read_text()
     plan = pitplan.Plan.from_project(tmp_path / "project.toml")

@@ -256,11 +256,6 @@ class Choices:
     replaces: bool = False
 
 
-def write(file: Path, out: Path, draw: Optional[Draw] = None) -> list[str]:
-    """Writes a project as `write_project` does, and returns the lines that `pitplan init` prints."""
-    return write_project(file, out, draw).lines
-
-
 def write_project(file: Path, out: Path, draw: Optional[Draw] = None, choices: Choices = Choices()) -> WrittenProject:
     """Writes a project for a table, and a figure of the block model if `draw` is given, which writes it to a path.
 

@@ -69,7 +69,7 @@ class CompletedSubcommand:
 
 
 def script(shell: str) -> str:
-    """The script of a shell: bash, zsh or fish."""
+    """Returns the script of a shell: bash, zsh or fish."""
     top = parser()
     keys = " ".join(f"{path}=" for path in settable())
     return {"bash": of_bash, "zsh": of_zsh, "fish": of_fish}[shell](subcommands_of(top), options_of(top)).replace(
@@ -78,7 +78,7 @@ def script(shell: str) -> str:
 
 
 def subcommands_of(top: Parser) -> list[CompletedSubcommand]:
-    """The subcommands of a parser. The arguments and options of a subcommand's own subcommands count as its own."""
+    """Returns the subcommands of a parser. The arguments and options of a subcommand's own subcommands count as its own."""
     found = []
     for name, sub in nested(top).items():
         kinds = nested(sub)
@@ -93,7 +93,7 @@ def subcommands_of(top: Parser) -> list[CompletedSubcommand]:
 
 
 def nested(top: Parser) -> dict[str, Parser]:
-    """The parsers of subcommands, by their names."""
+    """Returns the parsers of subcommands, by their names."""
     return {
         name: sub
         for action in top._actions
@@ -103,7 +103,7 @@ def nested(top: Parser) -> dict[str, Parser]:
 
 
 def options_of(top: Parser) -> tuple[Option, ...]:
-    """The options of a parser, `--help` last."""
+    """Returns the options of a parser, `--help` last."""
     found = [
         Option(
             tuple(action.option_strings),
@@ -119,7 +119,7 @@ def options_of(top: Parser) -> tuple[Option, ...]:
 
 
 def argument_of(action: argparse.Action) -> CompletedArgument:
-    """The argument of an action. A path must have a name of PATHS."""
+    """Returns the argument of an action. A path must have a name of PATHS."""
     name = action.metavar if isinstance(action.metavar, str) else action.dest.upper()
     repeats = action.nargs in ("+", "*")
     if action.choices is not None:
@@ -188,7 +188,7 @@ complete -F _pitplan pitplan
 
 
 def of_bash(subcommands: list[CompletedSubcommand], top: tuple[Option, ...]) -> str:
-    """The script for bash. An option that takes neither words nor a path completes nothing."""
+    """Returns the script for bash. An option that takes neither words nor a path completes nothing."""
     cases: dict[str, list[str]] = {}
     for sub in subcommands:
         for option in sub.options:
@@ -253,7 +253,7 @@ fi
 
 
 def of_zsh(subcommands: list[CompletedSubcommand], top: tuple[Option, ...]) -> str:
-    """The script for zsh, by `_arguments`, as a function to load or a file to source."""
+    """Returns the script for zsh, by `_arguments`, as a function to load or a file to source."""
     listed = [f"            {quoted(colons(sub.name) + ':' + colons(sub.does))}" for sub in subcommands]
     arguments = []
     for sub in subcommands:
@@ -269,7 +269,7 @@ def of_zsh(subcommands: list[CompletedSubcommand], top: tuple[Option, ...]) -> s
 
 
 def zsh_option(option: Option) -> str:
-    """An option as `_arguments` takes it: those that exclude it, its spellings, its help, and its value."""
+    """Returns an option as `_arguments` takes it: those that exclude it, its spellings, its help, and its value."""
     ends = "--help" in option.spellings or "--version" in option.spellings
     exclude = "(- *)" if ends else f"({' '.join(option.spellings)})" if len(option.spellings) > 1 else ""
     spelled = f"{{{','.join(option.spellings)}}}" if len(option.spellings) > 1 else option.spellings[0]
@@ -280,7 +280,7 @@ def zsh_option(option: Option) -> str:
 
 
 def zsh_value(argument: CompletedArgument) -> str:
-    """The name of a value and what completes it; a space completes nothing."""
+    """Returns the name of a value and what completes it; a space completes nothing."""
     action = {
         FILE: "_files",
         FOLDER: "_files -/",
@@ -320,7 +320,7 @@ def of_fish(subcommands: list[CompletedSubcommand], top: tuple[Option, ...]) -> 
 
 
 def fish_lines(sub: CompletedSubcommand) -> Iterator[str]:
-    """The lines of a subcommand: its arguments, in any number, and its options."""
+    """Yields the lines of a subcommand: its arguments, in any number, and its options."""
     begin = f"complete -c pitplan -n '__fish_seen_subcommand_from {sub.name}'"
     for argument in sub.arguments:
         if argument.kind != NOTHING:
@@ -331,7 +331,7 @@ def fish_lines(sub: CompletedSubcommand) -> Iterator[str]:
 
 
 def fish_value(argument: CompletedArgument) -> str:
-    """The words of a value, or paths."""
+    """Returns what completes a value: words or paths."""
     suffix = "(__fish_complete_suffix .toml)"
     words = {
         FOLDER: "(__fish_complete_directories)",

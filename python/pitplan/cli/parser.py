@@ -49,7 +49,7 @@ def factor_of(text: str) -> float:
 
 
 def port_of(text: str) -> int:
-    """A port of this machine, or 0 for any free one."""
+    """Returns a port of this machine, or 0 for any free one."""
     if not (text.isascii() and text.isdigit() and int(text) <= 65_535):
         raise ArgumentTypeError(f"found {text!r}, expected a whole number from 0 to 65535")
     return int(text)
@@ -70,12 +70,12 @@ class Argument:
 
 
 def argument(*names: str, help: str, **reading: Any) -> Argument:
-    """An argument with a value, such as `--out FOLDER`."""
+    """Returns an argument with a value, such as `--out FOLDER`."""
     return Argument(names, {"help": help, **reading})
 
 
 def flag(name: str, help: str) -> Argument:
-    """An option without a value."""
+    """Returns an option without a value."""
     return Argument((name,), {"action": "store_true", "help": help})
 
 
@@ -88,7 +88,7 @@ def out(default: str) -> Argument:
 
 
 def revenue_factor(help: str, **reading: Any) -> Argument:
-    """The option that names a shell."""
+    """Returns the option that names a shell."""
     return argument("--revenue-factor", "--rf", type=factor_of, metavar="FACTOR", help=help, **reading)
 
 
@@ -146,7 +146,7 @@ class Subcommand:
 
 
 def solving(default: str, *more: Argument, draws: bool = True) -> tuple[Argument, ...]:
-    """The arguments of a subcommand that solves a project and writes into a folder."""
+    """Returns the arguments of a subcommand that solves a project and writes into a folder."""
     figures = (NO_FIGURES,) if draws else ()
     return (PROJECT, SET, out(default), *WRITING, JSON, *figures, SOLVER, *more)
 
@@ -470,7 +470,7 @@ class Parser(argparse.ArgumentParser):
         return options
 
     def _check_value(self, action: argparse.Action, value: Any) -> None:
-        """Refuses a word that is not one of the choices, with the one that is most like it."""
+        """Raises ArgumentError for a word that is not one of the choices, with the choice that is most like it."""
         choices = [str(it) for it in action.choices or ()]
         near = get_close_matches(str(value), choices, 1)
         if near and value not in choices:
@@ -480,7 +480,7 @@ class Parser(argparse.ArgumentParser):
 
 @cache
 def parser() -> Parser:
-    """The parser of the whole command line, which is made once for all calls in a process."""
+    """Returns the parser of the whole command line, which is made once for all calls in a process."""
     usage = "pitplan [-h] [--version] SUBCOMMAND ..."
     description = f"{DESCRIPTION}\n{START}"
     top = Parser(

@@ -35,7 +35,7 @@ def progress_of(options: Namespace) -> Progress:
 
 
 def project_of(options: Namespace) -> Project:
-    """The project, with the keys that are set and the solver that is asked for."""
+    """Reads the project, with the keys that are set and the solver that is asked for."""
     from dataclasses import replace
 
     from pitplan.config.project import load
@@ -82,7 +82,7 @@ def print_json(table: DataFrame, path: Path) -> None:
 
 
 def plain_of(value: Any) -> Any:
-    """A field as JSON has it."""
+    """Returns a field as JSON has it."""
     if isinstance(value, Decimal):
         return str(value)
     value = value.item() if hasattr(value, "item") else value

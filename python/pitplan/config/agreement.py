@@ -73,7 +73,7 @@ def demand_calendar(periods: Sequence[Period], sections: Sequence[Section]) -> N
 
 
 def twice(names: Sequence[str]) -> Optional[int]:
-    """The number of the first name, from 1, that occurs before; None if none does."""
+    """Returns the number of the first name, from 1, that occurs before it; None if none does."""
     return next((number for number, name in enumerate(names, 1) if name in names[: number - 1]), None)
 
 
@@ -419,7 +419,7 @@ def sums_of_parts(project: Project, rules: ScheduleRules) -> Iterator[Fault]:
 
 
 def taken_names(project: Project) -> set[str]:
-    """The names of sources and destinations besides stockpiles and dumps."""
+    """Returns the names of sources and destinations besides stockpiles and dumps."""
     return {PIT, WASTE, *([process.name for process in project.processes] or [MILL])}
 
 

@@ -255,7 +255,7 @@ class Metal:
     )
 
     def sold_by(self, process: str) -> Metal:
-        """The metal as a process sells it, by name: by the smelter terms, or at the selling cost if these do not apply to it."""
+        """Returns the metal as a process sells it: by the smelter terms, or at the selling cost if the terms do not apply to the process."""
         return self if self.smelter is None or self.smelter.apply_to(process) else replace(self, smelter=None)
 
     @property
@@ -263,7 +263,7 @@ class Metal:
         return self.price_per or self.quantity
 
     def by_quantity(self, price: Decimal) -> Decimal:
-        """A price of the metal for one unit of its quantity (t or g). One that needs a conversion is rounded to twelve decimals."""
+        """Returns a price of the metal for one unit of its quantity (t or g), rounded to twelve decimals if the units differ."""
         if self.price_unit == self.quantity:
             return price
         return (price * GRAMS[self.quantity] / GRAMS[self.price_unit]).quantize(PRICE_PLACES, ROUND_HALF_EVEN)

@@ -85,7 +85,8 @@ class ValueKind:
         return tuple(self.schema.get("enum", ()))
 
     def then(self, make: Callable[[Any], Any], **others: Any) -> ValueKind:
-        """The kind whose values `make` turns into others. A ValueError of it says what is wrong with the key; `others` are fields of the kind."""
+        """Returns the kind whose values `make` turns into others. A ValueError of `make` says what is wrong with the key; `others` are fields of the
+        kind."""
 
         def read(section: Section, key: str, value: Any) -> Any:
             found = self.read(section, key, value)
@@ -97,7 +98,7 @@ class ValueKind:
         return replace(self, read=read, **others)
 
     def where(self, holds: Callable[[Any], Any], why: str, **others: Any) -> ValueKind:
-        """The kind of those values alone for which `holds` is true. `why` is the error of others, with the value in place of {}."""
+        """Returns the kind of the values for which `holds` is true. `why` is the error of others, with the value in place of {}."""
 
         def demanded(found: Any) -> Any:
             if not holds(found):
@@ -108,7 +109,7 @@ class ValueKind:
 
 
 def in_words(value: Optional[Real]) -> str:
-    """A number with thousands; powers of ten and of two as powers."""
+    """Returns a number with thousands; powers of ten and of two as powers."""
     if isinstance(value, int) and value >= 10**9:
         digits = str(value)
         if digits.strip("0") == "1":
@@ -119,7 +120,7 @@ def in_words(value: Optional[Real]) -> str:
 
 
 def shown(value: Any) -> str:
-    """A value as the file has it, cut if it is long."""
+    """Returns a value as the file has it, cut if it is long."""
     if isinstance(value, int) and abs(value) > GREATEST**3:
         return f"a whole number of more than {len(str(GREATEST**3)) - 1} digits"
     # Decimals and dates without the words of Python around them.
@@ -165,7 +166,7 @@ class Range:
 
 
 def as_number(section: Section, key: str, value: Any) -> Decimal:
-    """A value as a decimal. Raises PlanError if it is no number, or beyond all amounts."""
+    """Returns a value as a decimal. Raises PlanError if it is no number, or beyond all amounts."""
     if isinstance(value, Absurd):
         raise section.wrong(key, f"{value!r} is not an amount: expected at most 10^18 and {-LEAST_POWER} decimals")
     is_decimal = isinstance(value, Decimal) and value.is_finite()
@@ -184,7 +185,7 @@ def number(
     below: Optional[Real] = None,
     example: str = "",
 ) -> ValueKind:
-    """A number in a range; errors end with the example."""
+    """Returns the kind of a number in a range; errors end with the example."""
     span = Range(least, most, above, below)
     such = f", such as {example}" if example else ""
     any_number = ValueKind(as_number, {"type": "number", **span.schema}, "" if span == Range(0) else span.words)
@@ -192,7 +193,7 @@ def number(
 
 
 def amount(least: Optional[Real] = 0, most: Optional[Real] = None, **others: Any) -> ValueKind:
-    """A number with which is computed in floating point."""
+    """Returns the kind of a number that is computed with in floating point."""
     return number(None if "above" in others else least, most, **others).then(float)
 
 
@@ -247,7 +248,7 @@ def choice(*options: str) -> ValueKind:
 
 
 def exactly(words: str, why: str, meant: Any) -> ValueKind:
-    """One text, and the value that it stands for. `why` is the error of anything else, with this in place of {}."""
+    """Returns the kind of one text, and the value that the text stands for. `why` is the error of anything else, which replaces {}."""
 
     def read(section: Section, key: str, value: Any) -> Any:
         if value != words:
@@ -258,12 +259,12 @@ def exactly(words: str, why: str, meant: Any) -> ValueKind:
 
 
 def array(item: Schema, least: int = 1, most: int = 0) -> dict[str, Any]:
-    """The JSON Schema of a list with its least and its largest number of items; 0: any number."""
+    """Returns the JSON Schema of a list with its least and its largest number of items; 0: any number."""
     return {"type": "array", "items": item} | {key: n for key, n in (("minItems", least), ("maxItems", most)) if n}
 
 
 def listed(item: ValueKind, of: str, most: int = 0) -> ValueKind:
-    """A list; `of` says in errors what it has, with an example."""
+    """Returns the kind of a list; `of` says in errors what it has, with an example."""
 
     def read(section: Section, key: str, value: Any) -> tuple[Any, ...]:
         if not isinstance(value, list) or not value:
@@ -277,7 +278,7 @@ def listed(item: ValueKind, of: str, most: int = 0) -> ValueKind:
 
 
 def one_or_more(item: ValueKind, of: str) -> ValueKind:
-    """A value, or a list of such; `of` says in errors what is expected in place of an empty list."""
+    """Returns the kind of a value, or a list of such; `of` says in errors what is expected in place of an empty list."""
 
     def read(section: Section, key: str, value: Any) -> tuple[Any, ...]:
         if value == []:
@@ -288,7 +289,7 @@ def one_or_more(item: ValueKind, of: str) -> ValueKind:
 
 
 def numbers(count: int, item: ValueKind, why: str = "") -> ValueKind:
-    """A list of `count` values, by default numbers; `why` is the error of anything else."""
+    """Returns the kind of a list of `count` values; `why` is the error of anything else."""
 
     def read(section: Section, key: str, value: Any) -> tuple[Any, ...]:
         if not isinstance(value, list) or len(value) != count:
@@ -299,7 +300,8 @@ def numbers(count: int, item: ValueKind, why: str = "") -> ValueKind:
 
 
 def pairs(first: ValueKind, second: ValueKind, of: str, twice: str = "", *, least: int = 1) -> ValueKind:
-    """A list of pairs; `of` names the two in errors. If `twice` is given, pairs rise by their first values; it is the error if one occurs twice."""
+    """Returns the kind of a list of pairs; `of` names the two in errors. If `twice` is given, pairs rise by their first values, and `twice` is the
+    error of a value that occurs twice."""
 
     def read(section: Section, key: str, value: Any) -> tuple[tuple[Any, Any], ...]:
         if (
@@ -318,7 +320,7 @@ def pairs(first: ValueKind, second: ValueKind, of: str, twice: str = "", *, leas
 
 
 def by_rock(item: ValueKind) -> ValueKind:
-    """A value for all blocks, or by the code of their rock type."""
+    """Returns the kind of a value for all blocks, or by the code of their rock type."""
 
     def each(value: Any, make: Callable[[Any], Any]) -> Any:
         return {rock: make(it) for rock, it in value.items()} if isinstance(value, dict) else make(value)
@@ -332,7 +334,7 @@ def by_rock(item: ValueKind) -> ValueKind:
 
 
 def by_name(item: ValueKind, empty: str = "", of_metals: bool = False) -> ValueKind:
-    """A table by names that the project gives, or of its metals; `empty` is the error of one without any, if there must be one."""
+    """Returns the kind of a table by names that the project gives, or of its metals; `empty` is the error of an empty table, if there must be a name."""
 
     def read(section: Section, key: str, value: Any) -> dict[str, Any]:
         inner, metals = section.section(key), section.source.metals
@@ -376,7 +378,7 @@ def factor(least: float = 0.0) -> ValueKind:
 
 
 def factors(least: float = 0.0, most: int = 0) -> ValueKind:
-    """Revenue factors that rise: a list, or `{ from, to, step }`."""
+    """Returns the kind of rising revenue factors: a list, or `{ from, to, step }`."""
     one = factor(least)
     several = listed(one, "of revenue factors, or { from, to, step }")
 
@@ -394,7 +396,7 @@ def factors(least: float = 0.0, most: int = 0) -> ValueKind:
 
 
 def span_of(section: Section, key: str, one: ValueKind) -> list[float]:
-    """The revenue factors of `{ from, to, step }`, with ends of a kind."""
+    """Returns the revenue factors of `{ from, to, step }`, with ends of a kind."""
     inner = section.section(key)
     first, last = (one.read(inner, name, inner.get(name)) for name in ("from", "to"))
     step = factor(of_per_mille(1)).read(inner, "step", inner.get("step"))
@@ -410,7 +412,7 @@ def span_of(section: Section, key: str, one: ValueKind) -> list[float]:
 
 
 def no_factor(value: Decimal) -> str:
-    """Why a number is no revenue factor. For 800, perhaps a factor in per mille, it says 0.80 too."""
+    """Returns why a number is no revenue factor. For 800, perhaps a factor in per mille, it suggests 0.80."""
     if 0 <= value <= GREATEST_FACTOR:
         return f"found {shown(value)}, expected at most three decimals"
     said = f"found {shown(value)}, expected a revenue factor from 0 to 100; 1.0 is the base price"
@@ -419,12 +421,12 @@ def no_factor(value: Decimal) -> str:
 
 
 def place(path: Path, folder: Path) -> str:
-    """A path as a project in a folder names it."""
+    """Returns a path as a project in a folder names it."""
     return os.path.relpath(path, folder)
 
 
 def path_of(section: Section, key: str, value: Any, is_folder: bool = False) -> Path:
-    """The path of an input. Raises PlanError if it may not be read."""
+    """Returns the path of an input. Raises PlanError if it may not be read."""
     path = section.source.folder / read_text(section, key, value)
     why = input_places.fault(path, is_folder)
     if why:
@@ -526,13 +528,13 @@ def rest(kind: ValueKind) -> Any:
 
 @lru_cache(maxsize=None)
 def keys_of(record: type) -> Mapping[str, Key]:
-    """The keys of a section by their names in the file, in the order in which they are written."""
+    """Returns the keys of a section by their names in the file, in the order in which they are written."""
     return MappingProxyType({it.name: it for _, it in declared(record)})
 
 
 @lru_cache(maxsize=None)
 def declared(record: type) -> tuple[tuple[str, Key], ...]:
-    """The fields of a record, and of the records in it, with their keys."""
+    """Returns the fields of a record, and of the records in it, with their keys."""
     found: list[tuple[str, Key]] = []
     for name, it in declarations(record):
         found += declared(it.record) if isinstance(it, InlineRecord) else [(name, it)] if isinstance(it, Key) else []
@@ -541,7 +543,7 @@ def declared(record: type) -> tuple[tuple[str, Key], ...]:
 
 @lru_cache(maxsize=None)
 def declarations(record: type) -> tuple[tuple[str, Union[Key, InlineRecord, Rest]], ...]:
-    """The fields of a record that are declared. Name and label of a key are those of its field unless it gives others."""
+    """Returns the fields of a record that are declared. Name and label of a key are those of its field unless the key has others."""
     found = []
     for it in fields(record):
         declaration = it.metadata.get(DECLARED)
@@ -591,7 +593,7 @@ def given(it: Key, section: Section) -> Iterator[Any]:
 
 
 def write(value: Any, folder: Path) -> dict[str, Any]:
-    """The keys of a record as TOML has them, for a file in a folder; those without a value are left out."""
+    """Returns the keys of a record as TOML has them, for a file in a folder; keys without a value are left out."""
     found: dict[str, Any] = {}
     for name, it in declarations(value.__class__):
         held = getattr(value, name)
@@ -605,7 +607,7 @@ def write(value: Any, folder: Path) -> dict[str, Any]:
 
 
 def is_left_out(it: Key, value: Any, record: Any) -> bool:
-    """Whether a value is left out of the text: it is empty, or a default that the record does not write."""
+    """Returns whether a value is left out of the text: it is empty, or a default that the record does not write."""
     is_quiet = it.is_quiet(record) if callable(it.is_quiet) else it.is_quiet
     return is_empty(value) or bool(is_quiet and value == it.default)
 
@@ -631,13 +633,13 @@ def tables(record: type) -> ValueKind:
 
 
 def inline(record: type) -> ValueKind:
-    """A table that forms and the reference show as one value."""
+    """Returns the kind of a table that forms and the reference show as one value."""
     return replace(table(record), record=None)
 
 
 def either(plain: ValueKind, record: Any, *names: str) -> ValueKind:
-    """A plain value, or a table with the keys of a record. If `names` are given, a plain value makes a record, and is the value of these fields;
-    a record with nothing else than the first one is written as a plain value."""
+    """Returns the kind of a plain value, or of a table with the keys of a record. If `names` are given, a plain value makes a record with this value
+    in these fields, and a record with no more than the first of them is written as a plain value."""
 
     def read_one(section: Section, key: str, value: Any) -> Any:
         if isinstance(value, dict):

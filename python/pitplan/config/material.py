@@ -45,11 +45,11 @@ class ClassRules:
     given: dict[str, str] = rest(choice(*TREATMENTS))
 
     def of(self, code: str) -> str:
-        """The treatment of a class: that of its rule, otherwise waste or ore by its name in any case."""
+        """Returns the treatment of a class: that of its rule, otherwise waste or ore by its name in any case."""
         return self.given.get(code, WASTE if code.lower() in WASTE_NAMES else ORE)
 
     def may_be_reserve(self, code: str) -> bool:
-        """Whether reporting codes allow the class in reserves, by its name. Treating inferred material as ore does not make it a reserve."""
+        """Returns whether reporting codes allow the class in reserves, by its name. Treating inferred material as ore does not make it a reserve."""
         return code.lower() not in WASTE_NAMES
 
 

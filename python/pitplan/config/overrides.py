@@ -17,7 +17,7 @@ EXAMPLE = "such as economics.mining_cost=2.6 or metals.copper.price=9000"
 
 
 def overridden(data: dict[str, Any], assignments: Iterable[str]) -> dict[str, Any]:
-    """The sections of a project with some keys set.
+    """Returns the sections of a project with some keys set.
 
     Parameters
     ----------
@@ -44,7 +44,7 @@ def overridden(data: dict[str, Any], assignments: Iterable[str]) -> dict[str, An
 
 
 def at(entry: Any, path: Sequence[str], where: str, is_made: bool = False) -> dict[str, Any]:
-    """The section at a path, which may be made if it is missing. Raises PlanError otherwise."""
+    """Returns the section at a path, which may be made if it is missing. Raises PlanError otherwise."""
     for part in path:
         if is_made and isinstance(entry, dict):
             entry.setdefault(part, {})
@@ -57,7 +57,7 @@ def at(entry: Any, path: Sequence[str], where: str, is_made: bool = False) -> di
 
 
 def existing(entry: Any, part: str, where: str) -> Any:
-    """A key of a section, or an entry of a list by its name or its number from 1. Raises PlanError if it is missing."""
+    """Returns a key of a section, or an entry of a list by its name or its number from 1. Raises PlanError if it is missing."""
     if isinstance(entry, dict):
         if part in entry:
             return entry[part]
@@ -75,7 +75,7 @@ def existing(entry: Any, part: str, where: str) -> Any:
 
 
 def scaled(data: dict[str, Any], path: str, by: Decimal, where: str) -> dict[str, Any]:
-    """The sections of a project with the numbers of a key times a factor.
+    """Returns the sections of a project with the numbers of a key times a factor.
 
     Parameters
     ----------
@@ -104,7 +104,7 @@ def scaled(data: dict[str, Any], path: str, by: Decimal, where: str) -> dict[str
 
 
 def assigned(data: dict[str, Any], path: str, value: Decimal, where: str) -> dict[str, Any]:
-    """The sections of a project with another number for a key that has one; of a list with one pair the second number.
+    """Returns the sections of a project with another number for a key that has one; in a list of one pair it is the second number.
 
     Raises PlanError if there is no such key, or it has not one number.
     """
@@ -124,13 +124,13 @@ def is_number(value: Any) -> bool:
 
 
 def has_numbers(value: Any) -> bool:
-    """Whether a value is a number, or a table or list of nothing else."""
+    """Returns whether a value is a number, or a table or list of nothing else."""
     inner = value.values() if isinstance(value, dict) else value if isinstance(value, list) else None
     return is_number(value) if inner is None else bool(inner) and all(map(has_numbers, inner))
 
 
 def times(value: Any, by: Decimal) -> Any:
-    """A number times a factor, or all numbers of a table or of a list; of pairs the second ones."""
+    """Returns a number times a factor, or a table or list with all numbers times it; of pairs only the second ones change."""
     if isinstance(value, dict):
         return {key: times(it, by) for key, it in value.items()}
     if isinstance(value, list):
@@ -139,7 +139,7 @@ def times(value: Any, by: Decimal) -> Any:
 
 
 def value_of(text: str) -> Any:
-    """A TOML value, otherwise the text itself."""
+    """Returns a text as the value that TOML reads in it, otherwise the text itself."""
     try:
         return toml_text.parsed(f"value = {text}", "--set")["value"]
     except PlanError:

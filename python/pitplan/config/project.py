@@ -124,7 +124,7 @@ class Project:
         return tuple(self.of_process(process) for process in self.processes) or (self,)
 
     def without_limits_on(self, columns: Collection[str]) -> Project:
-        """The project without the limits on sums and head grades of these columns of the table."""
+        """Returns the project without the limits on sums and head grades of some columns of the table."""
 
         def without(feed: tuple[FeedGrade, ...]) -> tuple[FeedGrade, ...]:
             return tuple(it for it in feed if it.code is not None or it.column not in columns)
@@ -190,15 +190,15 @@ class Project:
         return tuple(dict.fromkeys(penalty.column for it in terms for penalty in it.penalties))
 
     def to_toml(self, folder: Optional[Path] = None) -> str:
-        """The text of a project.toml in a folder, by default that of the project's own file. It reads back as this project, except `path`
-        and `solver`."""
+        """Returns the text of a project.toml in a folder, by default the folder of the project's own file. It reads back as this project, except
+        `path` and `solver`."""
         from .project_writer import of_project
 
         return of_project(self, self.path.parent if folder is None else folder)
 
     @classmethod
     def from_dict(cls, sections: Mapping[str, Any], folder: Union[str, Path] = ".") -> Project:
-        """A project from its sections, checked as a project.toml is.
+        """Returns a project from its sections, checked as a project.toml is.
 
         Parameters
         ----------
@@ -215,7 +215,7 @@ class Project:
         return of_data(as_toml(sections, "project"), Path(folder) / "project.toml", "project")
 
     def changed(self, section: str, keys: Mapping[str, Any], keeps_others: bool = False) -> Project:
-        """The project with other keys in a section, checked as a whole.
+        """Returns the project with other keys in a section, checked as a whole.
 
         Parameters
         ----------
@@ -261,7 +261,7 @@ SECTIONS: Mapping[str, Key] = {**keys.keys_of(Project), "periods": PERIODS}
 
 
 def record_at(path: str) -> type:
-    """The record of a section by its path, such as `schedule.stockpiles`."""
+    """Returns the record of a section by its path, such as `schedule.stockpiles`."""
     first, *others = path.split(".")
     record = SECTIONS[first].kind.record
     for name in others:
@@ -312,7 +312,7 @@ def load(path: Union[str, Path], original: Optional[Path] = None, overrides: Ite
 
 
 def inputs_beside(folder: Path) -> tuple[Path, ...]:
-    """The inputs of the mine whose project.toml the folder has; none if it has no such project."""
+    """Returns the inputs of the project.toml in a folder; none if the folder has no such project."""
     try:
         return load(folder / "project.toml").inputs
     except PlanError:
@@ -347,7 +347,7 @@ def planned_as(project: Project, found: Project) -> Project:
 
 
 def of_data(data: dict[str, Any], path: Path, source: Optional[str] = None, text: str = "") -> Project:
-    """The project of a TOML file's sections. Paths in it are relative to that of the file.
+    """Returns the project of a TOML file's sections. Paths in it are relative to the folder of the file.
 
     Errors name `source`, by default the file, and the lines of its text, if it is given.
     """

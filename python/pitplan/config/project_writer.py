@@ -9,12 +9,11 @@ from pathlib import Path
 from typing import Any, Mapping
 
 from pitplan.config.project import Project, load
-from pitplan.core.atomic_files import hash_of
 
 from . import keys
 from .keys import place
 
-__all__ = ["AS_RUN", "as_run", "as_run_or_edited", "lines_of", "of_project", "place", "shown", "write"]
+__all__ = ["AS_RUN", "as_run", "lines_of", "of_project", "place", "shown", "write"]
 
 # A section: values by key. A key whose value is None is left out.
 Values = Mapping[str, Any]
@@ -24,7 +23,7 @@ AS_RUN = "project-as-run.toml"
 
 
 def of_project(project: Project, folder: Path) -> str:
-    """The project.toml for a file in this folder. Paths in it are relative to the folder. It has no solver."""
+    """Returns the text of a project.toml in a folder, to which its paths are relative. It has no solver."""
     sections: dict[str, Any] = {}
     for name, value in keys.write(project, folder).items():
         sections[name] = without_processes(name, value) if project.processes else value
@@ -38,7 +37,7 @@ def of_project(project: Project, folder: Path) -> str:
 
 
 def without_processes(name: str, value: Any) -> Any:
-    """A section without the keys that each process has in their place."""
+    """Returns a section without the keys that each process has in their place."""
     record = keys.keys_of(Project)[name].kind.record
     left = {key for key, it in keys.keys_of(record).items() if it.of_processes} if record else set()
     if isinstance(value, list):
@@ -51,7 +50,7 @@ def write(project: Project, path: Path, folder: Path) -> None:
 
 
 def as_run(folder: Path, place_of_first: str) -> Project:
-    """The project of a run into a folder. Its path is that of the file that it was read from: the record gives this relative to the folder.
+    """Returns the project of a run into a folder. Its path is that of the file that it was read from, which the record gives relative to the folder.
 
     If the folder has no text, as those of earlier releases, the file itself is read. Raises PlanError.
     """
@@ -59,18 +58,8 @@ def as_run(folder: Path, place_of_first: str) -> Project:
     return replace(load(text), path=first) if text.is_file() else load(first)
 
 
-def as_run_or_edited(folder: Path, record: dict[str, Any]) -> Project:
-    """The project of a run into a folder. If the file that it was read from has changed since the run, the project of that file.
-
-    Raises PlanError, and OSError if the file cannot be read.
-    """
-    first = folder / record["project"]
-    is_edited = record.get("inputs", {}).get(first.name, "") != hash_of(first)
-    return load(first) if is_edited else as_run(folder, record["project"])
-
-
 def lines_of(values: Values, name: str) -> list[str]:
-    """The keys of a section, and behind them its own lists of sections."""
+    """Returns the keys of a section as lines, and behind them its own lists of sections."""
     given = {key: value for key, value in values.items() if value is not None}
     of_sections = {
         key: value for key, value in given.items() if isinstance(value, list) and value and isinstance(value[0], dict)

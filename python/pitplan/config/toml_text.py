@@ -187,7 +187,7 @@ class ProjectSource:
 
 
 def number(written: str) -> Decimal | Absurd:
-    """A decimal; one whose digits lie beyond all amounts, or are finer than any, is absurd."""
+    """Returns a decimal; Absurd if its digits lie beyond all amounts, or are finer than any."""
     found = Decimal(written)
     if not found.is_finite() or not found and abs(found.adjusted()) <= -LEAST_POWER:
         return found
@@ -196,7 +196,7 @@ def number(written: str) -> Decimal | Absurd:
 
 
 def text_of(path: Path) -> str:
-    """The text of a file. Raises PlanError if it cannot be read."""
+    """Returns the text of a file. Raises PlanError if it cannot be read."""
     try:
         return path.read_text(encoding="utf-8-sig")
     except OSError as error:
@@ -208,7 +208,8 @@ def text_of(path: Path) -> str:
 
 
 def parsed(text: str, path: str) -> dict[str, Any]:
-    """The sections of a text, which errors name by `path`. Raises PlanError, with the line if it is known, if it is no TOML or no project's."""
+    """Returns the sections of a text, which errors name by `path`. Raises PlanError, with the line if it is known, if the text is no TOML, or has a
+    key or number that no project has."""
     if long := LONG_KEY.search(text):
         why = f"a key of more than {MOST_PARTS} parts: a project's keys have three at most"
         raise at_line(path, text.count("\n", 0, long.start()) + 1, why)
@@ -303,7 +304,7 @@ class Section:
 
 
 def as_toml(value: Any, key: str) -> Any:
-    """A value as a TOML file has it: dicts, lists, texts, true and false, whole numbers and decimals.
+    """Returns a value as a TOML file has it: dicts, lists, texts, true and false, whole numbers and decimals.
 
     Parameters
     ----------

@@ -12,7 +12,7 @@ Point = tuple[int, int]
 
 
 def edges(mask: np.ndarray) -> np.ndarray:
-    """Edges between inside and outside as an array (edges, 2, 2) of corners (column, row), inside on the left.
+    """Returns the edges between inside and outside, with the inside on the left, as corners (column, row); shape (edges, 2, 2).
 
     `mask` is a truth for each row and column; cell (row 0, column 0) has the corners (0, 0) to (1, 1).
     """
@@ -33,7 +33,7 @@ def edges(mask: np.ndarray) -> np.ndarray:
 
 
 def rings(mask: np.ndarray) -> list[list[Point]]:
-    """The edges as closed rings of corners; a hole's ring runs the other way. Corners on a straight line are left out."""
+    """Returns the edges as closed rings of corners; the ring of a hole runs the other way. Corners on a straight line are left out."""
     following: dict[Point, list[Point]] = {}
     for (x, y), (to_x, to_y) in edges(mask).tolist():
         following.setdefault((x, y), []).append((to_x, to_y))

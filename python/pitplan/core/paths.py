@@ -55,6 +55,6 @@ def build_records() -> list[Path]:
 
 
 def checker() -> Path:
-    """The short checker of certificates, which shares nothing with the program."""
+    """Returns the path of the short checker of certificates, which shares no code with the program."""
     installed = PACKAGE / "checkers" / "check_certificate.py"
     return installed if installed.is_file() else PACKAGES.parent / "tools" / "check_certificate.py"

@@ -129,7 +129,7 @@ def premiums_of(project: Project, metal: Metal) -> dict[str, tuple[float, ...]]:
 
 
 def is_shown(name: str) -> bool:
-    """Whether tables of years have an amount; the others only serve to value it."""
+    """Returns whether tables of years have an amount; the others only serve to value it."""
     return name not in COSTS and not name.startswith(SMELTED)
 
 

@@ -85,6 +85,6 @@ def cell(value: object) -> object:
 
 
 def format_of(column: str) -> str:
-    """The number format of a column by its name: that of its unit, otherwise thousands without decimals."""
+    """Returns the number format of a column by its name: that of its unit, otherwise thousands without decimals."""
     unit = unit_of(column)
     return THOUSANDS if unit is None else unit.sheet

@@ -79,7 +79,7 @@ class Column:
         return self.unit.places if self.places is None else self.places
 
     def matches(self, name: str) -> bool:
-        """Whether a column of a file is this one."""
+        """Returns whether a column of a file is this one."""
         return re.fullmatch(re.sub("[A-Z]+", ".+", self.name), name) is not None
 
 
@@ -94,7 +94,7 @@ class TableDeclaration:
     digits: Optional[int] = None
 
     def find(self, name: str) -> Optional[Column]:
-        """A column by its name in files, or by its own; None if the table has none. A number of a period is a column `year` too."""
+        """Returns a column by its name in files, or by its own; None if the table has none. The number of a period is a column `year` too."""
         if name == PERIOD:
             found = self.find(YEAR)
             return found and replace(found, heading=PERIOD)
@@ -102,14 +102,14 @@ class TableDeclaration:
         return next(iter(exact or [it for it in self.columns if it.matches(name)]), None)
 
     def column(self, name: str) -> Column:
-        """A column by its name, as `find` returns it. Raises KeyError if the table has none."""
+        """Returns a column by its name, as `find` does. Raises KeyError if the table has none."""
         found = self.find(name)
         if found is None:
             raise KeyError(f"{self.file} has no column {name}: add it to pitplan/results/columns.py")
         return found
 
     def heading(self, name: str) -> str:
-        """How a column is shown, with the metal or process that its name has."""
+        """Returns how a column is shown, with the metal or process that its name has."""
         column = self.column(name)
         subject = name.removeprefix(column.name.rstrip(CAPITALS))
         return column.heading.replace("METAL", subject).replace("PROCESS", subject)

@@ -788,7 +788,7 @@ TABLES += (PRICE_PATHS, PRICE_QUANTILES, *COMPARISON)
 
 @cache
 def unit_of(name: str) -> Optional[Unit]:
-    """The unit of a column by its name in any table that is rounded to decimals; None if there is no such column."""
+    """Returns the unit of a column by its name in any table that is rounded to decimals; None if there is no such column."""
     for table in TABLES:
         if table.digits is None and (found := table.find(name)):
             return found.unit

@@ -16,7 +16,6 @@ from pitplan.errors import PlanError
 from .folder import Folder
 
 FACTOR, PUSHBACK = "revenue_factor", "pushback"
-KINDS = (FACTOR, PUSHBACK, YEAR)
 PIT, GROUND = "pit", "ground"
 MADE_BY = {PUSHBACK: "pitplan pushbacks", YEAR: "pitplan schedule"}
 

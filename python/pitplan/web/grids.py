@@ -27,8 +27,8 @@ Entry = Mapping[str, Any]
 # The section whose keys are the rows of a grid, not its entries.
 CLASSES = "classes"
 SIDES = ("min", "max")
-# How the names of fields begin: of a row its place in the file or NEW, of a cell the numbers of row and column.
-ROW, CELL, NEW = "row:", "cell:", "new"
+# How the names of fields begin: of a row its place in the file or "new", of a cell the numbers of row and column.
+ROW, CELL = "row:", "cell:"
 MOST_ROWS, MOST_LETTERS = 1_000, 2_000
 Pairs = Sequence[tuple[str, ...]]
 
