@@ -361,7 +361,7 @@ COLUMNS = ("method", "year", "limit", "used", "minimum", "maximum", "utilisation
 
 @dataclass(frozen=True)
 class LimitUse:
-    """What a method uses of a limit in each year, and what a unit more of it would earn; each array has the shape (years,), nan where there is none.
+    """What a method uses of a limit in each year, and what a unit more of it would earn; each array has the shape (years,), nan without a value.
 
     Attributes
     ----------
