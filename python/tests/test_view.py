@@ -368,6 +368,6 @@ def test_many_codes_share_the_last_colour(solved, monkeypatch):
     folder = read_folder(solved[1])
     codes = np.array([f"R{number % 20}" for number in range(len(folder.blocks))])
     solid = np.ones(len(codes), dtype=bool)
-    kind = viewer3d.kind_of(folder, "rock", codes, solid, encode=lambda cells: cells)
+    kind = viewer3d.kind_of(folder, "rock", codes, solid)
     assert len(kind["labels"]) == len(kind["colours"]) == len(viewer3d.PALETTE) and kind["labels"][-1] == "others"
-    assert kind["cells"].max() == len(viewer3d.PALETTE)
+    assert max(gzip.decompress(base64.b64decode(kind["cells"]))) == len(viewer3d.PALETTE)

@@ -29,7 +29,7 @@ from pitplan.core.text_tables import (
 from pitplan.errors import PlanError
 
 from .grid import Places, azimuth_of, of_centres
-from .reader import filled_numbers, is_model, read_whole
+from .reader import filled_numbers, model_reader, read_whole
 
 # Words that packages and people write for absent data, without case.
 NULL_WORDS = frozenset(
@@ -628,7 +628,7 @@ def rows_of(file: Path) -> TableRows:
     """Reads the rows of a table. Raises PlanError if it is no text or no table."""
     if is_parquet(file):
         demand_text(file, "pitplan init")
-    if not is_model(file):
+    if model_reader(file) is None:
         demand_no_binary(file)
     frame, form = read_whole(file)
     return TableRows(file, form, numbers_where_all_are(frame))

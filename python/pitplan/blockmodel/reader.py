@@ -5,7 +5,7 @@ Rows are counted as in a spreadsheet: if the header is row 1, the first block is
 
 from __future__ import annotations
 
-from collections.abc import Sequence
+from collections.abc import Callable, Sequence
 from dataclasses import dataclass, field, replace
 from pathlib import Path
 from typing import Optional
@@ -81,25 +81,19 @@ def complete(frame: pd.DataFrame, project: Project, source: str) -> None:
 HEAD = 8 * datamine.PAGE
 # A record is a row, from 1, and no row has the names.
 ROWS = (0, 1)
+# What reads a block model: it takes a file and the columns of codes, and returns the rows and how the file was recognised.
+ModelReader = Callable[[Path, Sequence[str]], tuple[pd.DataFrame, str]]
+DECIMAL_COMMA = r"[-+]?\d*(,\d+)?([eE][-+]?\d+)?"
 
 
-def is_model(file: Path) -> bool:
-    """Returns whether a file is a block model of OMF or of Datamine. Raises PlanError if it cannot be read."""
+def model_reader(file: Path) -> Optional[ModelReader]:
+    """Returns what reads a block model of OMF or of Datamine; None for another file. Raises PlanError if it cannot be read."""
     try:
         with open(file, "rb") as data:
             head = data.read(HEAD)
     except UNREADABLE as error:
         raise unreadable(file, error) from error
-    return omf.is_omf(file, head) or datamine.is_datamine(file, head)
-
-
-def read_model(file: Path, codes: Sequence[str] = ()) -> Optional[tuple[pd.DataFrame, str]]:
-    """Returns the block model of a file and how it was recognised; None for a table. Raises PlanError as the readers do."""
-    if not is_model(file):
-        return None
-    with open(file, "rb") as data:
-        head = data.read(HEAD)
-    return (omf if omf.is_omf(file, head) else datamine).read(file, codes)
+    return omf.read if omf.is_omf(file, head) else datamine.read if datamine.is_datamine(file, head) else None
 
 
 @dataclass(frozen=True)
@@ -154,11 +148,10 @@ def read(project: Project) -> Table:
         return replace(
             checked(frame, project, str(columns.file)), unused=tuple(name for name in names if name not in wanted)
         )
-    model = read_model(columns.file, codes)
-    if model is not None:
-        source = TableSource.of(str(columns.file), *ROWS)
-        table = checked(model[0], project, source)
-        return replace(table, notes=(model[1], *table.notes))
+    if read_model := model_reader(columns.file):
+        frame, kind = read_model(columns.file, codes)
+        table = checked(frame, project, TableSource.of(str(columns.file), *ROWS))
+        return replace(table, notes=(kind, *table.notes))
     # The type of these columns is unknown: they are read as texts, since pieces of them may look like numbers.
     untyped = untyped_columns(project)
     frame, form = read_as_written(columns.file, columns, [*codes, *untyped], wanted)
@@ -171,10 +164,9 @@ def read(project: Project) -> Table:
 
 def read_whole(file: Path) -> tuple[pd.DataFrame, TableFormat]:
     """Returns all columns of a file without a project, and its format. Raises PlanError if it is not a table."""
-    model = read_model(file)
-    if model is not None:
-        header, first = ROWS
-        return model[0], TableFormat(",", ".", USUAL, header, first, layout=Layout(",", kind=model[1]))
+    if read_model := model_reader(file):
+        frame, kind = read_model(file, ())
+        return frame, TableFormat(",", ".", USUAL, *ROWS, layout=Layout(",", kind=kind))
     form = recognised(file)
     frame = read_columns(file, form)
     if form.separator != "," and form.decimal == "." and has_decimal_commas(frame, list(frame.columns)):
@@ -226,7 +218,7 @@ def read_as_written(
 def with_points(column: pd.Series, nulls: Sequence[str]) -> pd.Series:
     """Returns a column of texts with points as decimal marks if all of its fields are numbers with commas, empty or null codes."""
     texts = column.astype(object).str.strip()
-    is_number = texts.str.fullmatch(r"[-+]?\d*(,\d+)?([eE][-+]?\d+)?")
+    is_number = texts.str.fullmatch(DECIMAL_COMMA)
     return texts.str.replace(",", ".", regex=False) if (is_number | texts.isin(nulls)).all() else column
 
 
@@ -255,7 +247,7 @@ def has_decimal_commas(frame: pd.DataFrame, names: list[str]) -> bool:
             # A piece that was read as numbers has whole ones as 5.0 where a field is empty.
             texts = frame[name].dropna().map(lambda it: it if isinstance(it, str) else f"{it:.15g}").str.strip()
             texts = texts[texts != ""]
-            if texts.str.contains(",").any() and texts.str.fullmatch(r"[-+]?\d*(,\d+)?([eE][-+]?\d+)?").all():
+            if texts.str.contains(",").any() and texts.str.fullmatch(DECIMAL_COMMA).all():
                 return True
     return False
 

@@ -149,7 +149,7 @@ def contours(ax: Axes, grid: Grid, floor: np.ndarray, over: bool = False) -> int
 
 
 # What selects a row or a column of the grid.
-Cut = tuple[Union[int, slice], Union[int, slice]]
+GridLine = tuple[Union[int, slice], Union[int, slice]]
 COLOUR, PIT = "#7a4a1e", "black"
 LINE = {"color": COLOUR, "linewidth": 1.4}
 
@@ -189,9 +189,9 @@ def topography_of(plan: Plan) -> ColumnHeights:
     return ColumnHeights(height, False)
 
 
-def draw_line(ax: Axes, topography: ColumnHeights, cut: Cut) -> None:
-    """Draws the topography along a row or a column of the grid; `cut` selects its heights. The axes keep their limits."""
-    heights = topography.height[cut]
+def draw_line(ax: Axes, topography: ColumnHeights, line: GridLine) -> None:
+    """Draws the topography along a row or a column of the grid. The axes keep their limits."""
+    heights = topography.height[line]
     left, right = ax.get_xlim()
     ends = left + (right - left) * np.arange(len(heights) + 1) / len(heights)
     if topography.is_surveyed:

@@ -9,7 +9,7 @@ from __future__ import annotations
 import base64
 import gzip
 from pathlib import Path
-from typing import Any, Callable
+from typing import Any
 
 import matplotlib
 import numpy as np
@@ -31,21 +31,13 @@ PALETTE = palette.CODES
 DESTINATION, ORE, WASTE, OTHERS = "destination", "ore", "waste", "others"
 NO_CODE = "none"
 
-Encode = Callable[[NDArray[np.uint8]], str]
 
-
-def kinds_of(folder: Folder, encode: Encode) -> list[dict[str, Any]]:
-    """Returns for each category its name, a byte per cell (0: no rock), labels and colours.
-
-    Parameters
-    ----------
-    encode : callable
-        Makes text of the bytes of all cells.
-    """
+def kinds_of(folder: Folder) -> list[dict[str, Any]]:
+    """Returns for each category its name, a byte per cell (0: no rock), labels and colours."""
     solid = (folder.blocks[folder.record["tonnes"]] > 0).to_numpy()
     found = {name: folder.blocks[name].astype(str).to_numpy() for name in folder.record["codes"]}
     found[DESTINATION] = destinations_of(folder)
-    return [kind_of(folder, name, np.where(solid, codes, ""), solid, encode=encode) for name, codes in found.items()]
+    return [kind_of(folder, name, np.where(solid, codes, ""), solid) for name, codes in found.items()]
 
 
 def destinations_of(folder: Folder) -> NDArray[Any]:
@@ -56,9 +48,7 @@ def destinations_of(folder: Folder) -> NDArray[Any]:
     return np.where(blocks["revenue"] > blocks["processing_cost"], ORE, WASTE)
 
 
-def kind_of(
-    folder: Folder, name: str, codes: NDArray[Any], solid: NDArray[np.bool_], *, encode: Encode
-) -> dict[str, Any]:
+def kind_of(folder: Folder, name: str, codes: NDArray[Any], solid: NDArray[np.bool_]) -> dict[str, Any]:
     """Returns a category; codes beyond the palette are together."""
     labels, counts = np.unique(codes[solid].astype(str), return_counts=True)
     order = labels[np.argsort(-counts, kind="stable")].tolist()
@@ -68,7 +58,7 @@ def kind_of(
     number = np.array([place.get(code, len(order)) for code in codes.astype(str)], dtype=np.uint8)
     return {
         "name": name,
-        "cells": encode(folder.grid.spread(np.where(solid, number, 0).astype(np.uint8), 0)),
+        "cells": encoded(folder.grid.spread(np.where(solid, number, 0), 0)),
         "labels": [label or NO_CODE for label in order],
         "colours": [[int(tint[k : k + 2], 16) for k in (1, 3, 5)] for tint in tints_of(folder, name, order)],
     }
@@ -133,7 +123,7 @@ def model_of(folder: Folder) -> dict[str, Any]:
         "metals": [metal_of(folder, metal, solid) for metal in folder.record["metals"]],
         "amounts": [value_of(folder, solid)],
         "grade_colours": colours("YlOrRd", np.linspace(0, 1, 256)),
-        "kinds": kinds_of(folder, encoded),
+        "kinds": kinds_of(folder),
         "stages": [stage_of(folder, *stage) for stage in STAGES if stage[0] in blocks],
         "rows": compressed(rows_of(folder).encode("utf-8")),
     }

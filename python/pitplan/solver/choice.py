@@ -68,7 +68,7 @@ def is_proved(sha256: str) -> bool:
 
 def preferred() -> str:
     named = [by for by, name in ((LIBRARY, "PITSHELL_LIBRARY"), (PROGRAM, "PITSHELL")) if os.environ.get(name)]
-    return named[0] if named else LIBRARY if library.is_there() else PROGRAM
+    return named[0] if named else PROGRAM if library.package() is None else LIBRARY
 
 
 def place_of(solver: Solver) -> tuple[str, Path]:

@@ -39,10 +39,6 @@ def package() -> Optional[ModuleType]:
     return pitshell
 
 
-def is_there() -> bool:
-    return package() is not None
-
-
 def loaded() -> ModuleType:
     """Returns the package `pitshell`. Raises ProgramError if there is no library."""
     found = package()

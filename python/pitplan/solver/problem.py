@@ -55,13 +55,9 @@ class MineInFiles:
 
     def shells(self, factors: tuple[float, ...]) -> Solution:
         """The shells of the rest that fixed blocks leave; of all where none exist."""
-        names = (
-            (mine_files.BLOCKS, mine_files.PREC)
-            if self.plan.settled is None
-            else (mine_files.REST_BLOCKS, mine_files.REST_PREC)
-        )
-        blocks, prec = (self.folder / name for name in names)
-        return program.solve_files(blocks, prec, factors)
+        if self.plan.settled is None:
+            return self.free_shells(factors)
+        return program.solve_files(self.folder / mine_files.REST_BLOCKS, self.folder / mine_files.REST_PREC, factors)
 
     def free_shells(self, factors: tuple[float, ...]) -> Solution:
         """Returns the shells without constraints."""

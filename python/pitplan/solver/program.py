@@ -77,25 +77,20 @@ def solve_files(blocks: Path, prec: Path, factors: tuple[float, ...]) -> Solutio
     return read_answer(call("shells", *options))
 
 
-def solve_pit(model: Path, prec: Path, fixed: Optional[Path], factor: float) -> Solution:
+def solve_pit(model: Path, prec: Path, fixed: Path, factor: float) -> Solution:
     """Returns the pit of a model whose values are those of a revenue factor, times 1,000.
 
     Parameters
     ----------
-    model, prec : Path
-        Files of values and precedences.
-    fixed : Path, optional
-        File of must-mine and excluded blocks.
+    model, prec, fixed : Path
+        Files of values, of precedences, and of must-mine and excluded blocks.
 
     Raises
     ------
     ProgramError
         If the program refuses, for example because a must-mine block depends on an excluded one.
     """
-    options: list[Union[str, Path]] = ["--model", model, "--prec", prec]
-    if fixed:
-        options += ["--fixed", fixed]
-    answer = call("solve", *options)
+    answer = call("solve", "--model", model, "--prec", prec, "--fixed", fixed)
     lines = answer.decode().split("\n")
     nodes, count, worth = (lines[k].split()[1] for k in (1, 2, 3))
     entry = np.zeros(int(nodes))

@@ -4,7 +4,6 @@ from __future__ import annotations
 
 import json
 import os
-import threading
 from collections.abc import AsyncIterator, Mapping
 from contextlib import suppress
 from dataclasses import dataclass
@@ -24,7 +23,7 @@ from pitplan.errors import WARNING, PlanError
 from .jobs import DONE, IMPORT, Job
 from .pages import MOST_BYTES, PageGroup, form_of, in_words, number_of, threaded
 from .run_form import WrongForm, plain
-from .workspace import NotThere, Workspace
+from .workspace import FileCache, NotThere, Workspace
 
 # The modules of block models need pandas, which is loaded when a page needs it.
 if TYPE_CHECKING:
@@ -75,29 +74,6 @@ class Recognised:
     columns: list[dict[str, str]]
     figure: str
     project_hash: str
-
-
-class RowsOfLast:
-    """The rows of the file that was read last: a change of a role does not read it again."""
-
-    def __init__(self) -> None:
-        self.lock, self.key = threading.Lock(), ("", 0, 0)
-        self.rows: TableRows | None = None
-
-    def of(self, file: Path) -> TableRows:
-        """Returns the rows of a file. Raises PlanError if it cannot be read."""
-        from pitplan.blockmodel import guesses
-
-        with self.lock:
-            try:
-                state = file.stat()
-            except OSError as error:
-                raise PlanError(f"{file.name}: cannot be read: {error.strerror}: import it again") from error
-            key = (str(file), state.st_mtime_ns, state.st_size)
-            if self.rows is None or key != self.key:
-                self.rows = None
-                self.rows, self.key = guesses.rows_of(file), key
-            return self.rows
 
 
 def table_of(job: Job) -> str:
@@ -281,8 +257,9 @@ class ImportPages(PageGroup):
     """The pages of an import, and of a change of roles."""
 
     @cached_property
-    def last(self) -> RowsOfLast:
-        return RowsOfLast()
+    def rows(self) -> FileCache[TableRows]:
+        """The rows of the file that was read last: a change of a role does not read it again."""
+        return FileCache(1)
 
     @property
     def routes(self) -> list[Route]:
@@ -364,8 +341,8 @@ class ImportPages(PageGroup):
 
         form = form_of(request)
         job = self.jobs.read(number_of(form.get("number", "")))
-        roles = self.roles_of(job, form)
-        model = guesses.model_of(self.last.of(self.workspace.place(table_of(job))), roles)
+        roles, file = self.roles_of(job, form), self.workspace.place(table_of(job))
+        model = guesses.model_of(self.rows.of(file, [file], lambda: guesses.rows_of(file)), roles)
         text, found = wizard.project_of(model, self.workspace.root / job.project)
         warnings = [it.removeprefix(WARNING) for it in found.warnings]
         return JSONResponse({"text": text, "columns": found.records, "warnings": warnings})
