@@ -185,6 +185,18 @@ def test_a_copy_has_the_proofs_of_a_module_out(tmp_path: pathlib.Path) -> None:
     assert [line.partition(":")[0] for line in (tmp_path / "crates.txt").read_text().splitlines() if line[0] != "#"] == ["faults", "report"]
 
 
+def test_a_copy_takes_what_a_check_kept(tmp_path: pathlib.Path, monkeypatch: pytest.MonkeyPatch) -> None:
+    """The compiled crate is left out: a check of a crate reads only those below it."""
+    monkeypatch.setattr(proofs, "TOP", tmp_path / "here")
+    out = tmp_path / "here" / "crates" / "csr" / "out"
+    for part in ("incremental", clone.COMPILED):
+        (out / part).mkdir(parents=True)
+        (out / part / "kept").touch()
+    for name in ("csr", "faults"):
+        proofs.take_kept(tmp_path / "copy", name)
+    assert [it.relative_to(tmp_path / "copy") for it in (tmp_path / "copy").rglob("kept")] == [pathlib.Path("crates/csr/out/incremental/kept")]
+
+
 def test_a_mutant_of_a_definition_names_a_function(folder: pathlib.Path) -> None:
     named = written(folder, f"# a: b\nproofs: csr view::row_rises\n{LESS}")
     assert (named.refuser, proofs.function_of(named), tool.refuser_fault(named)) == ("csr", "view::row_rises", "")

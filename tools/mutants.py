@@ -5,7 +5,7 @@
                                           one crate more, another each day; proves all, and takes the programs and the library into build/
     tools/mutants.py [NAME..]             those for the prover, of these crates or by these names (crate/mutant), or all, which takes an
                                           hour or two. If crates are named, only those and the ones below them are proved
-    tools/mutants.py --kind KIND [NAME..] those of another kind: `proofs` (10 to 30 seconds each, once the crates below are built),
+    tools/mutants.py --kind KIND [NAME..] those of another kind: `proofs` (10 to 30 seconds each, once `rt check` built the crates below),
                                           `crate-tests` (a minute each), `program-test` (some minutes a round of several)
     tools/mutants.py --read               plants none: each can be planted, names who refuses it, and has a line in mutants.lock
     tools/mutants.py --list               prints each with its kind, who must refuse it, and whether its state is that of mutants.lock

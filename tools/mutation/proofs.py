@@ -2,8 +2,8 @@
 
 A definition that could change in one quantifier, sign or number while all stays proved would be pinned by the reader's eye alone. A proof
 that breaks shows little: it may repeat the definition. So a mutant names a function whose contract is false by the changed definition,
-and only that function is proved, in a copy of its crate. A copy takes the compiled crates below from the folders `out/` of this
-checkout, as `rt check` leaves them; where there is none, or one of other sources, the crate is proved once for each copy.
+and only that function is proved, in a copy of its crate. A copy takes the compiled crates below, and what a check of its crate kept, from
+the folders `out/` of this checkout, as `rt check` leaves them; a crate with none, or one of other sources, is proved once for each copy.
 """
 
 import concurrent.futures
@@ -15,7 +15,7 @@ import subprocess
 import tempfile
 from collections.abc import Iterator
 
-from clone import keep_only, link_compiled, unneeded
+from clone import COMPILED, keep_only, link_compiled, unneeded
 from crates import TOP, in_order
 from mutation.edits import Mutant, planted_in
 from mutation.outcomes import Outcome
@@ -28,6 +28,13 @@ def copy_crates(folder: pathlib.Path, names: list[str]) -> None:
     shutil.copy(TOP / "crates.txt", folder)
     shutil.copy(TOP / "HANDLES", folder)
     keep_only(folder, set(names))
+
+
+def take_kept(folder: pathlib.Path, name: str) -> None:
+    """What a check of this crate kept here, if there was one."""
+    kept = TOP / "crates" / name / "out"
+    if kept.is_dir():
+        shutil.copytree(kept, folder / "crates" / name / "out", ignore=shutil.ignore_patterns(COMPILED), dirs_exist_ok=True)
 
 
 def function_of(mutant: Mutant) -> str:
@@ -73,6 +80,7 @@ def try_all(crate: str, mutants: list[Mutant], found: "queue.Queue[Outcome | Non
         with tempfile.TemporaryDirectory(prefix="pitshell-", ignore_cleanup_errors=True) as name:
             copy = pathlib.Path(name)
             copy_crates(copy, in_order(crate))
+            take_kept(copy, crate)
             for mutant in mutants:
                 found.put(try_in(copy, mutant))
     finally:
