@@ -5,6 +5,7 @@ import pytest
 from conftest import rows
 from helpers.block_commands import YEARLY, rewrite, scheduled, wrong, years_of
 from helpers.dumps import BOTH, CASH, FAR, NEAR, THREE_YEARS, of_rocks, present
+from helpers.pushbacks import pillars
 
 import pitplan
 from pitplan import PlanError, load
@@ -111,6 +112,17 @@ def test_rock_that_no_dump_accepts_is_refused(plan_folder):
     project = load(plan_folder(of_rocks(), YEARLY + words))
     with pytest.raises(PlanError, match="none of near accepts 400 t of rock type OX"):
         pitplan.write_block_schedule(project)
+
+
+@pytest.mark.filterwarnings("error::RuntimeWarning")
+def test_rock_outside_the_pit_needs_no_dump(plan_folder):
+    """The third pillar's ore earns 80, less than its waste costs to mine; no dump accepts that waste, which stays."""
+    table = pillars(rock=lambda i, j, k: "X" if k and i == 2 else "FR")
+    table.loc[table["name"] == "b2-0-0", "cu"] = 0.32
+    words = THREE_YEARS + NEAR + 'accepts = { rock_type = "FR" }\n'
+    text = YEARLY.replace("[0.5, 1.0, 1.5]", "[0.5, 1.0]")
+    row, folder = scheduled(plan_folder, words, text, table)
+    assert row["npv"] == pytest.approx(present(2500, 1300), abs=0.01) and taken(folder) == {"near": [100, 100]}
 
 
 @pytest.mark.parametrize(

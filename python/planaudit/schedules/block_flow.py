@@ -80,12 +80,12 @@ def flow_of(answer: Answer) -> MaterialFlow:
     return replace(flow, rows=flow.rows.assign(**{name: due for name, (due, _) in flow.expected.items()}))
 
 
-def checks_of(answer: Answer, told: dict[str, Any]) -> Checks:
+def checks_of(answer: Answer, record: dict[str, Any]) -> Checks:
     """Returns the checks of feed.csv, limits.csv, inventory.csv, cash_flow.csv, valuation.csv and grade_tonnage.csv, and of dumps and price paths if there are any."""
     flow = flow_of(answer)
     found: Checks = {
         "inventory": lambda: [inventory.rule_of([*untaken(flow), *inventory.unlike_rows(flow)])],
-        "feed and limits": lambda: [verify_feed(flow, told)],
+        "feed and limits": lambda: [verify_feed(flow, record)],
         "cash flow": lambda: [cash_flow.verify(flow, [CASE])],
         "grade tonnage": lambda: [grade_tonnage.verify(answer)],
     }
@@ -96,7 +96,7 @@ def checks_of(answer: Answer, told: dict[str, Any]) -> Checks:
     return {**found, "price paths": lambda: [price_paths.verify(answer, CASE, recovered_of(flow))]}
 
 
-def verify_feed(flow: MaterialFlow, told: dict[str, Any]) -> Rule:
+def verify_feed(flow: MaterialFlow, record: dict[str, Any]) -> Rule:
     """Verifies that feed.csv has the sums of blocks by process and year, limits.csv the use of each limit, and both the prices of bound.csv."""
     answer, last = flow.answer, int(flow.rows["year"].max()) if len(flow.rows) else 0
     tables = answer.folder / TABLES
@@ -110,7 +110,7 @@ def verify_feed(flow: MaterialFlow, told: dict[str, Any]) -> Rule:
     # By block the price of a minimum is below 0, and that of all years is shown in the last one.
     prices = prices.assign(price=np.where(prices["side"] == bounds.MIN, -prices["price"], prices["price"]))
     prices.loc[prices["year"] == 0, "year"] = last
-    table = limit_table.LimitTable(answer, by_year(answer, max(last, 1)), prices, told["years"])
+    table = limit_table.LimitTable(answer, by_year(answer, max(last, 1)), prices, record["years"])
     found += [*table.unlike_cutoffs(said), *table.unlike(CASE, rows, lambda name: used(flow, name, last), last)]
     return rule("feed and limits", holds, found[:TOLD], len(found))
 

@@ -157,9 +157,10 @@ class Bound:
         answer, best = self.answer, np.full((len(self.answer.rows), self.years), -np.inf)
         if not answer.project.dumps:
             best = self.earned_as(None)
-        for dump in answer.project.dumps:
-            # Nothing of air lies anywhere.
-            is_taken = ~refused(answer.rows, answer.project, dump["accepts"]) | (answer.tonnes == 0)
+        accepted = [~refused(answer.rows, answer.project, dump["accepts"]) for dump in answer.project.dumps]
+        for number, dump in enumerate(answer.project.dumps):
+            # Rock that no dump accepts counts in the first one: a schedule that mines it is rejected. Air lies in none.
+            is_taken = accepted[number] | (answer.tonnes == 0) | ((number == 0) & ~np.any(accepted, axis=0))
             best = np.where(is_taken[:, None], np.maximum(best, self.earned_as(None, dump)), best)
         for (name, _), (revenue, _) in zip(shares_of(answer), answer.amounts_of_ways):
             is_taken = (answer.said[revenue] > 0).to_numpy() | (not answer.project.dumps)

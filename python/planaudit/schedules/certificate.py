@@ -72,6 +72,8 @@ class BlockCertificate:
         """What each block costs in each dump, by dump; in its cheapest one where the dump does not accept it, each of shape (blocks,)."""
         answer = self.answer
         is_open = np.stack([~refused(answer.rows, answer.project, it["accepts"]) for it in answer.project.dumps])
+        # Rock that no dump accepts counts in the first one.
+        is_open[0] |= ~is_open.any(axis=0)
         costs = np.where(is_open, np.array([it["cost"] for it in answer.project.dumps])[:, None], np.inf)
         costs = np.where(is_open, costs, costs.min(axis=0)) * np.where(answer.tonnes > 0, answer.tonnes, 1.0)
         costs = np.where(answer.tonnes > 0, costs, 0.0)

@@ -19,7 +19,7 @@ class Mine:
     """A table, and the rules of its project; amounts are per year, and where they are lists by period.
 
     dumps     by name cost per tonne, capacity, rock type that it accepts, and what it takes in each period at most
-    arsenic   the greatest head grade of the mill by period; None where there is none
+    arsenic   the greatest head grade of the mill by period; None without a limit
     """
 
     table: pd.DataFrame

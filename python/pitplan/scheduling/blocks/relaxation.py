@@ -724,8 +724,8 @@ def reduced(problem: BlockProblem, required: Optional[NDArray[np.bool_]] = None)
 
 
 def first_required(problem: BlockProblem) -> NDArray[np.bool_]:
-    """Returns the blocks that may be required from the first: all that take from a signed limit with a minimum, which may not be met without them, and if
-    one integer programme has all blocks, which finds the best schedule with them; otherwise none."""
+    """Returns the blocks that the relaxation takes from the first besides those that pay: all that take from a signed limit if there is a minimum, or if
+    one integer programme holds all blocks; otherwise none."""
     is_asked = problem.owes or problem.blocks * problem.years <= MOST_UNKNOWNS
     return problem.easing if is_asked else np.zeros(problem.blocks, dtype=bool)
 
