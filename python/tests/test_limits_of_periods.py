@@ -18,9 +18,9 @@ FLAT = PROJECT.replace("processing_capacity = 100", "processing_capacity = 80").
 BLOCKS = {"cu": lambda i, j, k: 0.8, "arsenic": lambda i, j, k: 50 + 100 * i}
 
 
-def written_to(place, words, text=FLAT):
+def written_to(place, words, text=FLAT, blocks=None):
     place.mkdir(exist_ok=True)
-    rows(2, 1, 1, **BLOCKS).to_csv(place / "blocks.csv", index=False)
+    rows(2, 1, 1, **(blocks or BLOCKS)).to_csv(place / "blocks.csv", index=False)
     (place / "project.toml").write_text(text + HEAD + words)
     return load(place / "project.toml")
 
@@ -61,6 +61,17 @@ def test_a_head_grade_by_period_by_hand(tmp_path):
     tight, _ = scheduled(tmp_path / "tight", "[schedule]\nyears = 5\n[schedule.feed]\narsenic = { max = 80 }\n")
     assert tight["upper_bound"] < found["upper_bound"] < free["upper_bound"]
     assert tight["npv"] < found["npv"] < free["npv"]
+
+
+def test_a_limit_that_is_the_grade_of_all_ore(tmp_path):
+    """All ore has 50 ppm, so a limit of 50 ppm keeps nothing out of the mill."""
+    even = BLOCKS | {"arsenic": lambda i, j, k: 50}
+    values = []
+    for name, words in {"free": "", "even": "[schedule.feed]\narsenic = { max = 50 }\n"}.items():
+        project = written_to(tmp_path / name, f"[schedule]\nyears = 5\n{words}", blocks=even)
+        values.append(pitplan.write_schedule(project, writing=UNVERIFIED).set_index("method")["npv"].to_dict())
+        assert differences(project.folder / "schedule") == []
+    assert values[0] == pytest.approx(values[1]) and values[0]["lp"] > 0
 
 
 @pytest.mark.slow

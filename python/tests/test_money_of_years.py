@@ -15,6 +15,7 @@ from hypothesis import given, strategies as st
 
 import pitplan
 from pitplan import PlanError, verify, write_schedule
+from pitplan.config.material import Stockpile
 from pitplan.config.periods import Calendar
 from pitplan.config.schedule import Effort
 from pitplan.economics import period_costs
@@ -203,6 +204,31 @@ def test_a_schedule_of_bins_by_hand(money, best):
     assert optimum.value == pytest.approx(best) and optimum.cash.sum() == pytest.approx(best)
     assert upper_bound(model, ore, optimum.prices) == pytest.approx(best)
     assert scheduler.from_optimum(model, optimum).value == pytest.approx(best)
+
+
+def one_bench(capacity, fixed, gains, stockpiles=()):
+    """A bench of 10 t of ore, which each process takes to this capacity a year for this gain. A year costs `fixed`."""
+    benches = PushbackBenches(np.array([1]), np.array([0]), NAMES, np.array([[10.0, 0, 0, 0]]))
+    settings = SimpleNamespace(discount_rate=0.0, discounting="end_of_year", calendar=Calendar())
+    names = [f"feed_tonnes_{number}" for number in range(len(gains))]
+    most = dict(zip(names, capacity)) | {"total_tonnes": 10.0}
+    feed = {name: np.where(np.arange(len(gains)) == number, 10.0, 0.0)[:, None] for number, name in enumerate(names)}
+    amounts = {"feed_tonnes": np.full((len(gains), 1), 10.0)} | feed
+    ore = Ore(np.zeros(1, dtype=np.int64), np.ones(1, dtype=np.int64), np.array(gains, dtype=float)[:, None], amounts)
+    return FlowModel(Problem(benches, Limits(most), settings, YearlyMoney((fixed,))), ore, 2, stockpiles)
+
+
+def test_a_year_in_which_little_is_fed_costs_its_whole():
+    """6 t of 10 gain 60 in the first year, of which 30 remain; the rest gains 40 in the second, of which 10 remain."""
+    flows, bound = scheduler.best_schedule(one_bench([6.0], 30.0, [100.0]), Effort())
+    assert flows.value == pytest.approx(40) and bound == pytest.approx(40)
+
+
+def test_ore_leaves_its_stockpile_before_a_year_that_costs_more():
+    """The mill takes 6 t of 10 a year and gains 2 a tonne, the other process 1. The 4 t that wait for the mill earn 4 more, and a year costs 5."""
+    model = one_bench([6.0, 10.0], 5.0, [20.0, 10.0], (Stockpile(0.0),))
+    flows, bound = scheduler.best_schedule(model, Effort())
+    assert flows.value == pytest.approx(12 + 4 - 5) and bound == pytest.approx(11) and flows.years == 1
 
 
 @examples(12)

@@ -190,8 +190,8 @@ def none_of(model: FlowModel, mined: NDArray[np.float64]) -> Flows:
     )
 
 
-def best(model: FlowModel, mined: NDArray[np.float64]) -> Flows:
-    """Returns the best flows of what is mined in all years.
+def best(model: FlowModel, mined: NDArray[np.float64], fed_until: Optional[int] = None) -> Flows:
+    """Returns the best flows of what is mined in all years, in which processes take nothing after a year, from 1.
 
     Raises
     ------
@@ -200,7 +200,7 @@ def best(model: FlowModel, mined: NDArray[np.float64]) -> Flows:
     KeyboardInterrupt
         If the run is interrupted.
     """
-    programme = FlowProgramme(model, mined)
+    programme = FlowProgramme(model, mined, fed_until=fed_until)
     if not len(programme.gain):
         return none_of(model, mined)
     found = programme.solved()

@@ -366,9 +366,9 @@ class FlowModel:
 
     @cached_property
     def of_mining(self) -> Limits:
-        """The limits of mining alone: those to which processing adds nothing, and the vertical advance rate."""
-        limits = self.problem.limits
-        most = {name: amount for name, amount in limits.most.items() if not self.is_of_ore(name)}
+        """The limits of mining alone: those to which benches add and processing does not, and the vertical advance rate."""
+        limits, mined = self.problem.limits, self.benches.names
+        most = {name: amount for name, amount in limits.most.items() if name in mined and not self.is_of_ore(name)}
         return replace(limits, most=most, least={})
 
     @cached_property

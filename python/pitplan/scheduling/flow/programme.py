@@ -135,13 +135,14 @@ class FlowProgramme:
     """The programme of a model; with `mined`, shape (benches, years), of what is mined already, so that only its flows are chosen. Without `paced` it
     has no rows that only schedules of whole benches must keep. With `near`, shape (benches, years), ore goes to processes and stockpiles only in the
     years in which its bench is expected to be mined. With `between`, two arrays of this shape, at least and at most these shares are mined by the end
-    of each year."""
+    of each year. With `fed_until` processes take nothing after this year, from 1."""
 
     model: FlowModel
     mined: Optional[NDArray[np.float64]] = None
     paced: bool = True
     near: Optional[NDArray[np.bool_]] = None
     between: Optional[tuple[NDArray[np.float64], NDArray[np.float64]]] = None
+    fed_until: Optional[int] = None
 
     @property
     def years(self) -> int:
@@ -354,10 +355,11 @@ class FlowProgramme:
         # From the year on in which the first of it may be placed; it is reclaimed later.
         placed = np.maximum.accumulate(of_ore, axis=1)
         later = np.pad(placed[:, :-1], ((0, 0), (1, 0)))
-        parts = [of_ore[model.direct.parcel], of_ore[model.stocked.parcel], placed[model.stocked.parcel]]
-        flows = [part.ravel().astype(float) for part in (*parts, later[model.reclaimed.parcel])]
+        feeds = np.arange(self.years) < (self.years if self.fed_until is None else self.fed_until)
+        parts = [of_ore[model.direct.parcel] & feeds, of_ore[model.stocked.parcel], placed[model.stocked.parcel]]
+        parts += [later[model.reclaimed.parcel] & feeds, np.tile(feeds, (opened // self.years, 1))]
         reach = self.reachable.ravel() if self.mined is None else np.zeros(0)
-        return np.concatenate([reach, *flows, np.ones(opened + wasted)])
+        return np.concatenate([reach, *(part.ravel().astype(float) for part in parts), np.ones(wasted)])
 
     def order_rows(self) -> tuple[csr_matrix, NDArray[np.float64]]:
         matrix, most = order_rows(self.model.benches, self.years)

@@ -429,15 +429,15 @@ def with_overflow(model: FlowModel) -> FlowModel:
     )
 
 
-def feasible(model: FlowModel, mined: NDArray[np.float64]) -> Optional[Flows]:
-    """Returns the best flows of what is mined; None if they cannot meet the minimums or find room in the dumps, or what is mined does not meet
-    the minimums."""
+def feasible(model: FlowModel, mined: NDArray[np.float64], fed_until: Optional[int] = None) -> Optional[Flows]:
+    """Returns the best flows of what is mined, as `best` does; None if they cannot meet the minimums or find room in the dumps, or what is mined
+    does not meet the minimums."""
     least = model.problem.limits.least_of_years(model.years)
     of_mining = {name: amounts for name, amounts in least.items() if not model.is_of_ore(name)}
     if any((model.mined(name) @ mined < amounts * (1 - MISSED_LIMIT)).any() for name, amounts in of_mining.items()):
         return None
     try:
-        return best(model, mined)
+        return best(model, mined, fed_until)
     except PlanError:
         if model.asks_least or model.waste.is_limited:
             return None
@@ -456,23 +456,35 @@ def without_loss(flows: Flows) -> Flows:
 def ended(flows: Flows) -> Flows:
     """Returns the schedule up to the year with whose end it is worth most: the last, unless years cost more than they earn."""
     model = flows.model
-    if model.problem.costs_of_years(model.years).any() and not model.asks_least:
-        flows = max((flows.until(year) for year in range(model.years, -1, -1)), key=lambda it: it.value)
+    if model.problem.costs_of_years(model.years).any():
+        ends = [] if model.asks_least else [flows.until(year) for year in range(model.years, -1, -1)]
+        flows = max([flows, *ends, *fed_sooner(flows)], key=lambda it: it.value)
     return flows.cut(flows.last)
+
+
+def fed_sooner(flows: Flows) -> list[Flows]:
+    """Returns the best flows of the same mining that end in each year from the last on in which something is mined: ore that would be
+    reclaimed later leaves the stockpiles by then, or does not go there."""
+    model, mined = flows.model, padded(flows.mined, flows.model.years)
+    last = int(np.flatnonzero(mined.any(axis=0)).max(initial=-1)) + 1
+    years = range(max(last, 1), flows.last) if model.stockpiles else ()
+    return [it for it in (feasible(model, mined, year) for year in years) if it is not None]
 
 
 # The material flow as an integer programme: the best schedule of parcels, if it is small enough to be found.
 #
 # To the unknowns of the linear programme come whole ones: whether a bench may be started by the end of a year. It may
-# only when all that it waits for is mined by then, and only then may any of it be mined.
+# only when all that it waits for is mined by then, and only then may any of it be mined. If years cost anything, whether
+# the mine runs in a year is whole too.
 
 # HiGHS may run past its time limit. Its process is ended after TIMES the limit plus LATE seconds, without a result.
 TIMES, LATE = 2.0, 30.0
 
 
 def integer_programme(flow: FlowProgramme) -> Programme:
-    """Returns the linear programme with the whole unknowns behind its own."""
+    """Returns the linear programme with the whole unknowns behind its own; a year in which the mine runs costs its whole."""
     given, size = flow.programme, flow.sizes[0]
+    is_running = np.arange(len(given.gain)) >= sum(flow.sizes)
     started = started_rows(flow.model.benches, flow.years)
     between = csr_matrix((started.shape[0], len(given.gain) - size))
     matrix = vstack(
@@ -487,7 +499,7 @@ def integer_programme(flow: FlowProgramme) -> Programme:
         matrix=matrix,
         most=np.concatenate([given.most, np.zeros(started.shape[0])]),
         upper=np.concatenate([given.upper, (given.upper[:size] > SOLVER_SUM).astype(float)]),
-        whole=np.repeat([False, True], [len(given.gain), size]),
+        whole=np.concatenate([is_running, np.ones(size, dtype=bool)]),
     )
 
 

@@ -1,0 +1,43 @@
+"""Schedules under all rules at once, from the table on, against an integer programme over the table that the tests state."""
+
+import pytest
+from helpers.random_mines import benches, blocks_alone, optimum_of, random_mine, random_pushback_mine
+from helpers.random_tests import seeds
+
+import pitplan
+from pitplan import PlanError
+
+BATCH = 5
+
+
+@pytest.mark.parametrize("batch", seeds(4, 40))
+def test_value_and_bound_hold_the_optimum_between_them(plan_folder, batch):
+    """Of mines of 4 to 12 blocks one window of the integer programmes has all years, so the value is the optimum."""
+    for seed in range(BATCH * batch, BATCH * (batch + 1)):
+        mine = random_mine(seed)
+        optimum = optimum_of(mine, blocks_alone(mine))
+        plan = pitplan.Plan.from_project(plan_folder(mine.table, mine.text))
+        if optimum is None:
+            with pytest.raises(PlanError, match="infeasible|no schedule of whole blocks"):
+                plan.block_schedule()
+            continue
+        found, slack = plan.block_schedule().found, 0.01 + 1e-6 * abs(optimum)
+        assert optimum - slack <= found.value <= optimum + slack <= found.bound + 2 * slack, seed
+
+
+@pytest.mark.parametrize("batch", seeds(4, 40))
+def test_a_schedule_by_pushback_is_the_best_of_its_parcels(plan_folder, batch):
+    """The integer programme finds the optimum where each block of ore is a parcel of its own; otherwise parcels may cost something."""
+    for seed in range(BATCH * batch, BATCH * (batch + 1)):
+        mine = random_pushback_mine(seed)
+        pushbacks = pitplan.Plan.from_project(plan_folder(mine.table, mine.text)).shells().pushbacks()
+        number = pushbacks.blocks.set_index("name")["pushback"].reindex(mine.table["name"]).fillna(0).to_numpy(int)
+        optimum = optimum_of(mine, benches(mine, number))
+        if optimum is None:
+            with pytest.raises(PlanError, match="infeasible"):
+                pushbacks.schedule()
+            continue
+        found, slack = pushbacks.schedule(), 0.01 + 1e-6 * abs(optimum)
+        value, is_exact = found.value(found.shown), len(found.material.parcels) == len(found.material.blocks)
+        assert value <= optimum + slack <= found.upper_bound + 2 * slack, seed
+        assert value >= optimum - slack or not is_exact, seed
