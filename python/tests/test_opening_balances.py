@@ -12,6 +12,7 @@ import pitplan
 from pitplan import PlanError, load, verify
 from pitplan.config.material import Opening
 from pitplan.config.project import Project
+from pitplan.results.folder import read_record
 
 # 100 t of ore of 0.8 % earn 3200 - 1000 for processing - 200 for mining; the mill takes 40 t a year.
 SCHEDULE = "[pushbacks]\ncount = 1\nultimate_pit = 1.0\n[schedule]\nyears = 5\n"
@@ -50,6 +51,16 @@ def test_the_stockpile_is_milled_before_the_pit_by_hand(written):
     assert found.loc["lp", "upper_bound"] == pytest.approx(value, abs=0.01)
     assert found.loc["rule", "npv"] == pytest.approx(20 * (40 / 1.1 + 40 / 1.21 + 20 / 1.331), abs=0.01)
     assert differences(written[0] / "plan/schedule") == []
+
+
+def test_a_schedule_may_process_the_stockpile_alone(tmp_path):
+    """At 2,900 a tonne of copper, ore of 0.8 % earns 11.6 - 10 - 2 a tonne, and 1 % that lies there 14.5 - 10 - 1. 20 t may remain after a year."""
+    words = f"{PILE}[[periods]]\nprices = {{ copper = 2900 }}\nstockpiles = {{ stockpile = {{ max = 20 }} }}\n"
+    found = pitplan.write_schedule(written_to(tmp_path, words), writing=UNVERIFIED).set_index("method")
+    assert found["npv"].tolist() == pytest.approx([3.5 * (40 / 1.1 + 20 / 1.21)]) and found["tonnes"].tolist() == [0]
+    assert differences(tmp_path / "plan/schedule") == []
+    notes = read_record(tmp_path / "plan/schedule")["notes"]
+    assert "linear programme mines nothing: it processes what lies on stockpiles at the start alone" in notes
 
 
 def test_tables_have_what_lay_there(written):

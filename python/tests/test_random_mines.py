@@ -30,7 +30,12 @@ def test_a_schedule_by_pushback_is_the_best_of_its_parcels(plan_folder, batch):
     """The integer programme finds the optimum where each block of ore is a parcel of its own; otherwise parcels may cost something."""
     for seed in range(BATCH * batch, BATCH * (batch + 1)):
         mine = random_pushback_mine(seed)
-        pushbacks = pitplan.Plan.from_project(plan_folder(mine.table, mine.text)).shells().pushbacks()
+        plan = pitplan.Plan.from_project(plan_folder(mine.table, mine.text))
+        try:
+            pushbacks = plan.shells().pushbacks()
+        except PlanError as error:
+            assert "the pit of revenue factor 1.00 is empty" in str(error)
+            continue
         number = pushbacks.blocks.set_index("name")["pushback"].reindex(mine.table["name"]).fillna(0).to_numpy(int)
         optimum = optimum_of(mine, benches(mine, number))
         if optimum is None:

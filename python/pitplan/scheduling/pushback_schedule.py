@@ -363,7 +363,9 @@ class PushbackSchedule(Schedule):
             found.append("no schedule by rule: its waste finds no room in the dumps")
         for method in self.flows:
             rock = self.left(method)
-            if not self.shares[method].any():
+            if self.flows[method].opened.any() and not self.shares[method].any():
+                found.append(f"{NAMES[method]} mines nothing: it processes what lies on stockpiles at the start alone")
+            elif not self.shares[method].any():
                 pays = self.shown == method and (self.upper_bound or 0.0) > 0
                 found.append(
                     f"{WARNING if pays else ''}{NAMES[method]} mines nothing: at these prices and costs it finds no schedule with an NPV above 0"
@@ -540,7 +542,7 @@ def make(pushbacks: Pushbacks, progress: Optional[Progress] = None) -> PushbackS
         if not schedule.flows:
             raise
         schedule = replace(schedule, interrupted=True)
-    if not any(shares.any() for shares in schedule.shares.values()):
+    if not any(flows.moved.any() for flows in schedule.flows.values()):
         years = f"{schedule.time(model.years):.10g} year{'s' * (model.years > 1)}"
         why = f"within these limits nothing can be mined in {years}: check processing_capacity and ramp_up"
         raise PlanError(f"{project.path}: [schedule] years: {why}")
