@@ -59,6 +59,17 @@ def test_limits_of_periods_by_hand(plan_folder):
     assert limits == {("dump_far", "min"): 3, ("dump_near", "max"): 3}
 
 
+def test_rock_that_pays_nothing_may_be_mined_for_a_minimum(plan_folder):
+    """One pillar has ore. Near takes at least 100 t in the third year: waste of another pillar, for 200 + 100, while the ore is mined at once."""
+    table = pillars().assign(cu=lambda it: it["cu"].where(it["x"] == 5, 0))
+    rules = f"{THREE_YEARS}milp = {{ gap = 0.0001, seconds = 60 }}\n"
+    words = f"{rules}{NEAR}[[periods]]\n[[periods]]\n[[periods]]\ndumps = {{ near = {{ min = 100 }} }}\n"
+    row, folder = scheduled(plan_folder, words, table=table)
+    value = present(2600 - 100, 0, -300)
+    assert row["npv"] == pytest.approx(value, abs=0.01) and row["upper_bound"] == pytest.approx(value, abs=0.01)
+    assert taken(folder) == {"near": [100, 0, 100]}
+
+
 def test_half_years_have_half_of_the_limits(plan_folder):
     """Near takes 60 t a year, which are 30 in a half-year."""
     words = "[[periods]]\nperiod_months = 6\ndumps = { near = { max = 60 } }\n"

@@ -89,6 +89,14 @@ def test_limits_of_periods_by_hand(scheduled):
     assert limits.loc[("dump_far", 3), "shadow_price"] == pytest.approx(-2, abs=1e-6)
 
 
+def test_a_limit_after_the_end_of_the_mine_is_listed(scheduled):
+    """The mine ends after three years of five, and near has a limit in the fifth."""
+    periods = "[[periods]]\n" * 4 + "[[periods]]\ndumps = { near = { max = 60 } }\n"
+    folder, _ = scheduled(f"[schedule]\nyears = 5\n{NEAR}{periods}")
+    limits = table_of(folder, "limits").query("limit == 'dump_near'")
+    assert limits["year"].tolist() == [1, 2, 3] and limits["maximum"].isna().all()
+
+
 def test_half_years_have_half_of_the_limits(scheduled):
     """Near takes 60 t a year, which are 30 in a half-year."""
     words = "[[periods]]\nperiod_months = 6\ndumps = { near = { max = 60 } }\n"

@@ -5,7 +5,7 @@ from helpers.random_mines import benches, blocks_alone, optimum_of, random_mine,
 from helpers.random_tests import seeds
 
 import pitplan
-from pitplan import PlanError
+from pitplan import PlanError, verify
 
 BATCH = 5
 
@@ -46,3 +46,24 @@ def test_a_schedule_by_pushback_is_the_best_of_its_parcels(plan_folder, batch):
         value, is_exact = found.value(found.shown), len(found.material.parcels) == len(found.material.blocks)
         assert value <= optimum + slack <= found.upper_bound + 2 * slack, seed
         assert value >= optimum - slack or not is_exact, seed
+
+
+WAYS = {
+    "schedule": (random_pushback_mine, pitplan.write_schedule),
+    "block_schedule": (random_mine, pitplan.write_block_schedule),
+}
+
+
+@pytest.mark.slow
+@pytest.mark.parametrize("seed", seeds(6, 200))
+@pytest.mark.parametrize("way", WAYS)
+def test_the_audit_finds_what_is_written_right(plan_folder, way, seed):
+    draw, write = WAYS[way]
+    mine = draw(seed)
+    path = plan_folder(mine.table, mine.text)
+    try:
+        write(path, path.parent / "out", writing=pitplan.Writing(verifies=False, figures=False))
+    except PlanError as error:
+        assert any(said in str(error) for said in ("infeasible", "no schedule of whole blocks", "is empty"))
+    else:
+        assert {rule.name: rule.differences for rule in verify(path.parent / "out") if rule.differences} == {}

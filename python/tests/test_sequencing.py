@@ -8,6 +8,7 @@ from hypothesis import given, strategies as st
 
 from pitplan import PlanError
 from pitplan.scheduling.bench_sequencing import BenchSequence, Limits, by_lead, by_rule, leads, mine_in_order
+from pitplan.scheduling.flow.scheduler import whole_shares
 
 
 def shares_of(rows):
@@ -55,6 +56,17 @@ def test_each_limit_by_hand(limits, shares):
     assert mine_in_order(problem_of(benches_of(*THREE), limits), by_lead(benches_of(*THREE), 2)).tolist() == shares_of(
         shares
     )
+
+
+def test_what_no_limit_would_miss_is_not_mined_by_itself():
+    """A pace may have the errors of a solver: the second year would mine 3e-9 of a bench, and the third leave as much."""
+    problem = problem_of(benches_of((1, 0, 100, 0, 0), (1, 1, 100, 0, 0)), Limits({"total_tonnes": 200}))
+    sequence = BenchSequence(np.array([0, 1]), pace=np.array([150.0, 150.0 + 3e-7, 200.0 - 3e-7]))
+    assert mine_in_order(problem, sequence, 3).tolist() == [[1, 0, 0], [0.5, 0, 0.5]]
+    assert whole_shares(np.array([[1.0, 1, 1], [0.5, 0.5 + 3e-9, 1 - 3e-9]]), 1e-7).tolist() == [
+        [1, 0, 0],
+        [0.5, 0, 0.5],
+    ]
 
 
 def test_the_last_year_that_is_allowed():

@@ -12,7 +12,7 @@ from pitplan.config.periods import Calendar
 from pitplan.config.project import Project
 from pitplan.config.schedule import ScheduleRules
 from pitplan.config.shells import ShellRules
-from pitplan.core.tolerances import SUM_ERROR
+from pitplan.core.tolerances import MISSED_LIMIT, SUM_ERROR
 from pitplan.economics.period_costs import PLAIN, YearlyMoney
 from pitplan.errors import PlanError
 from pitplan.pits.best_worst_case import year_discounts
@@ -226,8 +226,10 @@ class Mining:
             if not is_due or (self.done[self.benches.waits[bench]] < 1).any():
                 continue
             pushback = self.benches.pushback[bench]
-            share = self.room(bench, left, depth[pushback])
-            if share > SUM_ERROR:
+            rest, share = 1 - self.done[bench], self.room(bench, left, depth[pushback])
+            # What no limit would miss is not mined by itself.
+            share = rest if rest - share <= MISSED_LIMIT else share
+            if share > MISSED_LIMIT:
                 shares[bench] = share
                 left = np.maximum(left - share * self.takes[bench], 0.0)
                 depth[pushback] -= share

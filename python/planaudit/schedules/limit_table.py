@@ -94,9 +94,10 @@ class LimitTable:
             if np.isfinite(most).any() or name in self.minimums or name in shown
         ]
         # Limits hold in the years of the linear programme, and a method may have fewer.
-        piles = stock_limits(self.answer.project, max(last, int(self.years)))
+        years = max(last, int(self.years))
+        piles = stock_limits(self.answer.project, years)
         held = [f"{STOCK}{name}" for name, (least, most) in piles.items() if least.any() or np.isfinite(most).any()]
-        held += list(dumps.limits_of(self.answer.project, max(last, 1)))
+        held += list(dumps.limits_of(self.answer.project, years))
         due = {(name, year) for name in [*finite, *sinking, *held] for year in range(1, last + 1)}
         there = list(zip(rows["limit"], rows["year"]))
         if set(there) != due or len(there) != len(due):

@@ -437,7 +437,9 @@ def cells_of(plan: Plan, wanted: NDArray[np.bool_]) -> NDArray[np.int64]:
 def owing(plan: Plan, amounts: BlockAmounts) -> NDArray[np.bool_]:
     """The cells that a limit may require: those that add to an amount that has a least, and those that bring a head grade nearer to its limit.
     Raises PlanError where of a model that is too large some were left out."""
-    least = all_limits_of(plan.project, plan.project.schedule or ScheduleRules()).least
+    limits = all_limits_of(plan.project, plan.project.schedule or ScheduleRules())
+    of_dumps = limits.dumped_by_year.items()
+    least = [*limits.least, *(f"{DUMP}{name}" for name, by_year in of_dumps if any(low > 0 for low, _ in by_year))]
     found = np.zeros(plan.grid.count, dtype=bool)
     for name in least:
         found |= (amounts.flows[name] > 0).any(axis=1)

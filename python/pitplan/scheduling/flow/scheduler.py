@@ -126,10 +126,14 @@ def keeps(model: FlowModel, mined: NDArray[np.float64]) -> bool:
 
 
 def whole_shares(cumulative: NDArray[np.float64], slight: float) -> NDArray[np.float64]:
-    """Returns the shares of benches by year from those by the end of each year; differences up to `slight` are the solver's tolerance."""
+    """Returns the shares of benches by year from those by the end of each year. Up to `slight` from 0 and from 1 is the solver's tolerance, and so is a
+    share of a year that no limit would miss: it is mined with the next one."""
     rounded = np.where(cumulative > 1 - slight, 1.0, np.where(cumulative < slight, 0.0, cumulative))
-    shares = np.diff(np.maximum.accumulate(rounded, axis=1), axis=1, prepend=0.0)
-    return np.where(shares > SUM_ERROR, shares, 0.0)
+    done = np.maximum.accumulate(rounded, axis=1)
+    for year in range(1, done.shape[1]):
+        before = done[:, year - 1]
+        done[:, year] = np.where(done[:, year] - before > MISSED_LIMIT, done[:, year], before)
+    return np.diff(done, axis=1, prepend=0.0)
 
 
 # Better depths of a schedule of whole benches, by linear programmes around it.
