@@ -18,6 +18,14 @@ class Process:
     recovery: float
 
 
+# The rock type that a process or stockpile accepts; of none it accepts all.
+Accepts = Optional[str]
+
+
+def accepting(accepts: Accepts) -> str:
+    return "" if accepts is None else f'accepts = {{ rock_type = "{accepts}" }}\n'
+
+
 PROCESSES = {"mill": Process(10.0, 0.5), "leach": Process(3.0, 0.2)}
 
 
@@ -42,13 +50,13 @@ class Dump:
 
     cost: float
     capacity: Optional[float] = None
-    accepts: Optional[str] = None
+    accepts: Accepts = None
     takes: tuple[Between, ...] = FREE
 
     def text(self, name: str) -> str:
         found = f'[[dumps]]\nname = "{name}"\ncost = {self.cost}\n'
         found += "" if self.capacity is None else f"capacity = {self.capacity}\n"
-        return found + ("" if self.accepts is None else f'accepts = {{ rock_type = "{self.accepts}" }}\n')
+        return found + accepting(self.accepts)
 
 
 @dataclass(frozen=True)
@@ -78,12 +86,13 @@ class Pile:
     capacity: Optional[float] = None
     opening: Optional[Lot] = None
     holds: tuple[Between, ...] = FREE
+    accepts: Accepts = None
 
     def text(self, name: str, used: set[str]) -> str:
         found = f'[[schedule.stockpiles]]\nname = "{name}"\nreclaim_cost = {self.reclaim}\nstacking_cost = {self.stacking}\n'
         found += f"recovery = {{ copper = {self.recovery} }}\n"
         found += "" if self.capacity is None else f"capacity = {self.capacity}\n"
-        return found + ("" if self.opening is None else self.opening.keys(used))
+        return found + accepting(self.accepts) + ("" if self.opening is None else self.opening.keys(used))
 
 
 @dataclass(frozen=True)
@@ -120,6 +129,7 @@ class Sum:
 class Mine:
     """A table, and the rules of its project; amounts are per year, and where they are lists by year.
 
+    accepts   the rock type that the other process accepts beside the mill
     minimum   the least feed
     copper    the most recovered copper; None without a limit
     pushbacks how many there are; None if blocks are scheduled alone, for which the rest is not given
@@ -130,6 +140,7 @@ class Mine:
     table: pd.DataFrame
     rock: float
     capacities: dict[str, float]
+    accepts: Accepts
     dumps: dict[str, Dump]
     prices: list[float]
     mining_factors: list[float]
@@ -149,6 +160,7 @@ class Mine:
         """The project."""
         processes = "".join(
             f'[[processes]]\nname = "{name}"\ncost = {it.cost}\ncapacity = {self.capacities[name]}\nrecovery = {{ copper = {it.recovery} }}\n'
+            + (accepting(self.accepts) if name == "leach" else "")
             for name, it in PROCESSES.items()
         )
         dumps = "".join(it.text(name) for name, it in self.dumps.items())
@@ -226,6 +238,10 @@ class Draws:
         value = round(float(self.rng.uniform(least, most)), 1)
         return value if self.rng.random() < chance else None
 
+    def rock(self, chance: float) -> Accepts:
+        """A rock type, with this chance."""
+        return str(self.rng.choice(["A", "B"])) if self.rng.random() < chance else None
+
     def table(self, columns: int, levels: int) -> pd.DataFrame:
         rng, grades = self.rng, (0, 0, 0.1, 0.2, 0.4, 0.7, 1.1)
         return rows(
@@ -272,6 +288,7 @@ class Draws:
             capacity=capacity,
             opening=lot if rng.random() < 0.4 else None,
             holds=tuple(Between(self.maybe(limited / 3, 5, 15), self.maybe(limited, 15, 60)) for _ in range(YEARS)),
+            accepts=self.rock(0.3),
         )
 
     def mine(self, columns: int, levels: int) -> Mine:
@@ -281,6 +298,7 @@ class Draws:
             self.table(columns, levels),
             rock=float(rng.integers(20, 60) * 10),
             capacities={name: float(rng.integers(6, 25) * 10) for name in PROCESSES},
+            accepts=self.rock(0.2),
             dumps=dumps if rng.random() < 0.8 else {},
             prices=[float(PRICE * rng.choice([0.8, 1.0, 1.2])) for _ in range(YEARS)],
             mining_factors=[float(rng.choice([0.9, 1.0, 1.3])) for _ in range(YEARS)],
@@ -413,9 +431,10 @@ def benches(mine: Mine, pushback: np.ndarray) -> Units:
 
 @dataclass(frozen=True)
 class Material:
-    """Blocks, or a lot: tonnes, and what a limit may count, by the columns of the table."""
+    """Blocks, or a lot: tonnes, rock types, and what a limit may count, by the columns of the table."""
 
     tonnes: np.ndarray
+    rock: np.ndarray
     copper: np.ndarray
     holds: dict[str, np.ndarray]
 
@@ -424,7 +443,11 @@ def material_of(table: pd.DataFrame) -> Material:
     tonnes = table["tonnes"].to_numpy(float)
     holds = {name: tonnes * table[name].to_numpy(float) for name in ("cu", "as_ppm", "clay")}
     holds["rock_type"] = np.where(table["rock"] == "B", tonnes, 0.0)
-    return Material(tonnes, table["cu"].to_numpy(float) / 100, holds)
+    return Material(tonnes, table["rock"].to_numpy(), table["cu"].to_numpy(float) / 100, holds)
+
+
+def accepted(material: Material, accepts: Accepts) -> np.ndarray:
+    return np.ones(len(material.rock), dtype=bool) if accepts is None else material.rock == accepts
 
 
 @dataclass(frozen=True)
@@ -441,7 +464,7 @@ class Statement:
 
     def __init__(self, mine: Mine, units: Units) -> None:
         self.mine, self.units, self.programme = mine, units, Programme()
-        self.blocks, self.rock = material_of(mine.table), mine.table["rock"].to_numpy()
+        self.blocks = material_of(mine.table)
         self.discounts = (1 + DISCOUNT) ** -np.arange(1.0, YEARS + 1)
         self.dumps = mine.dumps or {"waste": Dump(0.0)}
         self.mined = self.programme.unknowns(len(units.before), YEARS, whole=units.whole)
@@ -469,7 +492,8 @@ class Statement:
         metal = material.tonnes * material.copper * PROCESSES[process].recovery * share
         cost = material.tonnes * (PROCESSES[process].cost + less)
         self.programme.earn(places, (metal[:, None] * np.array(self.mine.prices) - cost[:, None]) * self.discounts)
-        self.programme.limit(places, (metal > 0)[:, None])
+        accepts = self.mine.accepts if process == "leach" else None
+        self.programme.limit(places, ((metal > 0) & accepted(material, accepts))[:, None])
         self.fed[process].append(Fed(places, material, metal))
 
     def mining(self) -> None:
@@ -499,8 +523,7 @@ class Statement:
     def dumping(self) -> None:
         for name, dump in self.dumps.items():
             places, tonnes = self.goes[name], self.blocks.tonnes
-            if dump.accepts is not None:
-                self.programme.limit(places, (self.rock == dump.accepts)[:, None])
+            self.programme.limit(places, accepted(self.blocks, dump.accepts)[:, None])
             self.programme.earn(places, -dump.cost * tonnes[:, None] * self.discounts)
             self.programme.keep(Between(None, dump.capacity), (places, tonnes[:, None]))
             for year, takes in enumerate(dump.takes):
@@ -510,7 +533,7 @@ class Statement:
         """What is placed lies there for a year at least. What lay there at the start may be reclaimed from the first year on."""
         placed, tonnes = self.goes[name], self.blocks.tonnes
         self.programme.earn(placed, -pile.stacking * tonnes[:, None] * self.discounts)
-        self.programme.limit(placed, (self.blocks.copper > 0)[:, None])
+        self.programme.limit(placed, ((self.blocks.copper > 0) & accepted(self.blocks, pile.accepts))[:, None])
         taken = self.reclaiming(pile, self.blocks, placed)
         lying = [(placed, tonnes)] + [(places, -tonnes) for places in taken]
         lay = 0.0 if pile.opening is None else pile.opening.tonnes
