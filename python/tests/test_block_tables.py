@@ -10,6 +10,7 @@ from helpers import block_commands, office, worked_cash_flow
 from helpers.block_commands import rewrite, wrong
 from helpers.pushbacks import pillars
 from helpers.verified import differing
+from helpers.writings import PLAIN
 
 import pitplan
 from pitplan.export import xlsx
@@ -61,7 +62,7 @@ YEARS = {
 def written_to(place, table, text):
     table.to_csv(place / "blocks.csv", index=False)
     (place / "project.toml").write_text(text)
-    pitplan.write_block_schedule(place / "project.toml", writing=pitplan.Writing(figures=False))
+    pitplan.write_block_schedule(place / "project.toml", writing=PLAIN)
     return place / "plan" / "block_schedule"
 
 

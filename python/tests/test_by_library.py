@@ -17,6 +17,7 @@ from helpers.constraints import FIXED_SECTION, ores_and_fixed, with_section
 from helpers.scenarios import COLUMNS, PRICES, UPRIGHT, pillar
 from helpers.verified import TEXT, deposit
 from helpers.verified_scenarios import SETS, simulated
+from helpers.writings import PLAIN, UNVERIFIED
 
 import pitplan
 from pitplan import PlanError, ProgramError, load
@@ -76,7 +77,7 @@ def hill(plan_folder, request):
 
 
 @pytest.mark.slow
-def test_figures_are_the_same_to_the_byte(tmp_path, plan_folder, with_figures):
+def test_figures_are_the_same_to_the_byte(tmp_path, plan_folder):
     arrays, _ = by_both(tmp_path, "shells", plan_folder(deposit(), TEXT, CONE), "--no-verify")
     assert {"figures/plans.png", "figures/sections.png"} <= written(arrays).keys()
 
@@ -116,7 +117,10 @@ def test_the_report_of_a_solver_that_no_build_recorded_claims_no_proof(tmp_path,
     copy.write_bytes(program.program().read_bytes() + b"\n")
     copy.chmod(0o755)
     monkeypatch.setenv("PITSHELL", str(copy))
-    assert main(["shells", str(hill), "--out", str(tmp_path / "out"), "--solver", "program", "--quiet"]) == 0
+    assert (
+        main(["shells", str(hill), "--out", str(tmp_path / "out"), "--solver", "program", "--quiet", "--no-figures"])
+        == 0
+    )
     page = " ".join((tmp_path / "out" / "report.html").read_text().split())
     said = f"Not known to be proved: no build of this installation recorded the SHA-256 of the program, {hash_of(copy)[:12]}"
     assert said in page and "Proved for the" not in page and "Not proved either: how" in page
@@ -393,7 +397,7 @@ def solved_by_library(plan_folder):
         ores_and_fixed(), with_section(FIXED_SECTION + 'as_mined = "mined.csv"\ntopography = "blocks"\n')
     )
     (path.parent / "mined.csv").write_text("x,y,z\n0,0,900\n")
-    pitplan.write_shells(replace(load(path), solver="library"), writing=pitplan.Writing(verifies=False))
+    pitplan.write_shells(replace(load(path), solver="library"), writing=UNVERIFIED)
     return path.parent
 
 
@@ -419,7 +423,7 @@ def test_an_audit_is_refused_where_what_the_mine_was_made_of_has_changed(solved_
     )
 
 
-def test_files_of_an_earlier_run_by_the_program_are_taken_away(plan_folder, with_figures):
+def test_files_of_an_earlier_run_by_the_program_are_taken_away(plan_folder):
     """They would be another mine's beside the new tables; a run that is refused takes none away."""
     path = plan_folder(rows(4, 4, 3, cu=lambda i, j, k: 6 * ((i, j, k) == (2, 2, 1))))
     project, bare = load(path), pitplan.Writing(verifies=False, figures=False)
@@ -467,7 +471,9 @@ def test_cases_of_a_sensitivity_are_not_begun_with_another_library(plan_folder, 
 def test_jobs_name_the_solver_and_find_it(plan_folder, kind, by):
     pytest.importorskip("distributed")
     path = plan_folder(pillar(), PRICES, UPRIGHT)
-    found = pitplan.write_scenarios(replace(load(path), solver=by), load(path).folder, pitplan.Request(where=kind))
+    found = pitplan.write_scenarios(
+        replace(load(path), solver=by), load(path).folder, pitplan.Request(where=kind), writing=PLAIN
+    )
     named = {
         "library": f"PITSHELL_LIBRARY={pitshell.LIBRARY.resolve()} ",
         "program": f"PITSHELL={program.program().resolve()} ",

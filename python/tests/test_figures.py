@@ -28,8 +28,6 @@ pairs = [["price", "mining_cost"]]
 columns = { copper = ["cu", "cu2"] }
 """
 ONCE = Writing(verifies=False)
-# Commands draw here as for a planner.
-pytestmark = pytest.mark.usefixtures("with_figures")
 BARE = Writing(verifies=False, figures=False)
 
 

@@ -8,6 +8,7 @@ from pathlib import Path
 import numpy as np
 import pytest
 from conftest import PROJECT, rows
+from helpers.writings import PLAIN
 from matplotlib.figure import Figure
 
 import pitplan
@@ -233,7 +234,7 @@ def test_grades_are_those_of_the_metal_asked_for(project):
 
 
 @pytest.mark.slow
-def test_figures_are_written_as_pdf_and_svg_too(project, with_figures, monkeypatch):
+def test_figures_are_written_as_pdf_and_svg_too(project, monkeypatch):
     """Figures are laid out and not rendered, which takes most of the time."""
     monkeypatch.setattr(Figure, "savefig", lambda figure, path, **options: Path(path).write_bytes(b"blank"))
     pitplan.write_shells(project('formats = ["pdf", "svg"]'), writing=pitplan.Writing(verifies=False))
@@ -308,7 +309,7 @@ def test_what_is_refused(project, words, said):
 )
 def test_places_beyond_the_model_are_refused(project, words, said):
     with pytest.raises(PlanError, match=said):
-        pitplan.write_shells(project(words))
+        pitplan.write_shells(project(words), writing=PLAIN)
 
 
 def test_the_models_ends_are_within_it(project):

@@ -9,7 +9,7 @@ import pandas as pd
 import pytest
 from conftest import ROOT
 from helpers.documentation import blocks, commands
-from helpers.verified import UNVERIFIED
+from helpers.writings import UNVERIFIED
 
 import pitplan
 from pitplan.cli import main
