@@ -151,56 +151,13 @@ def solved(solved_once, tmp_path):
     return project, project.folder
 
 
-@pytest.fixture(scope="session", autouse=True)
-def highs_here():
-    """HiGHS solves integer programmes in the process of the tests, which takes a tenth of the time."""
-    from pitplan.scheduling import highs_process
-
-    with pytest.MonkeyPatch.context() as patch:
-        patch.setattr(highs_process, "FEW_WHOLE", highs_process.FEW)
-        yield
-
-
-@pytest.fixture(scope="session", autouse=True)
-def dask_here():
-    """Dask solves in a thread of the tests' process, since each process of its own imports all libraries; yields what connects to these."""
-    from pitplan.studies import dask_pool
-
-    apart = dask_pool.client_of
-
-    def here(distributed, where):
-        if where.address != "local":
-            return apart(distributed, where)
-        return distributed.Client(processes=False, n_workers=1, threads_per_worker=1, dashboard_address=None)
-
-    with pytest.MonkeyPatch.context() as patch:
-        patch.setattr(dask_pool, "client_of", here)
-        yield apart
-
-
-@pytest.fixture
-def dask_apart(dask_here, monkeypatch):
-    """Dask solves in processes of its own, as for a planner."""
-    from pitplan.studies import dask_pool
-
-    monkeypatch.setattr(dask_pool, "client_of", dask_here)
-
-
-@pytest.fixture(scope="session", autouse=True)
-def one_processor():
-    """Dask takes one process where a test names no number, since each imports all libraries."""
-    with pytest.MonkeyPatch.context() as patch:
-        patch.setattr(os, "sched_getaffinity", lambda pid: {0})
-        yield
-
-
 @pytest.fixture
 def highs_apart(monkeypatch):
-    """HiGHS solves each programme in a process of its own, as large ones for a planner."""
+    """HiGHS solves linear programmes too in a new process, as large ones for a planner."""
     from pitplan.scheduling import highs_process
 
     monkeypatch.setattr(highs_process, "FEW", 0)
-    monkeypatch.setattr(highs_process, "FEW_WHOLE", 0)
+    monkeypatch.setattr(highs_process, "IDLE", [])
 
 
 @pytest.fixture
