@@ -40,7 +40,7 @@ def test_a_text_that_is_read_as_0_fails_the_run(tmp_path, monkeypatch):
     sections = load_sections()
     plan = Plan.from_model(model, tmp_path, **sections)
     with pytest.raises(PlanError, match=r'block_model.csv row \d+ column cu: "n/a" is not a number'):
-        plan.shells().write(tmp_path / "out")
+        plan.shells().write(tmp_path / "out", PLAIN)
     assert not (tmp_path / "out" / "tables").exists()
 
 
@@ -119,7 +119,7 @@ def test_a_model_from_python_keeps_no_format_of_a_file(plan_folder, sign):
     changes = ('domain = "region"', f"domain = \"region\"\nseparator = {json.dumps(sign)}\ndecimal = ','")
     path = plan_folder("", PROJECT, changes)
     plan = Plan.from_project(path, rows(6, 5, 3, **ORE))
-    assert differences(plan.shells().write(path.parent / "out")) == {}
+    assert differences(plan.shells().write(path.parent / "out", PLAIN)) == {}
 
 
 def best_by_trying(values, nodes, needed):

@@ -202,7 +202,7 @@ def test_the_command_line_tells_value_bound_and_gap(plan_folder, capsys):
 
 def test_without_the_library_it_is_told_what_is_missing(plan_folder):
     path = plan_folder(pillars(), YEARLY)
-    words = [sys.executable, str(ROOT / "tools" / "pitplan"), "schedule", str(path), "--by", "block"]
+    words = [sys.executable, str(ROOT / "tools" / "pitplan"), "schedule", str(path), "--by", "block", "--no-figures"]
     ran = subprocess.run(words, capture_output=True, text=True, env=os.environ | {"PITSHELL_LIBRARY": "/nowhere.so"})
     why = "a schedule by block needs the library of pits: no libpitshell.so at /nowhere.so: make library builds it"
     assert ran.returncode == 1 and ran.stderr == f"pitplan: {why}\n"

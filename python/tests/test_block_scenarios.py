@@ -29,7 +29,7 @@ from pitplan.figures import scenarios
 from pitplan.scheduling.blocks.filling import best_shares
 from pitplan.studies.scenarios import store, worker
 
-BY_BLOCK = Request(by="block")
+BY_BLOCK = Request(workers=0, by="block")
 # The same with the process by its name.
 MILL = '[[processes]]\nname = "mill"\ncost = 10\nrecovery = { copper = 0.5 }\ncapacity = 100\n'
 IN_MILL = [("recovery = 0.5\n", ""), ("processing_capacity = 100\n", "")]
@@ -490,7 +490,7 @@ def test_a_factor_another_kind_of_folder_and_the_program_are_refused(plan_folder
 
 def test_without_the_library_it_is_told_what_is_missing(plan_folder):
     path = plan_folder(pillars([1, 0.5, 0]), TWO_YEARS)
-    words = [sys.executable, str(ROOT / "tools" / "pitplan"), "scenarios", str(path), "--by", "block"]
+    words = [sys.executable, str(ROOT / "tools" / "pitplan"), "scenarios", str(path), "--by", "block", "--no-figures"]
     ran = subprocess.run(words, capture_output=True, text=True, env=os.environ | {"PITSHELL_LIBRARY": "/nowhere.so"})
     why = "a schedule by block needs the library of pits: no libpitshell.so at /nowhere.so: make library builds it"
     assert ran.returncode == 1 and ran.stderr == f"pitplan: {why}\n" and MissingPackage.__name__ not in ran.stderr
@@ -506,7 +506,7 @@ def without_seconds(folder):
 
 @pytest.mark.slow
 @pytest.mark.filterwarnings("ignore:make_current is deprecated:DeprecationWarning")
-def test_processes_of_dask_write_the_same_as_one_after_the_other(plan_folder, tmp_path, dask_apart):
+def test_processes_of_dask_write_the_same_as_one_after_the_other(plan_folder, tmp_path):
     pytest.importorskip("distributed", reason="needs the Debian package python3-distributed")
     rng = np.random.default_rng(3)
     table = rows(5, 4, 3).drop(columns="cu")
@@ -581,7 +581,7 @@ def test_the_command_line_tells_what_a_planner_should_know(plan_folder):
     path = plan_folder(pillars([1, 0.5, 1], [0, 0.5, 0]), TWO_YEARS)
     solved_in_turn(prepared(path))
     with redirect_stdout(io.StringIO()) as out, redirect_stderr(io.StringIO()) as err:
-        assert main(["scenarios", str(path), "--by", "block", "--no-figures"]) == 0
+        assert main(["scenarios", str(path), "--by", "block", "--workers", "1", "--no-figures"]) == 0
     folder = path.parent / "plan" / "block_scenarios"
     assert out.getvalue() == f"{folder}\n"
     said = err.getvalue()

@@ -83,7 +83,7 @@ def test_figures_are_the_same_to_the_byte(tmp_path, plan_folder):
 
 
 def test_shells_are_the_same_to_the_byte(tmp_path, hill):
-    arrays, texts = by_both(tmp_path, "shells", hill)
+    arrays, texts = by_both(tmp_path, "shells", hill, "--no-figures")
     assert {"tables/blocks.csv", "tables/shells.csv", "tables/years.csv"} <= written(arrays).keys()
     assert without_solver(arrays / "plan.json") == without_solver(texts / "plan.json")
     fixed = (
@@ -136,7 +136,7 @@ def test_pushbacks_and_their_schedule_are_the_same(tmp_path, hill):
     """Of a division that asks the solver again and again for shells of other factors."""
     with open(hill, "a") as file:
         file.write("\n[pushbacks]\ncount = 3\nmin_mining_width = 20\n[schedule]\nbench_lag = 1\n")
-    arrays, _ = by_both(tmp_path, "schedule", hill)
+    arrays, _ = by_both(tmp_path, "schedule", hill, "--no-figures")
     assert {"tables/pushbacks.csv", "tables/schedule.csv", "schedule.json", "tables/blocks.csv"} <= written(
         arrays
     ).keys()
@@ -145,7 +145,7 @@ def test_pushbacks_and_their_schedule_are_the_same(tmp_path, hill):
 def test_a_sensitivity_is_the_same_and_keeps_answers_apart(plan_folder, tmp_path):
     text = with_section(FIXED_SECTION) + '\n[sensitivity]\nchanges = [-0.1]\nparameters = ["price", "slopes"]\n'
     path = plan_folder(ores_and_fixed(), text, UPRIGHT)
-    arrays, texts = by_both(tmp_path, "sensitivity", path)
+    arrays, texts = by_both(tmp_path, "sensitivity", path, "--no-figures")
     assert {"tables/blocks.csv", "tables/sensitivity.csv"} <= written(arrays).keys()
     answers = [{it.name for it in (place / "cases").iterdir()} for place in (arrays, texts)]
     assert len(answers[0]) == len(answers[1]) == 3 and not answers[0] & answers[1]
@@ -154,7 +154,7 @@ def test_a_sensitivity_is_the_same_and_keeps_answers_apart(plan_folder, tmp_path
 def test_scenarios_are_the_same_and_keep_answers_apart(tmp_path, plan_folder):
     pytest.importorskip("distributed", reason="needs the Debian package python3-distributed")
     path = plan_folder(simulated(), TEXT + '[scenarios]\ncolumns = { copper = "cu_*" }\n' + SETS, CONE)
-    arrays, texts = by_both(tmp_path, "scenarios", path, "--workers", "1")
+    arrays, texts = by_both(tmp_path, "scenarios", path, "--workers", "1", "--no-figures")
     assert {
         "tables/probability.csv",
         "tables/scenarios.csv",
@@ -311,7 +311,15 @@ def test_a_solve_that_takes_long_is_ended_at_once(plan_folder, asked, status, sa
     path = plan_folder(
         table, PROJECT, UPRIGHT, ("precedence_benches = 3", "precedence_benches = 1"), ("[0.5, 1.0, 1.5]", "[1.0]")
     )
-    words = [sys.executable, str(ROOT / "tools" / "pitplan"), "shells", str(path), "--solver", "library"]
+    words = [
+        sys.executable,
+        str(ROOT / "tools" / "pitplan"),
+        "shells",
+        str(path),
+        "--solver",
+        "library",
+        "--no-figures",
+    ]
     ran = subprocess.Popen(
         words, stderr=subprocess.PIPE, text=True, preexec_fn=lambda: signal.signal(signal.SIGINT, signal.SIG_DFL)
     )
@@ -380,7 +388,8 @@ def test_both_packages_are_of_one_release():
 
 def test_an_audit_of_what_the_library_solved_writes_the_mine_itself(tmp_path, plan_folder):
     """Blocks, needs and fixed blocks are those that the program would have read."""
-    arrays, texts = by_both(tmp_path, "shells", plan_folder(deposit(), TEXT, CONE), "--no-verify")
+    words = ("--no-verify", "--no-figures")
+    arrays, texts = by_both(tmp_path, "shells", plan_folder(deposit(), TEXT, CONE), *words)
     first, second = (pitplan.audit(place, 0.5) for place in (arrays, texts))
     for name in ("shell.upit", "shell.prec", "shell.fixed", "pit.txt", "shell.cert"):
         assert (first / name).read_bytes() == (second / name).read_bytes(), name

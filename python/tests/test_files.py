@@ -527,7 +527,7 @@ def test_a_run_that_is_ended_says_so_in_one_line_and_leaves_nothing(plan_folder,
     slow.write_text(f"#!/bin/sh\n[ $1 = --version ] && exit 0\ntouch {tmp_path}/began\nexec sleep 60\n")
     slow.chmod(0o755)
     path = plan_folder(rows(4, 4, 3, **ORE))
-    words = [str(ROOT / "tools" / "pitplan"), "shells", str(path), "--quiet"]
+    words = [str(ROOT / "tools" / "pitplan"), "shells", str(path), "--quiet", "--no-figures"]
     # A job that a shell has put behind ignores SIGINT, and so would what it starts.
     heeding = {"preexec_fn": lambda: signal.signal(signal.SIGINT, signal.SIG_DFL)}
     ran = subprocess.Popen(

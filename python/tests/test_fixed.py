@@ -343,7 +343,7 @@ def test_scenarios_keep_to_fixed_blocks(plan_folder, tmp_path):
     project = load(plan_folder(table, text))
     folder = project.folder / "scenarios"
     told = io.StringIO()
-    pitplan.write_scenarios(project, folder, pitplan.Request(workers=1), pitplan.Writing(Progress(told), figures=False))
+    pitplan.write_scenarios(project, folder, pitplan.Request(workers=0), pitplan.Writing(Progress(told), figures=False))
     assert "solving 2 scenarios .. 1 2 " in told.getvalue()
     likely = pd.read_csv(folder / "tables/probability.csv")
     assert (likely.loc[likely["must"] == 1, "probability_0.50"] == 1).all()

@@ -7,7 +7,6 @@ import numpy as np
 import pytest
 from conftest import PROJECT
 from helpers.scenarios import COLUMNS, UPRIGHT, pillar, prepared, solved_in_turn
-from helpers.writings import PLAIN
 
 from pitplan import PlanError, load
 from pitplan.core import keyed_arrays
@@ -62,15 +61,15 @@ def test_an_answer_of_another_scenario_is_refused(plan_folder):
     again = "remove it, and run pitplan scenarios again"
     sentence = rf"{second.name}: is not a result of sim_2: it is the result of another input: .*: {again}"
     with pytest.raises(PlanError, match=sentence):
-        pit_probability.gather(shared, writing=PLAIN)
+        pit_probability.gather(shared)
     second.write_bytes(whole[: len(whole) // 2])
     with pytest.raises(PlanError, match=rf"{second.name}: is not a result of sim_2: .*: {again}"):
-        pit_probability.gather(shared, writing=PLAIN)
+        pit_probability.gather(shared)
     second.unlink()
     assert (
         worker.solve(str(shared.folder), 2).status == 0
         and second.is_file()
-        and pit_probability.gather(shared, writing=PLAIN).missing == {}
+        and pit_probability.gather(shared).missing == {}
     )
 
 

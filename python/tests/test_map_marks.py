@@ -276,7 +276,8 @@ def test_pushbacks_are_drawn_where_the_project_asks_for(project, with_blank_figu
         for name in ("write_plans", "write_sections"):
             patch.setattr(pushbacks, name, lambda scene, path: (shown.append(scene), path.touch()))
         pitplan.write_pushbacks(
-            project("levels = [5]\nnorth = 49\n[pushbacks]\ncount = 1"), writing=pitplan.Writing(verifies=False)
+            project("levels = [5]\nnorth = 49\n[pushbacks]\ncount = 1"),
+            writing=pitplan.Writing(verifies=False, processes=1),
         )
     assert [scene.levels for scene in shown] == [[2]] * 2 and shown[0].section_row == 4
 

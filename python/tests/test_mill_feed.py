@@ -186,5 +186,5 @@ def test_scenarios_count_what_comes_to_the_mill_by_region(plan_folder):
     )
     text = "mining_cost = 2\ndilution = { domain = { 1 = 0, 2 = 0.2 } }\n"
     path = plan_folder(table, PROJECT + '[scenarios]\ncolumns = { copper = "cu_*" }\n', ("mining_cost = 2\n", text))
-    found = pitplan.write_scenarios(path, request=pitplan.Request(workers=1), writing=PLAIN).table
+    found = pitplan.write_scenarios(path, request=pitplan.Request(workers=0), writing=PLAIN).table
     assert found[found["revenue_factor"] == 1.0]["feed_tonnes"].tolist() == [100, 240]

@@ -144,7 +144,7 @@ def test_scenarios_are_given_as_frames(plan_folder):
     """Three blocks above each other: at 8000 a tonne one of three models pays at 0.5 and 1.0, at 12,000 two do at 1.0."""
     pytest.importorskip("distributed", reason="needs the Debian package python3-distributed")
     path = plan_folder(pillar(), PRICES, UPRIGHT)
-    found = pitplan.write_scenarios(path, request=Request(workers=1), writing=UNVERIFIED)
+    found = pitplan.write_scenarios(path, request=Request(workers=0), writing=UNVERIFIED)
     assert found.folder == path.parent / "plan" / "scenarios" and found.start is None
     assert "6 solved (status 0)" in found.notes
     assert found.probability["probability_1.00"].tolist() == [0.5] * 3
@@ -232,7 +232,7 @@ def test_lists_of_jobs_are_told_by_what_to_start(plan_folder):
 
 @pytest.mark.slow
 def test_the_lines_of_the_help_run(plan_folder, monkeypatch):
-    """In a folder whose project has fixed blocks, pushbacks, scenarios and the help's factor, and another run of it."""
+    """In a folder whose project has fixed blocks, pushbacks, scenarios and the help's factor, and another run of it. Nothing is drawn."""
     pytest.importorskip("distributed", reason="needs the Debian package python3-distributed")
     table = ores_and_fixed().assign(sim_1=lambda it: it["cu"], sim_2=lambda it: it["cu"] / 2)
     more = '[pushbacks]\nrevenue_factors = [0.5, 1.0]\n[scenarios]\ncolumns = { copper = "sim_*" }\n'
@@ -240,8 +240,12 @@ def test_the_lines_of_the_help_run(plan_folder, monkeypatch):
     path = plan_folder(table, text)
     monkeypatch.chdir(path.parent)
     pitplan.write_shells("project.toml", "other", writing=PLAIN)
-    names = {}
-    exec(LINES, names)
+    names, text = {"PLAIN": PLAIN}, LINES.replace('Request(by="block")', 'Request(workers=0, by="block")')
+    alone = 'write_scenarios("project.toml")'
+    assert text.count(alone) == 1
+    text = text.replace(alone, f"{alone[:-1]}, request=pitplan.Request(workers=0))")
+    writes = r"(pitplan\.(?:write_(?!report|export)\w+|compare)\((?:[^()]|\([^()]*\))*)\)"
+    exec(re.sub(writes, r"\1, writing=PLAIN)", text), names)
     assert names["runs"].results["run"].tolist() == ["out", "other"]
     assert names["table"]["revenue_factor"].tolist() == [0.5, 0.8, 1.0] and all(
         rule.count == 0 for rule in names["rules"]

@@ -101,7 +101,8 @@ def test_a_plan_is_the_oracles(tmp_path, seed):
             with pytest.raises(pitplan.PlanError, match="is empty"):
                 pitplan.write_pushbacks(tmp_path / "project.toml", writing=PLAIN)
             return
-    (pitplan.write_pushbacks if with_pushbacks else pitplan.write_shells)(tmp_path / "project.toml", tmp_path / "out")
+    write = pitplan.write_pushbacks if with_pushbacks else pitplan.write_shells
+    write(tmp_path / "project.toml", tmp_path / "out", writing=PLAIN)
     folder = tmp_path / "out" / "tables"
     demand_blocks(mine, factors, shells, folder / "blocks.csv")
     expected = tables.Shells(mine, factors, shells)

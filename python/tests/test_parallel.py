@@ -175,7 +175,7 @@ def recorded(folder):
 def test_a_process_of_its_own_verifies_the_same(plan_folder, monkeypatch, apart):
     project = load(plan_folder(pillars(), UPRIGHT))
     pitplan.write_shells(project, project.folder / "apart", writing=PLAIN)
-    pitplan.Plan.from_project(project).shells().write(project.folder / "object")
+    pitplan.Plan.from_project(project).shells().write(project.folder / "object", PLAIN)
     assert len(apart) == 2 and all(child.returncode == 0 for child in apart)
     monkeypatch.setattr(verification, "APART", 100)
     pitplan.write_shells(project, project.folder / "within", writing=PLAIN)

@@ -280,6 +280,8 @@ def test_scenarios_by_block_have_the_limits_of_periods(plan_folder):
     """Of one realisation the schedule of its own is that of the model."""
     words = "[[periods]]\nmining_capacity = 300\n"
     path = plan_folder(pillars(), blocks.YEARLY + '[scenarios]\ncolumns = { copper = "cu*" }\n' + words)
-    found = pitplan.write_scenarios(path, request=pitplan.Request(by="block"), writing=PLAIN).schedules.iloc[0]
+    found = pitplan.write_scenarios(path, request=pitplan.Request(workers=0, by="block"), writing=PLAIN).schedules.iloc[
+        0
+    ]
     alone = pitplan.write_block_schedule(plan_folder(pillars(), blocks.YEARLY + words), writing=PLAIN).iloc[0]
     assert found["npv"] == pytest.approx(alone["npv"]) == found["common_npv"] and found["npv"] > 0

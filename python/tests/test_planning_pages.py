@@ -8,7 +8,7 @@ from decimal import Decimal
 
 import pytest
 from conftest import ROOT
-from helpers.writings import UNVERIFIED
+from helpers.writings import PLAIN, UNVERIFIED
 
 import pitplan
 from pitplan.cli import main
@@ -23,10 +23,11 @@ EXAMPLE = ROOT / "examples" / "plan" / "project.toml"
 
 
 def test_the_lines_for_a_notebook_run(tmp_path, monkeypatch):
-    """In a folder of the example's files, since the last line writes there."""
+    """In a folder of the example's files, since the last line writes there, here without figures."""
     monkeypatch.chdir(shutil.copytree(EXAMPLE.parent, tmp_path / "plan"))
-    names = {}
-    exec(re.search(r"```python\n(.*?)```", PAGES["notebook"], re.DOTALL)[1], names)
+    names, text = {"PLAIN": PLAIN}, re.search(r"```python\n(.*?)```", PAGES["notebook"], re.DOTALL)[1]
+    assert text.count('.write("out")') == 1
+    exec(text.replace('.write("out")', '.write("out", PLAIN)'), names)
     shells = names["shells"]
     assert len(names["plan"].blocks) == 7119 and shells.solution.worth.index.tolist()[-1] == 1.2
     assert shells.table["revenue_factor"].tolist() == shells.solution.worth.index.tolist()

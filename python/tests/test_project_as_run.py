@@ -5,10 +5,11 @@ import re
 import shutil
 from dataclasses import replace
 from decimal import Decimal
+from functools import partial
 
 import pytest
 from conftest import PROJECT, rows
-from helpers.writings import PLAIN, REPORTED
+from helpers.writings import PLAIN, REPORTED, UNVERIFIED
 
 import pitplan
 from pitplan import PlanError, Request, load, verify
@@ -19,12 +20,12 @@ ORE = {"cu": lambda i, j, k: {(3, 3, 1): 6, (4, 3, 1): 2.5, (3, 4, 0): 9}.get((i
 MORE = '[pushbacks]\ncount = 2\n[schedule]\nmining_capacity = 2000\n[sensitivity]\nchanges = [0.1]\nparameters = ["price", "mining_cost"]\n'
 FIXED = '[constraints]\nmust_mine = "due"\n'
 RUNS = {
-    "shells": pitplan.write_shells,
-    "pit": lambda project, folder: pitplan.write_pit(project, 0.5, folder, writing=PLAIN),
-    "pushbacks": pitplan.write_pushbacks,
-    "schedule": pitplan.write_schedule,
-    "sensitivity": pitplan.write_sensitivity,
-    "block schedule": pitplan.write_block_schedule,
+    "shells": partial(pitplan.write_shells, writing=UNVERIFIED),
+    "pit": lambda project, folder: pitplan.write_pit(project, 0.5, folder, writing=UNVERIFIED),
+    "pushbacks": partial(pitplan.write_pushbacks, writing=UNVERIFIED),
+    "schedule": partial(pitplan.write_schedule, writing=UNVERIFIED),
+    "sensitivity": partial(pitplan.write_sensitivity, writing=UNVERIFIED),
+    "block schedule": partial(pitplan.write_block_schedule, writing=UNVERIFIED),
 }
 
 

@@ -257,7 +257,7 @@ def test_the_program_s_statuses_are_kept_apart(plan_folder, broken_program, caps
     with pytest.raises(
         PlanError, match="3 of 3 scenarios have no result, first sim_1: was not solved: run them again$"
     ):
-        pit_probability.gather(shared, partial=True, writing=PLAIN)
+        pit_probability.gather(shared, partial=True)
 
 
 def test_a_changed_or_missing_folder_is_status_5(plan_folder):
@@ -292,7 +292,7 @@ def test_what_went_wrong_is_told_by_status(plan_folder, monkeypatch):
     monkeypatch.setattr(dask_pool, "run", lambda *_: ended)
     project = load(plan_folder(pillar(), COLUMNS))
     with pytest.raises(PlanError) as said:
-        pitplan.write_scenarios(project, project.folder, writing=PLAIN)
+        pitplan.write_scenarios(project, project.folder, Request(workers=0), writing=PLAIN)
     assert str(said.value) == (
         "1 solved (status 0); 1 out of budget (status 3): sim_2: exhausted; 1 killed repeatedly (status 75): gone: "
         "run again, or gather the others with --partial"
@@ -440,7 +440,7 @@ def test_a_missing_dask_is_named_by_its_package(plan_folder, monkeypatch):
     project = load(plan_folder(pillar(), COLUMNS))
     monkeypatch.setitem(sys.modules, "distributed", None)
     with pytest.raises(MissingPackage, match="needs the Debian package python3-distributed: apt-get install"):
-        pitplan.write_scenarios(project, project.folder, writing=PLAIN)
+        pitplan.write_scenarios(project, project.folder, Request(workers=0), writing=PLAIN)
     with pytest.raises(PlanError, match="revenue factor 0.70 is not among the revenue factors 0.50, 1.00, 1.50"):
         pitplan.write_scenarios(project, project.folder, Request(revenue_factor=0.7), writing=PLAIN)
 
@@ -465,7 +465,7 @@ def test_answers_are_gathered_from_the_command_line(plan_folder, capsys):
     shared = prepared(plan_folder(pillar(), COLUMNS, UPRIGHT))
     for number in (1, 3):
         assert worker.solve(str(shared.folder), number).status == 0
-    words = ["gather", str(shared.folder), "--quiet"]
+    words = ["gather", str(shared.folder), "--quiet", "--no-figures"]
     assert main(words) == 1
     assert "1 of 3 scenarios have no result, first sim_2: was not solved" in capsys.readouterr().err
     assert main([*words, "--partial"]) == 0
@@ -542,7 +542,7 @@ def test_a_broken_folder_of_scenarios_is_named(plan_folder, tmp_path):
     with pytest.raises(
         PlanError, match=f"{answer}: is not a result of sim_.*: remove it, and run pitplan scenarios again"
     ):
-        pit_probability.gather(shared, writing=PLAIN)
+        pit_probability.gather(shared)
     with pytest.raises(PlanError, match="nowhere/scenarios.json: cannot be read: run pitplan scenarios first"):
         store.read_shared(tmp_path / "nowhere")
     (shared.folder / "scenarios.json").write_text("{}")

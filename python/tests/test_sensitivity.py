@@ -386,7 +386,7 @@ def test_files_and_what_the_command_line_tells(small, capsys, with_blank_figures
     assert json.loads((folder / "sensitivity.json").read_text())["verified"] == []
 
 
-def test_cases_over_dask_are_those_of_one_after_the_other(small, capsys, dask_apart):
+def test_cases_over_dask_are_those_of_one_after_the_other(small, capsys):
     pytest.importorskip("distributed")
     path = small('changes = [-0.1, 0.1]\nparameters = ["price", "capacity"]')
     assert (
@@ -413,7 +413,7 @@ def test_cases_over_dask_are_those_of_one_after_the_other(small, capsys, dask_ap
     assert len(list((path.parent / "dask" / "cases").iterdir())) == 5
     path.write_text(path.read_text().replace("[-0.1, 0.1]", "[-0.9999]"))
     with pytest.raises(PlanError, match="check that the capacities are in tonnes per year"):
-        pitplan.write_sensitivity(path, path.parent / "dask", Where("local", 1), writing=PLAIN)
+        pitplan.write_sensitivity(path, path.parent / "dask", Where("local", 0), writing=PLAIN)
 
 
 def test_cases_are_solved_here_or_over_dask_alone(small, capsys):

@@ -416,7 +416,7 @@ def test_scenarios_have_the_terms_at_their_grades_and_prices(tmp_path):
     blocks.to_csv(tmp_path / "blocks.csv", index=False)
     decks = "".join(f"[[scenarios.prices]]\ncopper = {price}\n" for price in (7000, 8000))
     (tmp_path / "project.toml").write_text(f'{TEXT}[scenarios]\ncolumns = {{ copper = "sim_*" }}\n{decks}')
-    pitplan.write_scenarios(tmp_path / "project.toml", writing=PLAIN)
+    pitplan.write_scenarios(tmp_path / "project.toml", request=pitplan.Request(workers=0), writing=PLAIN)
     folder = tmp_path / "plan" / "scenarios"
     found = pd.read_csv(folder / "tables/scenarios.csv").query("revenue_factor == 1.0")
     found = found.set_index(["realisation", "price_copper"])["undiscounted_cash_flow"]

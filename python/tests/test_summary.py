@@ -10,7 +10,7 @@ from pitplan.cli import main
 
 FLOOR_OF_ORE = {"cu": lambda i, j, k: 2.0 if k == 0 else 0.5, "tonnes": lambda i, j, k: 300 if k == 0 else 100}
 GOLD = '[[metals]]\nname = "gold"\ncolumn = "au"\nunit = "gram_per_tonne"\nprice = 60\nrecovery = 0.5\n[slopes]'
-SOLVES = [["shells"], ["pit", "--revenue-factor", "1.00"]]
+SOLVES = [["shells", "--no-figures"], ["pit", "--revenue-factor", "1.00"]]
 
 
 def first_lines(err):

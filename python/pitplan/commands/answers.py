@@ -87,7 +87,7 @@ def write_answer(answer: Answer, run: Run) -> None:
             from .drawing import draw
 
             with progress.step("drawing"):
-                written += draw(answer, tables, stage)
+                written += draw(answer, tables, stage, run.writing.processes)
         if answer.as_schedule is not None and run.writing.workbook:
             from . import workbook
 

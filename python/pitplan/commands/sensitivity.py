@@ -61,7 +61,7 @@ def write_sensitivity(
     if rules_of(project).hill and writing.workbook:
         xlsx.demand_library()
     with staging.alone(target, sensitivity.CASES):
-        found = sensitivity.solve(project, target, where, writing.progress)
+        found = sensitivity.solve(project, target, where, writing.progress, processes=writing.processes)
         table = write_cases(found, target, writing)
     warn(found.plan.notes, InputWarning)
     return table

@@ -82,6 +82,9 @@ class Writing:
         Write the workbook of a schedule or of a hill of value. In any case that of an earlier run is removed.
     report : bool
         Write report.html. In any case that of an earlier run is removed.
+    processes : int, optional
+        The most processes at a time that draw figures or solve cases of a sensitivity; 1 uses this process alone. Default: one for each
+        processor.
     """
 
     progress: Progress = silent
@@ -89,6 +92,7 @@ class Writing:
     figures: bool = True
     workbook: bool = True
     report: bool = True
+    processes: Optional[int] = None
 
 
 def in_all_formats(figures: Iterable[str]) -> tuple[str, ...]:

@@ -2,7 +2,6 @@
 
 import numpy as np
 from conftest import PROJECT, rows
-from helpers.writings import PLAIN
 
 from pitplan import load
 from pitplan.core.progress import silent
@@ -28,7 +27,7 @@ def prepared(path):
 def solved_in_turn(shared):
     outcomes = [worker.solve(str(shared.folder), scenario.number) for scenario in shared.missing()]
     assert [outcome.status for outcome in outcomes] == [0] * len(outcomes)
-    return pit_probability.gather(shared, writing=PLAIN)
+    return pit_probability.gather(shared)
 
 
 def write_models(path, **models):
