@@ -4,7 +4,7 @@ from __future__ import annotations
 
 import re
 from collections.abc import Sequence
-from typing import Any
+from typing import Any, Optional, TypeVar
 
 # Characters that end a line, by str.splitlines.
 LINE_ENDS = re.compile("[\n\r\v\f\x1c\x1d\x1e\x85\u2028\u2029]")
@@ -33,6 +33,16 @@ class AuditError(Exception):
 
 class PackageError(AuditError):
     """A package that reads an input is not installed."""
+
+
+Part = TypeVar("Part")
+
+
+def demanded(part: Optional[Part], name: str) -> Part:
+    """Returns the part of project or results that a rule verifies. Raises AuditError if it is missing."""
+    if part is None:
+        raise AuditError(f"{name}: is missing, and a rule verifies it: run pitplan again")
+    return part
 
 
 def on_one_line(text: str) -> str:

@@ -138,7 +138,7 @@ def solved_once(tmp_path_factory):
     table[(table["z"] < 40) | (table["x"] < 50)].to_csv(place / "blocks.csv", index=False)
     (place / "project.toml").write_text(PROJECT)
     with redirect_stdout(io.StringIO()) as out, redirect_stderr(io.StringIO()) as err:
-        assert main(["shells", str(place / "project.toml")]) == 0
+        assert main(["shells", str(place / "project.toml"), "--no-figures"]) == 0
     return Solved(place, out.getvalue(), err.getvalue())
 
 
@@ -151,98 +151,18 @@ def solved(solved_once, tmp_path):
     return project, project.folder
 
 
-@pytest.fixture(scope="session", autouse=True)
-def without_figures():
-    """No command draws figures unless its Writing asks for them: they take most of the time of a run."""
-    from pitplan.commands import writing
-
-    with pytest.MonkeyPatch.context() as patch:
-        patch.setattr(writing, "DRAWS", False)
-        yield
-
-
-@pytest.fixture(scope="session", autouse=True)
-def without_workbooks():
-    """Schedules write an empty workbook, since cells take as long as the schedule of a small hill; yields what writes them."""
-    from pitplan.export import xlsx
-
-    write = xlsx.write
-    with pytest.MonkeyPatch.context() as patch:
-        patch.setattr(xlsx, "write", lambda path, *sheets: path.write_bytes(b"workbook"))
-        yield write
-
-
-@pytest.fixture
-def with_workbooks(without_workbooks, monkeypatch):
-    """Workbooks have their tables, as for a planner."""
-    from pitplan.export import xlsx
-
-    monkeypatch.setattr(xlsx, "write", without_workbooks)
-
-
-@pytest.fixture(scope="session", autouse=True)
-def highs_here():
-    """HiGHS solves integer programmes in the process of the tests, which takes a tenth of the time."""
-    from pitplan.scheduling import highs_process
-
-    with pytest.MonkeyPatch.context() as patch:
-        patch.setattr(highs_process, "FEW_WHOLE", highs_process.FEW)
-        yield
-
-
-@pytest.fixture(scope="session", autouse=True)
-def dask_here():
-    """Dask solves in a thread of the tests' process, since each process of its own imports all libraries; yields what connects to these."""
-    from pitplan.studies import dask_pool
-
-    apart = dask_pool.client_of
-
-    def here(distributed, where):
-        if where.address != "local":
-            return apart(distributed, where)
-        return distributed.Client(processes=False, n_workers=1, threads_per_worker=1, dashboard_address=None)
-
-    with pytest.MonkeyPatch.context() as patch:
-        patch.setattr(dask_pool, "client_of", here)
-        yield apart
-
-
-@pytest.fixture
-def dask_apart(dask_here, monkeypatch):
-    """Dask solves in processes of its own, as for a planner."""
-    from pitplan.studies import dask_pool
-
-    monkeypatch.setattr(dask_pool, "client_of", dask_here)
-
-
-@pytest.fixture(scope="session", autouse=True)
-def one_processor():
-    """Dask takes one process where a test names no number, since each imports all libraries."""
-    with pytest.MonkeyPatch.context() as patch:
-        patch.setattr(os, "sched_getaffinity", lambda pid: {0})
-        yield
-
-
 @pytest.fixture
 def highs_apart(monkeypatch):
-    """HiGHS solves each programme in a process of its own, as large ones for a planner."""
+    """HiGHS solves linear programmes too in a new process, as large ones for a planner."""
     from pitplan.scheduling import highs_process
 
     monkeypatch.setattr(highs_process, "FEW", 0)
-    monkeypatch.setattr(highs_process, "FEW_WHOLE", 0)
+    monkeypatch.setattr(highs_process, "IDLE", [])
 
 
 @pytest.fixture
-def with_figures(monkeypatch):
-    """Commands draw figures as they do for a planner."""
-    from pitplan.commands import writing
-
-    monkeypatch.setattr(writing, "DRAWS", True)
-
-
-@pytest.fixture
-def with_blank_figures(with_figures):
-    """The same, but figures are not drawn: for tests of which files there are."""
+def with_blank_figures():
+    """Each figure is a white image: for tests of which files there are."""
     with blank_figures():
         yield
 
@@ -250,6 +170,8 @@ def with_blank_figures(with_figures):
 @pytest.fixture(scope="session")
 def scheduled_hill(tmp_path_factory):
     """A hill far from the origin in two pushbacks with years, without pictures; the place of its project."""
+    from helpers.writings import UNVERIFIED
+
     import pitplan
 
     place = tmp_path_factory.mktemp("ground")
@@ -260,7 +182,7 @@ def scheduled_hill(tmp_path_factory):
     )
     table.to_csv(place / "blocks.csv", index=False)
     (place / "project.toml").write_text(PROJECT + "[pushbacks]\ncount = 2\n[schedule]\nmining_capacity = 2000\n")
-    pitplan.write_schedule(place / "project.toml", writing=pitplan.Writing(verifies=False, figures=False))
+    pitplan.write_schedule(place / "project.toml", writing=UNVERIFIED)
     return place
 
 

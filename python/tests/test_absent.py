@@ -39,7 +39,7 @@ def shells_of(path):
 def test_shells_that_reach_a_hole_are_refused(plan_folder, capsys):
     table = deposit()
     path = plan_folder(table[~((table["x"] == 25) & (table["z"] == 15))])
-    assert main(["shells", str(path), "--quiet"]) == 1
+    assert main(["shells", str(path), "--quiet", "--no-figures"]) == 1
     said = capsys.readouterr().err
     assert (
         "blocks.csv: the shells reach 1 missing blocks (below a row, or in columns without rows), the first at 25, 5, 15 from revenue factor 0.50"
@@ -91,7 +91,7 @@ def test_rock_on_request_in_scenarios(plan_folder):
     told = []
     for kept, change in ((table, []), (table[table["x"] != 15], [ROCK])):
         path = plan_folder(kept, text, *change)
-        assert main(["scenarios", str(path), "--workers", "1", "--quiet"]) == 0
+        assert main(["scenarios", str(path), "--workers", "1", "--quiet", "--no-figures"]) == 0
         told.append(pd.read_csv(path.parent / "plan" / "scenarios" / "tables/scenarios.csv"))
     pd.testing.assert_frame_equal(*told)
     assert (told[0]["blocks"] > 0).any()

@@ -5,7 +5,7 @@ import pandas as pd
 import pytest
 from conftest import PROJECT, rows
 from helpers.processes import WITH, deposit
-from helpers.verified import UNVERIFIED
+from helpers.writings import PLAIN, UNVERIFIED
 
 import pitplan
 from pitplan import PlanError
@@ -53,7 +53,7 @@ def test_inferred_material_of_a_process_by_its_class(plan_folder):
     table = rows(2, 1, 1, cu=lambda i, j, k: 0.2, cls=lambda i, j, k: ["measured", "indicated"][i]).assign(must=1)
     classed = ('rock_type = "rock"\n', 'rock_type = "rock"\nclass = "cls"\n')
     path = plan_folder(table, PROJECT + MUST, *WITH, classed, accepting('{ class = ["measured"] }'))
-    pitplan.write_shells(path)
+    pitplan.write_shells(path, writing=PLAIN)
     assert blocks_of(path)[0]["process"].tolist() == ["leach", "mill"]
 
 
@@ -73,7 +73,7 @@ def test_what_is_accepted_against_the_rules_is_found(plan_folder, monkeypatch):
     path = plan_folder(
         deposit(), PROJECT, *WITH, ("mining_cost = 2\n", "mining_cost = 0.3\n"), accepting('{ rock_type = "S" }')
     )
-    pitplan.write_shells(path, writing=pitplan.Writing(verifies=False))
+    pitplan.write_shells(path, writing=UNVERIFIED)
     assert "money" in {rule.name for rule in pitplan.verify(path.parent / "plan") if rule.differences}
 
 

@@ -4,7 +4,7 @@ import numpy as np
 import pandas as pd
 import pytest
 from conftest import PROJECT, rows
-from helpers.verified import UNVERIFIED
+from helpers.writings import UNVERIFIED
 
 from pitplan import Plan, PlanError, load, verify, write_shells
 

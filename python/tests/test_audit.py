@@ -9,6 +9,7 @@ import numpy as np
 import pandas as pd
 import pytest
 from conftest import PROJECT, rows
+from helpers.writings import PLAIN, REPORTED
 
 import pitplan
 import planaudit
@@ -18,7 +19,6 @@ from pitplan.config import project_writer
 from pitplan.results.folder import read_record
 from planaudit.schedules.closure import maximum_closure
 
-pytestmark = pytest.mark.usefixtures("without_figures")
 ORE = {"cu": lambda i, j, k: {(3, 3, 1): 6, (4, 3, 1): 2.5, (3, 4, 0): 9}.get((i, j, k), 0)}
 GROUND = "x,y,z\n-50,-50,28\n120,-50,28\n-50,120,28\n120,120,28\n"
 
@@ -40,7 +40,7 @@ def test_a_text_that_is_read_as_0_fails_the_run(tmp_path, monkeypatch):
     sections = load_sections()
     plan = Plan.from_model(model, tmp_path, **sections)
     with pytest.raises(PlanError, match=r'block_model.csv row \d+ column cu: "n/a" is not a number'):
-        plan.shells().write(tmp_path / "out")
+        plan.shells().write(tmp_path / "out", PLAIN)
     assert not (tmp_path / "out" / "tables").exists()
 
 
@@ -60,14 +60,14 @@ def test_a_run_that_records_another_project_fails(plan_folder, monkeypatch):
     write = project_writer.write
     monkeypatch.setattr(project_writer, "write", lambda _, *places: write(project, *places))
     with pytest.raises(PlanError, match="verification failed") as said:
-        pitplan.write_shells(dearer, path.parent / "out")
+        pitplan.write_shells(dearer, path.parent / "out", writing=PLAIN)
     assert "money: " in str(said.value)
 
 
 def test_an_input_without_a_hash_in_the_report_is_found(plan_folder):
     """The report as it once was: hashes by base name, so that the table's gave way to that of tables/blocks.csv."""
     path = plan_folder(rows(6, 5, 3, **ORE))
-    pitplan.write_shells(path)
+    pitplan.write_shells(path, writing=REPORTED)
     page, record = path.parent / "plan" / "report.html", read_record(path.parent / "plan")
     assert differences(path.parent / "plan") == {}
     page.write_text(page.read_text().replace(record["inputs"]["blocks.csv"], record["files"]["tables/blocks.csv"]))
@@ -82,7 +82,7 @@ def test_two_inputs_of_one_name_have_two_hashes(plan_folder):
     for name in ("a", "b"):
         (path.parent / name).mkdir()
         (path.parent / name / "ground.csv").write_text(GROUND.replace("28", "28" if name == "a" else "27"))
-    pitplan.write_shells(path)
+    pitplan.write_shells(path, writing=PLAIN)
     folder = path.parent / "plan"
     assert differences(folder) == {}
     record = json.loads((folder / "plan.json").read_text())
@@ -95,7 +95,7 @@ def test_a_survey_that_changed_since_the_run_is_found(plan_folder):
     text = PROJECT.replace('domain = "region"', 'domain = "region"\ntopography = "ground.csv"')
     path = plan_folder(rows(6, 5, 3, **ORE), text)
     (path.parent / "ground.csv").write_text(GROUND)
-    pitplan.write_shells(path)
+    pitplan.write_shells(path, writing=PLAIN)
     (path.parent / "ground.csv").write_text(GROUND + "0,0,28\n")
     assert list(differences(path.parent / "plan")) == ["inputs"]
 
@@ -104,7 +104,7 @@ def test_an_input_that_is_gone_or_no_table_is_named(plan_folder):
     text = PROJECT.replace('domain = "region"', 'domain = "region"\ntopography = "ground.csv"')
     path = plan_folder(rows(6, 5, 3, **ORE), text)
     (path.parent / "ground.csv").write_text(GROUND)
-    pitplan.write_shells(path)
+    pitplan.write_shells(path, writing=PLAIN)
     (path.parent / "ground.csv").write_text("x,y\n1,2\n")
     with pytest.raises(PlanError, match="ground.csv: cannot be read as a table of x, y, z: .*z.*: export it again"):
         pitplan.verify(path.parent / "plan")
@@ -119,7 +119,7 @@ def test_a_model_from_python_keeps_no_format_of_a_file(plan_folder, sign):
     changes = ('domain = "region"', f"domain = \"region\"\nseparator = {json.dumps(sign)}\ndecimal = ','")
     path = plan_folder("", PROJECT, changes)
     plan = Plan.from_project(path, rows(6, 5, 3, **ORE))
-    assert differences(plan.shells().write(path.parent / "out")) == {}
+    assert differences(plan.shells().write(path.parent / "out", PLAIN)) == {}
 
 
 def best_by_trying(values, nodes, needed):

@@ -8,7 +8,7 @@ import pytest
 from helpers.block_commands import WIDE, YEARLY, wrong
 from helpers.dumps import BOTH, CASH, FAR, NEAR, THREE_YEARS, of_rocks, present
 from helpers.pushbacks import pillars
-from helpers.verified import UNVERIFIED
+from helpers.writings import UNVERIFIED, UNVERIFIED_REPORT
 
 import pitplan
 from pitplan import PlanError, ProgramError, load
@@ -24,7 +24,7 @@ FEED = "[schedule]\nyears = 3\n[schedule.feed]\nas_ppm = { max = 110 }\n"
 def certified(plan_folder, words="", text=YEARLY, table=None):
     """Schedules a project by block with a certificate; gives the record, the notes of the run, and the folder."""
     project = load(plan_folder(pillars() if table is None else table, text + words))
-    pitplan.write_block_schedule(project, writing=UNVERIFIED, certificate=True)
+    pitplan.write_block_schedule(project, writing=UNVERIFIED_REPORT, certificate=True)
     folder = project.folder / "block_schedule"
     assert wrong(folder) == set()
     notes = json.loads((folder / "plan.json").read_text())["notes"]

@@ -11,7 +11,8 @@ import pytest
 from conftest import PROJECT, ROOT, rows
 from helpers.block_commands import YEARLY, named_mill, rewrite, scheduled, with_processes, wrong, years_of
 from helpers.pushbacks import PUSHBACKS, pillars
-from helpers.verified import UNVERIFIED, differing
+from helpers.verified import differing
+from helpers.writings import PLAIN, UNVERIFIED
 from matplotlib.figure import Figure
 
 import pitplan
@@ -156,7 +157,7 @@ def test_a_stockpile_is_refused_before_the_table_is_read(plan_folder):
     path = plan_folder(pillars(), YEARLY + "[schedule]\nstockpile = { reclaim_cost = 1 }\n")
     (path.parent / "blocks.csv").unlink()
     with pytest.raises(PlanError, match=r"\[schedule\] stockpile: found one"):
-        pitplan.write_block_schedule(path)
+        pitplan.write_block_schedule(path, writing=PLAIN)
 
 
 def test_one_project_has_both_kinds_of_schedule(plan_folder):
@@ -185,7 +186,7 @@ def test_too_many_blocks_are_refused_before_anything_is_solved(plan_folder, monk
 
 def test_the_command_line_tells_value_bound_and_gap(plan_folder, capsys):
     path = plan_folder(pillars(), YEARLY)
-    assert main(["schedule", str(path), "--by", "block"]) == 0
+    assert main(["schedule", str(path), "--by", "block", "--no-figures"]) == 0
     said = capsys.readouterr()
     lines = [line.split() for line in said.out.splitlines()]
     assert lines[0][:4] == ["NPV", "upper", "bound", "gap"] and lines[2][:4] == ["3,971.45", "3,971.45", "0.00", "3"]
@@ -201,7 +202,7 @@ def test_the_command_line_tells_value_bound_and_gap(plan_folder, capsys):
 
 def test_without_the_library_it_is_told_what_is_missing(plan_folder):
     path = plan_folder(pillars(), YEARLY)
-    words = [sys.executable, str(ROOT / "tools" / "pitplan"), "schedule", str(path), "--by", "block"]
+    words = [sys.executable, str(ROOT / "tools" / "pitplan"), "schedule", str(path), "--by", "block", "--no-figures"]
     ran = subprocess.run(words, capture_output=True, text=True, env=os.environ | {"PITSHELL_LIBRARY": "/nowhere.so"})
     why = "a schedule by block needs the library of pits: no libpitshell.so at /nowhere.so: make library builds it"
     assert ran.returncode == 1 and ran.stderr == f"pitplan: {why}\n"
@@ -213,7 +214,7 @@ def test_an_interrupted_run_keeps_the_best_so_far(plan_folder, capsys, monkeypat
 
     monkeypatch.setattr("pitplan.scheduling.blocks.scheduler.moved", interrupt)
     path = plan_folder(pillars(), YEARLY)
-    assert main(["schedule", str(path), "--by", "block", "--quiet"]) == 130
+    assert main(["schedule", str(path), "--by", "block", "--quiet", "--no-figures"]) == 130
     folder = path.parent / "plan" / "block_schedule"
     assert json.loads((folder / "block_schedule.json").read_text())["interrupted"] and wrong(folder) == set()
     assert "the run was interrupted; this is the best schedule so far" in capsys.readouterr().err
@@ -231,7 +232,7 @@ def written(tmp_path_factory):
         + "[schedule]\nmining_capacity = 1000\nramp_up = [0.5, 1]\nprocessing_capacity = 200\nmax_metal_per_year = { copper = 3.5 }\n"
     )
     (place / "project.toml").write_text(text)
-    pitplan.write_block_schedule(place / "project.toml")
+    pitplan.write_block_schedule(place / "project.toml", writing=PLAIN)
     return place
 
 
@@ -386,7 +387,7 @@ def test_the_view_and_the_table_have_the_years(copied):
 def test_a_pit_without_ore_has_an_empty_schedule(plan_folder, capsys):
     """Nothing pays, so nothing is dug, and the bound is 0."""
     path = plan_folder(rows(3, 1, 2), YEARLY)
-    assert main(["schedule", str(path), "--by", "block", "--quiet"]) == 0
+    assert main(["schedule", str(path), "--by", "block", "--quiet", "--no-figures"]) == 0
     assert capsys.readouterr().out.splitlines()[2].split()[:4] == ["0.00", "0.00", "0.00", "0"]
     folder = path.parent / "plan" / "block_schedule"
     assert (pd.read_csv(folder / "tables/blocks.csv")["year"] == 0).all() and years_of(folder).empty
@@ -424,7 +425,7 @@ def test_both_notations_of_one_mine_have_the_same_value_and_bound(plan_folder):
 def test_where_no_block_pays_nothing_is_mined_which_is_an_answer(plan_folder):
     """Copper at a hundredth of its price: a table, a sentence and a picture with one."""
     project = load(plan_folder(pillars(), YEARLY, ("price = 8000", "price = 80")))
-    row = pitplan.write_block_schedule(project).iloc[0]
+    row = pitplan.write_block_schedule(project, writing=PLAIN).iloc[0]
     assert row[["npv", "upper_bound", "years", "blocks"]].tolist() == [0, 0, 0, 0]
     notes = read_record(project.folder / "block_schedule")["notes"]
     assert "nothing is mined: at these prices and costs no block pays for itself and its predecessors" in notes

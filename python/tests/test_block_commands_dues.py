@@ -7,7 +7,8 @@ import pytest
 from conftest import PROJECT, rows
 from helpers.block_commands import WIDE, YEARLY, rewrite, scheduled, with_processes, years_of
 from helpers.pushbacks import pillars
-from helpers.verified import UNVERIFIED, differing
+from helpers.verified import differing
+from helpers.writings import UNVERIFIED
 
 import pitplan
 from pitplan import PlanError, load, verify

@@ -6,6 +6,7 @@ from conftest import rows
 from helpers.block_commands import YEARLY, rewrite, scheduled, wrong, years_of
 from helpers.dumps import BOTH, CASH, FAR, NEAR, THREE_YEARS, of_rocks, present
 from helpers.pushbacks import pillars
+from helpers.writings import PLAIN
 
 import pitplan
 from pitplan import PlanError, load
@@ -122,7 +123,7 @@ def test_rock_that_no_dump_accepts_is_refused(plan_folder):
     words = THREE_YEARS + NEAR + 'accepts = { rock_type = "FR" }\n'
     project = load(plan_folder(of_rocks(), YEARLY + words))
     with pytest.raises(PlanError, match="none of near accepts 400 t of rock type OX"):
-        pitplan.write_block_schedule(project)
+        pitplan.write_block_schedule(project, writing=PLAIN)
 
 
 @pytest.mark.filterwarnings("error::RuntimeWarning")

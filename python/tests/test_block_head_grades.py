@@ -9,6 +9,7 @@ from conftest import rows
 from helpers.block_commands import WIDE, named_mill, rewrite, scheduled, with_processes, wrong, years_of
 from helpers.pushbacks import pillars
 from helpers.verified import differing
+from helpers.writings import PLAIN
 
 import pitplan
 
@@ -140,7 +141,7 @@ def written(tmp_path_factory):
     place = tmp_path_factory.mktemp("mixed")
     pillars(**DIRTY).to_csv(place / "blocks.csv", index=False)
     (place / "project.toml").write_text(WIDE + FEED)
-    pitplan.write_block_schedule(place / "project.toml")
+    pitplan.write_block_schedule(place / "project.toml", writing=PLAIN)
     return place
 
 

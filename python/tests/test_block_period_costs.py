@@ -11,6 +11,7 @@ from helpers.block_problems import EXACT, demand_sound, pairs_of, problem_of, pr
 from helpers.pushbacks import PUSHBACKS, pillars
 from helpers.random_tests import seeds
 from helpers.verified import differing
+from helpers.writings import PLAIN
 from scipy.optimize import Bounds, LinearConstraint, linprog, milp
 
 import pitplan
@@ -165,7 +166,10 @@ def test_pushbacks_of_the_same_mine_have_the_same_value(plan_folder):
     """Each pillar is a pushback, so both kinds of schedule of one project have the same years."""
     costs = "mining_cost = 2\nfixed_cost_per_year = 300\ncapex = [[2, 100]]\n"
     path = plan_folder(pillars(), PUSHBACKS.replace("mining_cost = 2\n", costs))
-    pushbacks, block = pitplan.write_schedule(path), pitplan.write_block_schedule(path).iloc[0]
+    pushbacks, block = (
+        pitplan.write_schedule(path, writing=PLAIN),
+        pitplan.write_block_schedule(path, writing=PLAIN).iloc[0],
+    )
     best = pushbacks.set_index("method").loc["lp"]
     assert block["npv"] == pytest.approx(best["npv"]) and block["years"] == best["years"] == 3
     assert block["upper_bound"] == pytest.approx(block["npv"])

@@ -18,6 +18,7 @@ from helpers.block_problems import problem_of
 from helpers.block_scenarios import COLUMNS, TWO_YEARS, YEARLY, pillars, prepared, solved_in_turn
 from helpers.random_tests import examples
 from helpers.scenarios import hill, write_models
+from helpers.writings import PLAIN
 from hypothesis import given, strategies as st
 from scipy.optimize import linprog
 
@@ -28,7 +29,7 @@ from pitplan.figures import scenarios
 from pitplan.scheduling.blocks.filling import best_shares
 from pitplan.studies.scenarios import store, worker
 
-BY_BLOCK = Request(by="block")
+BY_BLOCK = Request(workers=0, by="block")
 # The same with the process by its name.
 MILL = '[[processes]]\nname = "mill"\ncost = 10\nrecovery = { copper = 0.5 }\ncapacity = 100\n'
 IN_MILL = [("recovery = 0.5\n", ""), ("processing_capacity = 100\n", "")]
@@ -258,7 +259,7 @@ def test_a_schedule_each_is_that_of_the_model_with_the_process_by_name(plan_fold
     (tmp_path / "other").mkdir()
     table.to_csv(tmp_path / "other" / "blocks.csv", index=False)
     (tmp_path / "other" / "project.toml").write_text(alone)
-    other = pitplan.write_block_schedule(tmp_path / "other" / "project.toml").iloc[0]
+    other = pitplan.write_block_schedule(tmp_path / "other" / "project.toml", writing=PLAIN).iloc[0]
     (row,) = table_of(folder).to_dict("records")
     assert row["upper_bound"] == pytest.approx(other["upper_bound"], rel=1e-4) and row["npv"] > 0
     assert row["npv"] == pytest.approx(other["npv"]) and row["years"] == other["years"] > 2
@@ -344,7 +345,7 @@ def test_of_one_scenario_its_own_schedule_is_that_of_a_model_with_all_rules(plan
     (tmp_path / "other").mkdir()
     table.to_csv(tmp_path / "other" / "blocks.csv", index=False)
     (tmp_path / "other" / "project.toml").write_text(text.replace(COLUMNS, ""))
-    other = pitplan.write_block_schedule(tmp_path / "other" / "project.toml").iloc[0]
+    other = pitplan.write_block_schedule(tmp_path / "other" / "project.toml", writing=PLAIN).iloc[0]
     assert row["npv"] == pytest.approx(row["common_npv"]) and row["npv"] > 0
     assert row["npv"] == pytest.approx(other["npv"], rel=2e-2) and row["npv"] <= other["upper_bound"] * (1 + 1e-6)
     assert other["npv"] <= row["upper_bound"] * (1 + 1e-6)
@@ -430,7 +431,7 @@ def test_factors_are_no_part_of_a_schedule(plan_folder):
 def test_what_is_refused(plan_folder, words, said):
     path = plan_folder(pillars([1, 0.5, 0]), TWO_YEARS, ("years = 2", f"years = 2\n{words}"))
     with pytest.raises(PlanError) as error:
-        write_scenarios(path, request=BY_BLOCK)
+        write_scenarios(path, request=BY_BLOCK, writing=PLAIN)
     assert said in str(error.value) and "project.toml" in str(error.value)
     assert not (path.parent / "plan").exists()
 
@@ -455,7 +456,7 @@ def test_what_is_refused(plan_folder, words, said):
 )
 def test_what_else_is_refused(plan_folder, changes, said):
     with pytest.raises(PlanError) as error:
-        write_scenarios(plan_folder(pillars([1, 0.5, 0]), TWO_YEARS, *changes), request=BY_BLOCK)
+        write_scenarios(plan_folder(pillars([1, 0.5, 0]), TWO_YEARS, *changes), request=BY_BLOCK, writing=PLAIN)
     assert said in str(error.value)
 
 
@@ -467,7 +468,7 @@ def test_limits_under_which_a_pit_would_take_too_long_are_refused(plan_folder):
     with pytest.raises(
         PlanError, match="the pit would take more than 200 years: check that the limits are in tonnes per year"
     ):
-        write_scenarios(path, request=BY_BLOCK)
+        write_scenarios(path, request=BY_BLOCK, writing=PLAIN)
     assert not (path.parent / "plan" / "block_scenarios" / "scenarios.json").exists()
 
 
@@ -480,16 +481,16 @@ def test_a_factor_another_kind_of_folder_and_the_program_are_refused(plan_folder
     assert "pitplan: --solver program: finds pits alone" in capsys.readouterr().err
     folder = prepared(path).folder
     with pytest.raises(PlanError, match="holds scenarios --by block: give another folder by --out for those --by pit"):
-        write_scenarios(path, folder)
+        write_scenarios(path, folder, writing=PLAIN)
     with pytest.raises(PlanError, match="2 of 2 schedules have no result, first sim_1: was not solved"):
-        gather(folder)
+        gather(folder, writing=PLAIN)
     with pytest.raises(PlanError, match="--revenue-factor: schedules by block"):
-        gather(folder, Request(revenue_factor=0.5))
+        gather(folder, Request(revenue_factor=0.5), writing=PLAIN)
 
 
 def test_without_the_library_it_is_told_what_is_missing(plan_folder):
     path = plan_folder(pillars([1, 0.5, 0]), TWO_YEARS)
-    words = [sys.executable, str(ROOT / "tools" / "pitplan"), "scenarios", str(path), "--by", "block"]
+    words = [sys.executable, str(ROOT / "tools" / "pitplan"), "scenarios", str(path), "--by", "block", "--no-figures"]
     ran = subprocess.run(words, capture_output=True, text=True, env=os.environ | {"PITSHELL_LIBRARY": "/nowhere.so"})
     why = "a schedule by block needs the library of pits: no libpitshell.so at /nowhere.so: make library builds it"
     assert ran.returncode == 1 and ran.stderr == f"pitplan: {why}\n" and MissingPackage.__name__ not in ran.stderr
@@ -505,7 +506,7 @@ def without_seconds(folder):
 
 @pytest.mark.slow
 @pytest.mark.filterwarnings("ignore:make_current is deprecated:DeprecationWarning")
-def test_processes_of_dask_write_the_same_as_one_after_the_other(plan_folder, tmp_path, dask_apart):
+def test_processes_of_dask_write_the_same_as_one_after_the_other(plan_folder, tmp_path):
     pytest.importorskip("distributed", reason="needs the Debian package python3-distributed")
     rng = np.random.default_rng(3)
     table = rows(5, 4, 3).drop(columns="cu")
@@ -513,7 +514,7 @@ def test_processes_of_dask_write_the_same_as_one_after_the_other(plan_folder, tm
         table[name] = np.where(rng.random(len(table)) < 0.3, rng.random(len(table)).round(3) * 2, 0.0)
     path = plan_folder(table, TWO_YEARS.replace("years = 2", "years = 4"))
     here = solved_in_turn(prepared(path))
-    result = write_scenarios(path, tmp_path / "dask", Request("local", 2, by="block"))
+    result = write_scenarios(path, tmp_path / "dask", Request("local", 2, by="block"), writing=PLAIN)
     assert without_seconds(here) == without_seconds(tmp_path / "dask")
     assert any(note.startswith("4 solved (status 0)") for note in result.notes) and len(result.schedules) == 3
     assert "0 of 4 schedules have a result already" in result.notes
@@ -522,13 +523,13 @@ def test_processes_of_dask_write_the_same_as_one_after_the_other(plan_folder, tm
 def test_jobs_of_slurm_solve_their_lines(plan_folder):
     """The third line is the one schedule for all."""
     path = plan_folder(pillars([1, 0.5, 0], [0, 0.5, 1]), TWO_YEARS)
-    result = write_scenarios(path, request=Request("slurm", by="block"))
+    result = write_scenarios(path, request=Request("slurm", by="block"), writing=PLAIN)
     folder = result.folder
     assert result.start == folder / "start.sh" and (folder / "jobs.txt").read_text() == "1\n2\n3\n"
     subprocess.run(["sh", str(folder / "array.sbatch")], check=True, env={**os.environ, "SLURM_ARRAY_TASK_ID": "3"})
     assert [job.number for job in store.read_shared(folder).missing()] == [1, 2]
     with pytest.raises(PlanError, match="2 of 3 schedules have no result, first sim_1: was not solved"):
-        gather(folder)
+        gather(folder, writing=PLAIN)
 
 
 def test_some_schedules_are_gathered_on_request_alone(plan_folder):
@@ -538,9 +539,9 @@ def test_some_schedules_are_gathered_on_request_alone(plan_folder):
     with pytest.raises(
         PlanError, match="the common schedule was not made: was not solved: run pitplan scenarios again"
     ):
-        gather(shared.folder, Request(partial=True))
+        gather(shared.folder, Request(partial=True), writing=PLAIN)
     assert worker.solve(str(shared.folder), 3).status == 0
-    notes = gather(shared.folder, Request(partial=True)).notes
+    notes = gather(shared.folder, Request(partial=True), writing=PLAIN).notes
     assert "WARNING: 1 scenarios have no result and are left out of all tables and figures" in notes
     table = table_of(shared.folder)
     assert table.columns[:4].tolist() == ["scenario", "status", "npv", "upper_bound"]
@@ -580,7 +581,7 @@ def test_the_command_line_tells_what_a_planner_should_know(plan_folder):
     path = plan_folder(pillars([1, 0.5, 1], [0, 0.5, 0]), TWO_YEARS)
     solved_in_turn(prepared(path))
     with redirect_stdout(io.StringIO()) as out, redirect_stderr(io.StringIO()) as err:
-        assert main(["scenarios", str(path), "--by", "block"]) == 0
+        assert main(["scenarios", str(path), "--by", "block", "--workers", "1", "--no-figures"]) == 0
     folder = path.parent / "plan" / "block_scenarios"
     assert out.getvalue() == f"{folder}\n"
     said = err.getvalue()

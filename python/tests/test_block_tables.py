@@ -10,9 +10,9 @@ from helpers import block_commands, office, worked_cash_flow
 from helpers.block_commands import rewrite, wrong
 from helpers.pushbacks import pillars
 from helpers.verified import differing
+from helpers.writings import PLAIN
 
 import pitplan
-from pitplan.export import xlsx
 
 # The mine of the worked cash flow without its stockpile: a pillar a year. The mill is closed in year 1, so the leach takes the oxide of the second
 # pillar; the rich sulphide of the first follows at 8,500 USD, the poor one of the third at 9,000. Each pillar costs 200 + 200 + 50 USD to mine,
@@ -58,10 +58,10 @@ YEARS = {
 }
 
 
-def written_to(place, table, text):
+def written_to(place, table, text, writing=PLAIN):
     table.to_csv(place / "blocks.csv", index=False)
     (place / "project.toml").write_text(text)
-    pitplan.write_block_schedule(place / "project.toml", writing=pitplan.Writing(figures=False))
+    pitplan.write_block_schedule(place / "project.toml", writing=writing)
     return place / "plan" / "block_schedule"
 
 
@@ -140,15 +140,13 @@ CHANGES = (
 
 
 @pytest.fixture(scope="module")
-def hill(tmp_path_factory, without_workbooks):
+def hill(tmp_path_factory):
     """The folder of the hill's schedule, with its workbook."""
     text = PROJECT + "[schedule]\nmilp = { gap = 0, seconds = 60 }\n"
     for old, new in CHANGES:
         assert text.count(old) == 1, old
         text = text.replace(old, new)
-    with pytest.MonkeyPatch.context() as patch:
-        patch.setattr(xlsx, "write", without_workbooks)
-        return written_to(tmp_path_factory.mktemp("hill"), rows(11, 9, 4, **HILL), text)
+    return written_to(tmp_path_factory.mktemp("hill"), rows(11, 9, 4, **HILL), text, pitplan.Writing(figures=False))
 
 
 def test_the_inventory_has_the_tonnes_and_metal_of_the_blocks(hill):

@@ -17,6 +17,7 @@ from helpers.constraints import FIXED_SECTION, ores_and_fixed, with_section
 from helpers.scenarios import COLUMNS, PRICES, UPRIGHT, pillar
 from helpers.verified import TEXT, deposit
 from helpers.verified_scenarios import SETS, simulated
+from helpers.writings import PLAIN, UNVERIFIED
 
 import pitplan
 from pitplan import PlanError, ProgramError, load
@@ -76,13 +77,13 @@ def hill(plan_folder, request):
 
 
 @pytest.mark.slow
-def test_figures_are_the_same_to_the_byte(tmp_path, plan_folder, with_figures):
+def test_figures_are_the_same_to_the_byte(tmp_path, plan_folder):
     arrays, _ = by_both(tmp_path, "shells", plan_folder(deposit(), TEXT, CONE), "--no-verify")
     assert {"figures/plans.png", "figures/sections.png"} <= written(arrays).keys()
 
 
 def test_shells_are_the_same_to_the_byte(tmp_path, hill):
-    arrays, texts = by_both(tmp_path, "shells", hill)
+    arrays, texts = by_both(tmp_path, "shells", hill, "--no-figures")
     assert {"tables/blocks.csv", "tables/shells.csv", "tables/years.csv"} <= written(arrays).keys()
     assert without_solver(arrays / "plan.json") == without_solver(texts / "plan.json")
     fixed = (
@@ -116,7 +117,10 @@ def test_the_report_of_a_solver_that_no_build_recorded_claims_no_proof(tmp_path,
     copy.write_bytes(program.program().read_bytes() + b"\n")
     copy.chmod(0o755)
     monkeypatch.setenv("PITSHELL", str(copy))
-    assert main(["shells", str(hill), "--out", str(tmp_path / "out"), "--solver", "program", "--quiet"]) == 0
+    assert (
+        main(["shells", str(hill), "--out", str(tmp_path / "out"), "--solver", "program", "--quiet", "--no-figures"])
+        == 0
+    )
     page = " ".join((tmp_path / "out" / "report.html").read_text().split())
     said = f"Not known to be proved: no build of this installation recorded the SHA-256 of the program, {hash_of(copy)[:12]}"
     assert said in page and "Proved for the" not in page and "Not proved either: how" in page
@@ -132,7 +136,7 @@ def test_pushbacks_and_their_schedule_are_the_same(tmp_path, hill):
     """Of a division that asks the solver again and again for shells of other factors."""
     with open(hill, "a") as file:
         file.write("\n[pushbacks]\ncount = 3\nmin_mining_width = 20\n[schedule]\nbench_lag = 1\n")
-    arrays, _ = by_both(tmp_path, "schedule", hill)
+    arrays, _ = by_both(tmp_path, "schedule", hill, "--no-figures")
     assert {"tables/pushbacks.csv", "tables/schedule.csv", "schedule.json", "tables/blocks.csv"} <= written(
         arrays
     ).keys()
@@ -141,7 +145,7 @@ def test_pushbacks_and_their_schedule_are_the_same(tmp_path, hill):
 def test_a_sensitivity_is_the_same_and_keeps_answers_apart(plan_folder, tmp_path):
     text = with_section(FIXED_SECTION) + '\n[sensitivity]\nchanges = [-0.1]\nparameters = ["price", "slopes"]\n'
     path = plan_folder(ores_and_fixed(), text, UPRIGHT)
-    arrays, texts = by_both(tmp_path, "sensitivity", path)
+    arrays, texts = by_both(tmp_path, "sensitivity", path, "--no-figures")
     assert {"tables/blocks.csv", "tables/sensitivity.csv"} <= written(arrays).keys()
     answers = [{it.name for it in (place / "cases").iterdir()} for place in (arrays, texts)]
     assert len(answers[0]) == len(answers[1]) == 3 and not answers[0] & answers[1]
@@ -150,7 +154,7 @@ def test_a_sensitivity_is_the_same_and_keeps_answers_apart(plan_folder, tmp_path
 def test_scenarios_are_the_same_and_keep_answers_apart(tmp_path, plan_folder):
     pytest.importorskip("distributed", reason="needs the Debian package python3-distributed")
     path = plan_folder(simulated(), TEXT + '[scenarios]\ncolumns = { copper = "cu_*" }\n' + SETS, CONE)
-    arrays, texts = by_both(tmp_path, "scenarios", path, "--workers", "1")
+    arrays, texts = by_both(tmp_path, "scenarios", path, "--workers", "1", "--no-figures")
     assert {
         "tables/probability.csv",
         "tables/scenarios.csv",
@@ -307,7 +311,15 @@ def test_a_solve_that_takes_long_is_ended_at_once(plan_folder, asked, status, sa
     path = plan_folder(
         table, PROJECT, UPRIGHT, ("precedence_benches = 3", "precedence_benches = 1"), ("[0.5, 1.0, 1.5]", "[1.0]")
     )
-    words = [sys.executable, str(ROOT / "tools" / "pitplan"), "shells", str(path), "--solver", "library"]
+    words = [
+        sys.executable,
+        str(ROOT / "tools" / "pitplan"),
+        "shells",
+        str(path),
+        "--solver",
+        "library",
+        "--no-figures",
+    ]
     ran = subprocess.Popen(
         words, stderr=subprocess.PIPE, text=True, preexec_fn=lambda: signal.signal(signal.SIGINT, signal.SIG_DFL)
     )
@@ -376,7 +388,8 @@ def test_both_packages_are_of_one_release():
 
 def test_an_audit_of_what_the_library_solved_writes_the_mine_itself(tmp_path, plan_folder):
     """Blocks, needs and fixed blocks are those that the program would have read."""
-    arrays, texts = by_both(tmp_path, "shells", plan_folder(deposit(), TEXT, CONE), "--no-verify")
+    words = ("--no-verify", "--no-figures")
+    arrays, texts = by_both(tmp_path, "shells", plan_folder(deposit(), TEXT, CONE), *words)
     first, second = (pitplan.audit(place, 0.5) for place in (arrays, texts))
     for name in ("shell.upit", "shell.prec", "shell.fixed", "pit.txt", "shell.cert"):
         assert (first / name).read_bytes() == (second / name).read_bytes(), name
@@ -393,7 +406,7 @@ def solved_by_library(plan_folder):
         ores_and_fixed(), with_section(FIXED_SECTION + 'as_mined = "mined.csv"\ntopography = "blocks"\n')
     )
     (path.parent / "mined.csv").write_text("x,y,z\n0,0,900\n")
-    pitplan.write_shells(replace(load(path), solver="library"), writing=pitplan.Writing(verifies=False))
+    pitplan.write_shells(replace(load(path), solver="library"), writing=UNVERIFIED)
     return path.parent
 
 
@@ -419,7 +432,7 @@ def test_an_audit_is_refused_where_what_the_mine_was_made_of_has_changed(solved_
     )
 
 
-def test_files_of_an_earlier_run_by_the_program_are_taken_away(plan_folder, with_figures):
+def test_files_of_an_earlier_run_by_the_program_are_taken_away(plan_folder):
     """They would be another mine's beside the new tables; a run that is refused takes none away."""
     path = plan_folder(rows(4, 4, 3, cu=lambda i, j, k: 6 * ((i, j, k) == (2, 2, 1))))
     project, bare = load(path), pitplan.Writing(verifies=False, figures=False)
@@ -467,7 +480,9 @@ def test_cases_of_a_sensitivity_are_not_begun_with_another_library(plan_folder, 
 def test_jobs_name_the_solver_and_find_it(plan_folder, kind, by):
     pytest.importorskip("distributed")
     path = plan_folder(pillar(), PRICES, UPRIGHT)
-    found = pitplan.write_scenarios(replace(load(path), solver=by), load(path).folder, pitplan.Request(where=kind))
+    found = pitplan.write_scenarios(
+        replace(load(path), solver=by), load(path).folder, pitplan.Request(where=kind), writing=PLAIN
+    )
     named = {
         "library": f"PITSHELL_LIBRARY={pitshell.LIBRARY.resolve()} ",
         "program": f"PITSHELL={program.program().resolve()} ",

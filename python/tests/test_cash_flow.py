@@ -11,11 +11,10 @@ import numpy as np
 import pandas as pd
 import pytest
 from helpers import office, worked_cash_flow
-from helpers.verified import UNVERIFIED
+from helpers.writings import UNVERIFIED, WITH_WORKBOOK
 
 import pitplan
 from pitplan import PlanError, load, verify
-from pitplan.export import xlsx
 from pitplan.scheduling.cash_flow.tables import RATES, Finance, by_production, straight_line
 from planaudit.inputs import answer as answers
 from planaudit.schedules import cash_flow, material_flow
@@ -76,11 +75,9 @@ def written_to(place, text=worked_cash_flow.TEXT + worked_cash_flow.MONEY, writi
 
 
 @pytest.fixture(scope="module")
-def worked(tmp_path_factory, without_workbooks):
+def worked(tmp_path_factory):
     """The folder of the worked example, with its workbook."""
-    with pytest.MonkeyPatch.context() as patch:
-        patch.setattr(xlsx, "write", without_workbooks)
-        return written_to(tmp_path_factory.mktemp("worked"), writing=pitplan.Writing(figures=False))
+    return written_to(tmp_path_factory.mktemp("worked"), writing=pitplan.Writing(figures=False))
 
 
 def lines_of(folder, method="milp"):
@@ -344,7 +341,7 @@ def test_every_number_of_the_sheet_is_a_number_with_a_unit(recalculated):
 
 @pytest.mark.slow
 @pytest.mark.parametrize("discounting", ["end_of_year", "mid_year", "continuous"])
-def test_npvs_follow_from_the_sheet_with_periods_of_other_lengths(tmp_path, with_workbooks, discounting):
+def test_npvs_follow_from_the_sheet_with_periods_of_other_lengths(tmp_path, discounting):
     """Half-years, then a period of two years: NPVs at three rates, and those at the internal rates of return."""
     text = re.sub(r"(?m)^(prices|capex) = .*\n", "", worked_cash_flow.TEXT + worked_cash_flow.MONEY)
     for old, new in (
@@ -354,7 +351,7 @@ def test_npvs_follow_from_the_sheet_with_periods_of_other_lengths(tmp_path, with
     ):
         assert text.count(old) == 1
         text = text.replace(old, new)
-    folder = written_to(tmp_path, text)
+    folder = written_to(tmp_path, text, writing=WITH_WORKBOOK)
     assert wrong(folder) == set()
     sheet = office.recalculated(folder / "tables/schedule.xlsx", tmp_path)["cash_flow"]
     method = json.loads((folder / "schedule.json").read_text())["shown"]

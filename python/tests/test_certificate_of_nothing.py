@@ -1,7 +1,8 @@
 """Certificates of schedules that mine nothing."""
 
 from helpers.six_blocks import POOR, RICH, six_blocks
-from helpers.verified import UNVERIFIED, wrong
+from helpers.verified import wrong
+from helpers.writings import UNVERIFIED
 
 import pitplan
 

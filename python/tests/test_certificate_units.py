@@ -4,7 +4,8 @@ import json
 
 import pytest
 from helpers.six_blocks import RICH, six_blocks
-from helpers.verified import UNVERIFIED, wrong
+from helpers.verified import wrong
+from helpers.writings import UNVERIFIED
 
 import pitplan
 from pitplan.errors import WARNING

@@ -79,7 +79,7 @@ def test_a_schedule_without_pushbacks_is_noted(mine, capsys):
     assert pitplan.check(mine)[-1] == NOTE
     assert main(["check", str(mine), "--quiet"]) == 0
     assert capsys.readouterr().err.splitlines()[-1] == NOTE
-    assert main(["schedule", str(mine), "--quiet"]) == 1
+    assert main(["schedule", str(mine), "--quiet", "--no-figures"]) == 1
     assert "[pushbacks] is missing: set its count, tonnes or revenue_factors" in capsys.readouterr().err
 
 

@@ -8,6 +8,7 @@ import numpy as np
 import pandas as pd
 import pytest
 from conftest import PROJECT, ROOT, rows
+from helpers.writings import UNVERIFIED
 
 import pitplan
 from pitplan.export import xlsx
@@ -17,7 +18,6 @@ from pitplan.results.columns import TABLES
 from pitplan.results.rounding import decimals_of, shown
 
 BY_FILE = {table.file: table for table in TABLES}
-PLAIN = pitplan.Writing(verifies=False, figures=False)
 WIDE = """[pushbacks]
 count = 2
 min_mining_width = 20
@@ -107,10 +107,10 @@ def written(tmp_path_factory):
         table.to_csv(place / name / "blocks.csv", index=False)
         (place / name / "project.toml").write_text(text)
     project = place / "one" / "project.toml"
-    pitplan.write_schedule(project, writing=PLAIN)
-    pitplan.write_sensitivity(project, writing=PLAIN)
-    pitplan.write_pit(project, writing=PLAIN)
-    pitplan.write_pushbacks(place / "several" / "project.toml", writing=PLAIN)
+    pitplan.write_schedule(project, writing=UNVERIFIED)
+    pitplan.write_sensitivity(project, writing=UNVERIFIED)
+    pitplan.write_pit(project, writing=UNVERIFIED)
+    pitplan.write_pushbacks(place / "several" / "project.toml", writing=UNVERIFIED)
     paths = [path for path in place.glob("*/plan/**/*.csv") if path.name in BY_FILE]
     return {path.relative_to(place): list(csv.reader(path.open())) for path in paths}
 

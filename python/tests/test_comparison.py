@@ -9,6 +9,7 @@ import pytest
 from conftest import PROJECT, plan_in
 from helpers.periods import column
 from helpers.pushbacks import PUSHBACKS, pillars
+from helpers.writings import UNVERIFIED
 
 import pitplan
 from pitplan import PlanError
@@ -18,7 +19,6 @@ from pitplan.core.atomic_files import hash_of
 from pitplan.figures import comparison as figures
 from pitplan.studies.comparison import KeyChange, changes, names_of
 
-PLAIN = pitplan.Writing(verifies=False, figures=False)
 CHEAP = ("mining_cost = 2\n", "mining_cost = 1\n")
 DEAR = ("price = 8000\n", "price = 9000\n")
 LATE = ("discount_rate = 0.1\n", "discount_rate = 0.2\n")
@@ -32,7 +32,7 @@ def run(tmp_path):
         place = tmp_path / f"{name} project"
         place.mkdir(exist_ok=True)
         path = plan_in(place)(column() if table is None else table, text, *edits)
-        by(path, folder=tmp_path / name, writing=PLAIN)
+        by(path, folder=tmp_path / name, writing=UNVERIFIED)
         return tmp_path / name
 
     return write
@@ -47,7 +47,7 @@ def npv(folder):
 
 def test_each_step_of_a_bridge_is_a_run_with_the_changes_so_far(run):
     base, other = run("base"), run("other", CHEAP, DEAR, LATE)
-    found = pitplan.compare([base, other], writing=PLAIN)
+    found = pitplan.compare([base, other], writing=UNVERIFIED)
     assert found.bridge["key"].tolist() == [
         "base",
         "economics mining_cost",
@@ -78,9 +78,9 @@ def test_a_step_that_differs_from_its_recalculation_is_refused(run, monkeypatch)
 
     monkeypatch.setattr(plans, "write_shells", bent)
     with pytest.raises(PlanError, match="verification failed|differ"):
-        pitplan.compare([base, other], writing=replace(PLAIN, verifies=True))
+        pitplan.compare([base, other], writing=replace(UNVERIFIED, verifies=True))
     assert not (base.parent / "comparison").exists()
-    found = pitplan.compare([base, other], writing=replace(PLAIN, verifies=False)).bridge["npv"]
+    found = pitplan.compare([base, other], writing=replace(UNVERIFIED, verifies=False)).bridge["npv"]
     assert found.iloc[1] == pytest.approx(npv(run("between", CHEAP)) + 2.5)
 
 
@@ -91,7 +91,7 @@ def test_inputs_key_by_key(run):
         ("mining_cost = 2\n", "mining_cost = 2.5\nroyalty = 0.03\n"),
         text=PROJECT + '[figures]\nformats = ["svg"]\n',
     )
-    found = pitplan.compare([base, other], bridges=False, writing=PLAIN)
+    found = pitplan.compare([base, other], bridges=False, writing=UNVERIFIED)
     rows = {row.key: (row.base, row.value) for row in found.inputs.itertuples()}
     assert rows["economics mining_cost"] == ("2", "2.5") and rows["economics royalty"] == ("0", "0.03")
     assert rows["figures"][0] == "" and "svg" in rows["figures"][1]
@@ -101,16 +101,16 @@ def test_inputs_key_by_key(run):
 def test_a_file_with_other_content_is_named_by_its_hash(tmp_path):
     """The same project before and after its table is changed."""
     path = plan_in(tmp_path)(column())
-    pitplan.write_shells(path, folder=tmp_path / "before", writing=PLAIN)
+    pitplan.write_shells(path, folder=tmp_path / "before", writing=UNVERIFIED)
     column().assign(cu=0.9).to_csv(tmp_path / "blocks.csv", index=False)
-    pitplan.write_shells(path, folder=tmp_path / "after", writing=PLAIN)
-    found = pitplan.compare([tmp_path / "before", tmp_path / "after"], bridges=False, writing=PLAIN)
+    pitplan.write_shells(path, folder=tmp_path / "after", writing=UNVERIFIED)
+    found = pitplan.compare([tmp_path / "before", tmp_path / "after"], bridges=False, writing=UNVERIFIED)
     (row,) = found.inputs.itertuples()
     assert row.key == "file blocks.csv" and len(row.base) == len(row.value) == 12 and row.base != row.value
     with pytest.raises(
         PlanError, match=r"blocks.csv: is not as it was for this run.*: run .*before again, or compare with --no-bridge"
     ):
-        pitplan.compare([tmp_path / "before", tmp_path / "after"], writing=PLAIN)
+        pitplan.compare([tmp_path / "before", tmp_path / "after"], writing=UNVERIFIED)
 
 
 def test_changes_that_are_only_valid_together_are_one_step(run):
@@ -118,14 +118,14 @@ def test_changes_that_are_only_valid_together_are_one_step(run):
     named = '[[processes]]\nname = "mill"\ncost = 9\ncapacity = 100\nrecovery = { copper = 0.5 }\n'
     edits = [(words, "") for words in ("processing_cost = 10\n", "recovery = 0.5\n", "processing_capacity = 100\n")]
     base, other = run("base"), run("other", *edits, DEAR, text=PROJECT + named)
-    steps = pitplan.compare([base, other], writing=PLAIN).bridge
+    steps = pitplan.compare([base, other], writing=UNVERIFIED).bridge
     assert len(steps) == 2 and steps["npv"].iloc[-1] == pytest.approx(npv(other))
     assert set(steps["key"].iloc[1].split(", ")) >= {"economics processing_cost", "metals copper recovery", "processes"}
 
 
 def test_periods_and_their_changes(run):
     base, slow = run("base"), run("slow", ("processing_capacity = 100\n", "processing_capacity = 50\n"))
-    found = pitplan.compare([base, slow], bridges=False, writing=PLAIN).periods.set_index(["run", "year"])
+    found = pitplan.compare([base, slow], bridges=False, writing=UNVERIFIED).periods.set_index(["run", "year"])
     assert found.loc["base", "feed_tonnes"].tolist() == [100] * 4 + [0] * 4
     assert found.loc["slow", "feed_tonnes_change"].tolist() == [-50] * 4 + [50] * 4
     assert (found.loc["base"].filter(like="_change") == 0).all(axis=None)
@@ -133,7 +133,7 @@ def test_periods_and_their_changes(run):
 
 def test_runs_with_periods_of_other_lengths_have_no_changes(run):
     base, halves = run("base"), run("halves", text=PROJECT + "[[periods]]\nperiod_months = 6\n")
-    found = pitplan.compare([base, halves], bridges=False, writing=PLAIN).periods
+    found = pitplan.compare([base, halves], bridges=False, writing=UNVERIFIED).periods
     assert "period" in found and "year" not in found and found.filter(like="_change").isna().all(axis=None)
 
 
@@ -145,7 +145,7 @@ def test_a_bridge_of_schedules_with_head_grades(run):
     by = pitplan.write_schedule
     base = run("base", table=pillars(), text=PUSHBACKS, by=by)
     other = run("other", CHEAP, DEAR, table=pillars(), text=PUSHBACKS, by=by)
-    found = pitplan.compare([base, other], writing=PLAIN)
+    found = pitplan.compare([base, other], writing=UNVERIFIED)
     between = run("between", CHEAP, table=pillars(), text=PUSHBACKS, by=by)
     assert found.bridge["npv"].tolist() == pytest.approx([of_method(it) for it in (base, between, other)])
     assert found.periods["head_grade_copper"].dropna().max() == pytest.approx(1.0)
@@ -158,17 +158,17 @@ def test_a_bridge_of_schedules_by_block(run):
         run(name, *edits, table=pillars(), text=text, by=by)
         for name, edits in (("base", ()), ("other", (CHEAP, DEAR)), ("between", (CHEAP,)))
     )
-    found = pitplan.compare([base, other], writing=PLAIN)
+    found = pitplan.compare([base, other], writing=UNVERIFIED)
     assert found.bridge["npv"].tolist() == pytest.approx([of_method(it) for it in (base, between, other)])
 
 
-def test_several_runs_have_a_bridge_each_and_figures(run, with_figures):
+def test_several_runs_have_a_bridge_each_and_figures(run):
     base, one, two = run("base"), run("one", CHEAP), run("two", DEAR)
     found = pitplan.compare([base, one, two], writing=pitplan.Writing())
     assert found.bridge.groupby("run").size().to_dict() == {"one": 2, "two": 2}
     names = {path.name for path in (found.folder / "figures").iterdir()}
     assert names == {"periods.png", "bridge-1.png", "bridge-2.png"}
-    pitplan.compare([base, one], writing=PLAIN, bridges=False)
+    pitplan.compare([base, one], writing=UNVERIFIED, bridges=False)
     assert not (found.folder / "figures").exists() and not (found.folder / "tables/bridge.csv").exists()
     record = json.loads((found.folder / "comparison.json").read_text())
     assert [it["name"] for it in record["runs"]] == ["base", "one"] and record["bridge"] is False
@@ -198,10 +198,10 @@ def test_what_cannot_be_compared_is_named(run, tmp_path):
     ]
     for folders, more, said in cases:
         with pytest.raises(PlanError, match=said):
-            pitplan.compare(folders, writing=PLAIN, **more)
+            pitplan.compare(folders, writing=UNVERIFIED, **more)
     (other / "tables/shells.csv").write_text((base / "tables/shells.csv").read_text())
     with pytest.raises(PlanError, match="shells.csv: has changed since the run: run pitplan shells again"):
-        pitplan.compare([base, other], writing=PLAIN)
+        pitplan.compare([base, other], writing=UNVERIFIED)
 
 
 def test_runs_of_other_kinds_or_currencies_are_refused(run):
@@ -215,7 +215,7 @@ def test_runs_of_other_kinds_or_currencies_are_refused(run):
         (euro, "euro: found the currency EUR, expected"),
     ):
         with pytest.raises(PlanError, match=said):
-            pitplan.compare([base, other], writing=PLAIN)
+            pitplan.compare([base, other], writing=UNVERIFIED)
 
 
 def test_changes_of_sections_by_hand():

@@ -9,7 +9,7 @@ from conftest import PROJECT, rows
 from helpers.block_commands import YEARLY, scheduled
 from helpers.pushbacks import pillars
 from helpers.scenarios import COLUMNS, UPRIGHT, prepared, solved_in_turn
-from helpers.verified import UNVERIFIED
+from helpers.writings import PLAIN, UNVERIFIED
 
 import pitplan
 from pitplan import PlanError, verify
@@ -85,7 +85,7 @@ def test_a_factor_of_decimals_is_multiplied_exactly(plan_folder):
     assert 100.1 * 2.15 * 1.1 < 236.7365
     mining, _ = values_of(plan_folder(table, PROJECT, money))
     assert mining == [236.736] * 4  # halves to the even one
-    pitplan.write_shells(plan_folder(table, PROJECT, money))
+    pitplan.write_shells(plan_folder(table, PROJECT, money), writing=PLAIN)
 
 
 def test_one_column_may_be_both_factors(plan_folder):
@@ -110,7 +110,7 @@ def test_reblocked_factors_are_means_by_tonnes_to_nine_decimals(plan_folder):
     plan = pitplan.Plan.from_project(path)
     assert plan.table["mc"].tolist() == [0.833333333] * 2
     assert plan.values.mining.tolist() == [500 * MILLION] * 2
-    pitplan.write_shells(path)
+    pitplan.write_shells(path, writing=PLAIN)
 
 
 def test_filled_blocks_have_the_factor_1(plan_folder):
@@ -119,7 +119,7 @@ def test_filled_blocks_have_the_factor_1(plan_folder):
     path = plan_folder(table[table["name"] != "b0-0-0"], PROJECT, BOTH, filled)
     plan = pitplan.Plan.from_project(path)
     assert plan.blocks.set_index("name").loc["absent-2", ["mc", "pc", "mining_cost"]].tolist() == [1, 1, 100]
-    pitplan.write_shells(path)
+    pitplan.write_shells(path, writing=PLAIN)
 
 
 @pytest.mark.parametrize("empty", ["refuse", "zero"])
@@ -165,7 +165,7 @@ def test_a_block_without_tonnes_needs_no_factor(plan_folder):
     path = plan_folder(table, PROJECT, BOTH)
     plan = pitplan.Plan.from_project(path)
     assert plan.values.mining.tolist() == [0] * 4
-    pitplan.write_shells(path)
+    pitplan.write_shells(path, writing=PLAIN)
 
 
 @pytest.mark.parametrize(
@@ -185,13 +185,13 @@ def test_a_column_that_cannot_be_a_factor_is_refused(plan_folder, change, words)
 def test_a_planted_wrong_factor_is_found(plan_folder, monkeypatch, key):
     """Costs are computed with the factors of the other column."""
     path = plan_folder(table_of(), PROJECT, BOTH)
-    pitplan.write_shells(path)
+    pitplan.write_shells(path, writing=PLAIN)
     adjusted, columns = ValuedRows.adjusted, {"mcaf": "mc", "pcaf": "pc"}
     monkeypatch.setattr(
         ValuedRows, "adjusted", lambda rows, cost, name: adjusted(rows, cost, "cu" if name == columns[key] else name)
     )
     with pytest.raises(PlanError, match="money: .*" + ("mining_cost" if key == "mcaf" else "processing_cost")):
-        pitplan.write_shells(path)
+        pitplan.write_shells(path, writing=PLAIN)
 
 
 def test_a_factor_that_stands_in_for_an_empty_field_is_found(plan_folder, monkeypatch):
@@ -199,12 +199,12 @@ def test_a_factor_that_stands_in_for_an_empty_field_is_found(plan_folder, monkey
     table.loc[2, "mc"] = np.nan
     monkeypatch.setattr(reader, "complete", lambda frame, *_: frame.fillna(1.0, inplace=True))
     with pytest.raises(PlanError, match="row 4 column mc: is empty, expected a cost adjustment factor from 0"):
-        pitplan.write_shells(plan_folder(table, PROJECT, BOTH))
+        pitplan.write_shells(plan_folder(table, PROJECT, BOTH), writing=PLAIN)
 
 
 def test_the_project_as_run_names_the_factors(plan_folder):
     path = plan_folder(table_of(), PROJECT, BOTH)
-    pitplan.write_shells(path)
+    pitplan.write_shells(path, writing=PLAIN)
     again = pitplan.load(path.parent / "plan" / "project-as-run.toml")
     assert (again.economics.mcaf, again.economics.pcaf) == ("mc", "pc")
 
@@ -214,7 +214,7 @@ def test_sensitivity_changes_costs_before_the_factor(plan_folder):
     path = plan_folder(
         table_of(), PROJECT + "[sensitivity]\nchanges = [-0.5, 0.5]\n", BOTH, ("[0.5, 1.0, 1.5]", "[1.0]")
     )
-    table = pitplan.write_sensitivity(path).set_index(["parameter", "change"])
+    table = pitplan.write_sensitivity(path, writing=PLAIN).set_index(["parameter", "change"])
     worth = table["kept_undiscounted_cash_flow"].to_dict()
     base = 6400 - 800 - 2050
     assert worth["mining_cost", 0.5] == base - 400 and worth["mining_cost", -0.5] == base + 400
@@ -250,8 +250,10 @@ def test_another_factor_is_another_key(plan_folder):
 
 
 def test_factors_that_no_cost_uses_change_nothing(plan_folder):
-    plain = pitplan.write_shells(plan_folder(table_of(), PROJECT))
-    ones = pitplan.write_shells(plan_folder(table_of(mc=lambda i, j, k: 1, pc=lambda i, j, k: 1), PROJECT, BOTH))
+    plain = pitplan.write_shells(plan_folder(table_of(), PROJECT), writing=PLAIN)
+    ones = pitplan.write_shells(
+        plan_folder(table_of(mc=lambda i, j, k: 1, pc=lambda i, j, k: 1), PROJECT, BOTH), writing=PLAIN
+    )
     assert ones.equals(plain)
 
 

@@ -4,6 +4,7 @@ import pandas as pd
 import pytest
 from conftest import PROJECT, rows
 from helpers.processes import WITH, deposit
+from helpers.writings import PLAIN
 
 import pitplan
 
@@ -15,7 +16,7 @@ GOLD = '[[metals]]\nname = "gold"\ncolumn = "au"\nunit = "gram_per_tonne"\nprice
 def scheduled(plan_folder):
     def write(table, more="", *changes):
         path = plan_folder(table, PROJECT + SCHEDULE + more, *changes)
-        pitplan.write_schedule(path, folder=path.parent / "plan")
+        pitplan.write_schedule(path, folder=path.parent / "plan", writing=PLAIN)
         return path.parent / "plan"
 
     return write
@@ -63,7 +64,7 @@ def test_tails_curves_and_dilution(scheduled):
 def test_processes_and_rock_types_have_their_own(plan_folder):
     """A tonne of one per cent holds 80: leach recovers 0.4 of it for 3, the mill 0.9 or 0.65 for 13, by rock type."""
     path = plan_folder(deposit(), PROJECT + SCHEDULE, *WITH)
-    pitplan.write_schedule(path, folder=path.parent / "plan")
+    pitplan.write_schedule(path, folder=path.parent / "plan", writing=PLAIN)
     found = cutoffs_of(path.parent / "plan")
     grades = found.groupby(["process", "rock"])["marginal_grade"].unique()
     due = {("leach", "R"): 3 / 32, ("leach", "S"): 3 / 32, ("mill", "R"): 13 / 72, ("mill", "S"): 13 / 52}

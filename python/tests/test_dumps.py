@@ -12,7 +12,8 @@ from helpers.dumps import BOTH, CASH, FAR, NEAR, THREE_YEARS, of_rocks, present
 from helpers.flows import OfWholeBenches, Statement, mine_of, mines, model_of, processes, stockpiles
 from helpers.pushbacks import PUSHBACKS, UPRIGHT, pillars, with_pushbacks
 from helpers.random_tests import examples
-from helpers.verified import UNVERIFIED, differing, wrong
+from helpers.verified import differing, wrong
+from helpers.writings import PLAIN, UNVERIFIED, WITH_WORKBOOK
 from hypothesis import given, strategies as st
 from scipy.optimize import Bounds, LinearConstraint, milp
 
@@ -158,10 +159,10 @@ def test_ore_is_milled_at_a_loss_that_is_less_than_its_dump(scheduled):
     assert cheap["npv"]["lp"] == pytest.approx((3000 - 100 - 400) / 1.1, abs=0.01)
 
 
-def test_workbook_and_assumptions_have_dumps(plan_folder, with_workbooks):
+def test_workbook_and_assumptions_have_dumps(plan_folder):
     """The line of dumps is among the costs of the sheet of the cash flow."""
     path = plan_folder(pillars(), PUSHBACKS + THREE_YEARS + BOTH + "[[periods]]\ndumps = { far = { max = 500 } }\n")
-    pitplan.write_schedule(path, writing=UNVERIFIED)
+    pitplan.write_schedule(path, writing=WITH_WORKBOOK)
     book = openpyxl.load_workbook(path.parent / "plan/schedule/tables/schedule.xlsx")
     assert book["dumps"].max_row > 6
     lines = [[cell.value for cell in row] for row in book["cash_flow"].iter_rows()]
@@ -384,7 +385,7 @@ def test_rock_that_no_dump_accepts_is_refused_with_its_tonnes(plan_folder):
     path = plan_folder(of_rocks(), PUSHBACKS + THREE_YEARS + fresh)
     said = r"\[\[dumps\]\] accepts: none of near accepts 400 t of rock type OX, domain 1 of the pit, the first .*b1-0-1"
     with pytest.raises(PlanError, match=said):
-        pitplan.write_schedule(path)
+        pitplan.write_schedule(path, writing=PLAIN)
 
 
 def years_of(folder):
@@ -435,7 +436,7 @@ def test_a_sensitivity_changes_the_cost_of_a_dump(plan_folder):
 def test_rock_of_shells_that_no_dump_accepts_is_refused(plan_folder):
     path = plan_folder(of_rocks(), PUSHBACKS + NEAR + 'accepts = { rock_type = "FR" }\n')
     with pytest.raises(PlanError, match=r"none of near accepts 400 t of rock type OX"):
-        pitplan.write_shells(path)
+        pitplan.write_shells(path, writing=PLAIN)
 
 
 def test_scenarios_by_block_refuse_dumps(plan_folder):
@@ -482,4 +483,4 @@ def test_a_minimum_that_cannot_be_met_is_reported(plan_folder):
     """The shovels take 200 t a year, all of which may be waste."""
     words = THREE_YEARS + NEAR + "[[periods]]\ndumps = { near = { min = 250 } }\n"
     with pytest.raises(PlanError, match=r"infeasible: .*Smallest shortfall: the minimum of dump_near in year"):
-        pitplan.write_schedule(plan_folder(pillars(), PUSHBACKS + words))
+        pitplan.write_schedule(plan_folder(pillars(), PUSHBACKS + words), writing=PLAIN)

@@ -10,6 +10,7 @@ import numpy as np
 import pandas as pd
 import pytest
 from conftest import ROOT
+from helpers.writings import PLAIN
 from oracle.slopes import cotangent
 
 import pitplan
@@ -27,8 +28,8 @@ PLACES = (("x", 5010, 20), ("y", 2010, 20), ("z", 2707.5, 15))
 def folder(tmp_path_factory):
     """The shells of the example and, in pit, its pit of revenue factor 1.00."""
     place = tmp_path_factory.mktemp("fixed")
-    pitplan.write_shells(EXAMPLE / "project.toml", place)
-    pitplan.write_pit(EXAMPLE / "project.toml", 1.0, place / "pit")
+    pitplan.write_shells(EXAMPLE / "project.toml", place, writing=PLAIN)
+    pitplan.write_pit(EXAMPLE / "project.toml", 1.0, place / "pit", writing=PLAIN)
     return place
 
 

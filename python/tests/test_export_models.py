@@ -7,6 +7,7 @@ import pandas as pd
 import pytest
 from conftest import PROJECT, rows
 from helpers import datamine_files, omf_files
+from helpers.writings import PLAIN, UNVERIFIED
 
 import pitplan
 from pitplan import PlanError
@@ -33,7 +34,7 @@ def hill(plan_folder):
     )
     text += '[constraints]\nexclude = "a long nose"\n'
     path = plan_folder(table.assign(**{"a long nose": 0})[(table["z"] < 20) | (table["x"] < 50)], text)
-    pitplan.write_shells(path)
+    pitplan.write_shells(path, writing=PLAIN)
     return path.parent / "plan"
 
 
@@ -86,7 +87,7 @@ def test_equal_results_give_equal_files(hill, tmp_path):
 def test_many_texts_are_written_as_they_are(plan_folder):
     table = rows(11, 10, 10)
     path = plan_folder(table, PROJECT, ("[0.5, 1.0, 1.5]", "[1.0]"))
-    pitplan.write_shells(path, writing=pitplan.Writing(verifies=False))
+    pitplan.write_shells(path, writing=UNVERIFIED)
     export = pitplan.write_export(path.parent / "plan", "omf")
     _, objects, _ = omf_files.read_plainly(export)
     assert [it["name"] for it in objects.values() if it["__class__"] == "StringData"] == ["name"]
@@ -99,7 +100,7 @@ def test_a_rotated_grid_is_written_to_omf_and_refused_for_dm(plan_folder):
     places = 1000 + 2000j + (table["x"] + 1j * table["y"]) * turn
     table["x"], table["y"] = np.real(places).round(6), np.imag(places).round(6)
     path = plan_folder(table)
-    pitplan.write_shells(path)
+    pitplan.write_shells(path, writing=PLAIN)
     folder = path.parent / "plan"
     azimuth = json.loads((folder / "plan.json").read_text())["grid"]["azimuth"]
     assert azimuth == pytest.approx(30)
@@ -167,7 +168,7 @@ def test_a_datamine_model_reads_back_as_the_blocks(hill):
 def test_records_on_pages_are_whole(plan_folder, size):
     """A record has 17 words, of which a page holds 29: 50 blocks fill one page and part of another."""
     path = plan_folder(rows(size, 1, 1, cu=lambda i, j, k: i / 100))
-    pitplan.write_shells(path, writing=pitplan.Writing(verifies=False))
+    pitplan.write_shells(path, writing=UNVERIFIED)
     export = pitplan.write_export(path.parent / "plan", "dm")
     fields = datamine_files.read_plainly(export.read_bytes())
     assert fields["CU"] == [i / 100 for i in range(size)]
@@ -178,7 +179,7 @@ def test_columns_that_do_not_fit_are_named(plan_folder):
     """Texts of 200 letters take 50 of the 64 fields."""
     table = rows(3, 1, 2, rock=lambda i, j, k: "R" * 200)
     path = plan_folder(table)
-    pitplan.write_shells(path, writing=pitplan.Writing(verifies=False))
+    pitplan.write_shells(path, writing=UNVERIFIED)
     export = pitplan.write_export(path.parent / "plan", "dm")
     (left,) = [note for note in export.notes if "left out" in note]
     assert left == "left out, since a model has at most 64 fields: ROCK"

@@ -5,6 +5,7 @@ import pytest
 from conftest import PROJECT
 from helpers.random_projects import haulage, pick, project_of, table_of
 from helpers.random_tests import seeds
+from helpers.writings import UNVERIFIED
 
 import pitplan
 from pitplan import verify
@@ -37,5 +38,5 @@ def test_what_is_written_is_right(plan_folder, monkeypatch, seed):
         (pitplan.write_pit, "plan/pit"),
     ]
     command, folder = ways[seed % 4]
-    table = command(path, writing=pitplan.Writing(verifies=False))
+    table = command(path, writing=UNVERIFIED)
     assert len(table) and not any(rule.differences for rule in verify(path.parent / folder))

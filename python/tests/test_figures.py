@@ -6,6 +6,7 @@ from contextlib import nullcontext
 import pytest
 from conftest import PROJECT, files_in, rows
 from helpers.blank_figures import blank_figures
+from helpers.writings import UNVERIFIED
 
 import pitplan
 from pitplan import Writing
@@ -28,8 +29,6 @@ pairs = [["price", "mining_cost"]]
 columns = { copper = ["cu", "cu2"] }
 """
 ONCE = Writing(verifies=False)
-# Commands draw here as for a planner.
-pytestmark = pytest.mark.usefixtures("with_figures")
 BARE = Writing(verifies=False, figures=False)
 
 
@@ -74,6 +73,17 @@ def test_a_run_without_figures_removes_those_of_an_earlier_run(mine, command, na
     assert first.to_csv() == second.to_csv()
 
 
+def test_a_run_without_workbook_and_report_removes_those_of_an_earlier_run(mine):
+    folder, names = mine.parent / "plan" / "schedule", {"tables/schedule.xlsx", "report.html"}
+    pitplan.write_schedule(mine, writing=BARE)
+    before = files_in(folder)
+    assert names < {*before} and "tables/schedule.xlsx" in json.loads((folder / "plan.json").read_text())["files"]
+    pitplan.write_schedule(mine, writing=UNVERIFIED)
+    after = files_in(folder)
+    assert {*after} == {*before} - names and after["tables/schedule.csv"] == before["tables/schedule.csv"]
+    assert "tables/schedule.xlsx" not in json.loads((folder / "plan.json").read_text())["files"]
+
+
 def test_figures_of_other_formats_are_removed_too(mine, with_blank_figures):
     mine.write_text(mine.read_text() + '[figures]\nformats = ["svg"]\n')
     pitplan.write_shells(mine, writing=ONCE)
@@ -113,7 +123,7 @@ def test_a_sensitivity_without_figures(mine):
 )
 def test_scenarios_without_figures(mine, by, names):
     pytest.importorskip("distributed")
-    result = pitplan.write_scenarios(mine, request=pitplan.Request(workers=1, by=by), writing=ONCE)
+    result = pitplan.write_scenarios(mine, request=pitplan.Request(workers=0, by=by), writing=ONCE)
     assert figures_in(result.folder) == names
     assert all((result.folder / name).read_bytes().startswith(b"\x89PNG") for name in names)
     assert json.loads((result.folder / "gathered.json").read_text())["figures"] is True

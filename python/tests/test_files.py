@@ -15,6 +15,7 @@ import numpy as np
 import pandas as pd
 import pytest
 from conftest import PROJECT, ROOT, files_in, rows
+from helpers.writings import REPORTED, UNVERIFIED
 
 import pitplan
 from pitplan import BudgetUsedUp, PlanError, ProgramError, load
@@ -67,7 +68,7 @@ def test_shells_write_tables_pictures_and_a_page_that_needs_no_other_file(solved
 
 def test_a_mine_without_ore_has_a_report_and_a_page_too(plan_folder):
     project = load(plan_folder(rows(4, 4, 3), PROJECT, ("[0.5, 1.0, 1.5]", "[1.0]")))
-    table = pitplan.write_shells(project, project.folder)
+    table = pitplan.write_shells(project, project.folder, writing=REPORTED)
     assert table["blocks"].tolist() == [0] and table["undiscounted_cash_flow"].tolist() == [0]
     pitplan.view(project.folder, silent)
     assert (
@@ -84,7 +85,7 @@ def test_the_record_is_json_that_can_be_read(solved):
 
 def test_the_record_has_hashes_of_all_that_was_read_and_written(solved):
     project, folder = solved
-    pitplan.write_shells(replace(project, solver="program"), writing=pitplan.Writing(verifies=False))
+    pitplan.write_shells(replace(project, solver="program"), writing=UNVERIFIED)
     record = json.loads((folder / "plan.json").read_text())
     names = [*record["files"], *record["inputs"]]
     places = [folder / name for name in record["files"]] + [project.path.parent / name for name in record["inputs"]]
@@ -241,7 +242,7 @@ def test_vtu_has_a_cell_a_block_of_rock_where_the_block_lies(plan_folder):
     from vtk.util.numpy_support import vtk_to_numpy
 
     path = plan_folder(rows(4, 3, 2, **ORE, tonnes=lambda i, j, k: 100 * int((i, j, k) != (2, 0, 1))))
-    pitplan.write_shells(path, writing=pitplan.Writing(verifies=False))
+    pitplan.write_shells(path, writing=UNVERIFIED)
     reader = vtk.vtkXMLUnstructuredGridReader()
     reader.SetFileName(str(pitplan.write_export(path.parent / "plan", "vtu")))
     reader.Update()
@@ -260,7 +261,7 @@ def test_vtu_has_a_cell_a_block_of_rock_where_the_block_lies(plan_folder):
         assert vtk_to_numpy(mesh.GetCellData().GetArray(name)).tolist() == blocks[name].tolist()
 
 
-def test_a_workbook_has_all_tables_of_the_folder(solved, with_workbooks):
+def test_a_workbook_has_all_tables_of_the_folder(solved):
     openpyxl = pytest.importorskip("openpyxl")
     _, folder = solved
     book = openpyxl.load_workbook(pitplan.write_export(folder, "xlsx"))
@@ -368,7 +369,7 @@ def test_nothing_half_written_stays(plan_folder, monkeypatch):
     assert not project.folder.exists()
 
 
-def test_a_failed_run_leaves_the_earlier_one(solved, monkeypatch, with_figures):
+def test_a_failed_run_leaves_the_earlier_one(solved, monkeypatch):
     project, folder = solved
     before = files_in(folder)
     monkeypatch.setattr(drawing, "draw", lambda *_: (_ for _ in ()).throw(PlanError("no pictures")))
@@ -526,7 +527,7 @@ def test_a_run_that_is_ended_says_so_in_one_line_and_leaves_nothing(plan_folder,
     slow.write_text(f"#!/bin/sh\n[ $1 = --version ] && exit 0\ntouch {tmp_path}/began\nexec sleep 60\n")
     slow.chmod(0o755)
     path = plan_folder(rows(4, 4, 3, **ORE))
-    words = [str(ROOT / "tools" / "pitplan"), "shells", str(path), "--quiet"]
+    words = [str(ROOT / "tools" / "pitplan"), "shells", str(path), "--quiet", "--no-figures"]
     # A job that a shell has put behind ignores SIGINT, and so would what it starts.
     heeding = {"preexec_fn": lambda: signal.signal(signal.SIGINT, signal.SIG_DFL)}
     ran = subprocess.Popen(
@@ -558,7 +559,7 @@ import matplotlib; matplotlib.use("svg")
 import matplotlib.pyplot as plt
 import pitplan
 project = pitplan.load({str(solved[0].path)!r})
-pitplan.write_shells(project, project.folder, writing=pitplan.Writing(verifies=False))
+pitplan.write_shells(project, project.folder, writing=pitplan.Writing(verifies=False, workbook=False))
 assert matplotlib.get_backend() == "svg" and plt.get_fignums() == [], (matplotlib.get_backend(), plt.get_fignums())
 """
     subprocess.run([sys.executable, "-c", text], check=True, env={**os.environ, "PYTHONPATH": str(ROOT / "python")})

@@ -12,6 +12,7 @@ import pytest
 from conftest import rows
 from helpers.constraints import FIXED_SECTION, ores_and_fixed, with_section
 from helpers.shells import BOX, CLOSED, SMALL, best_by_trying, grades, project_of
+from helpers.writings import PLAIN, REPORTED
 from hypothesis import given, strategies as st
 
 import pitplan
@@ -236,7 +237,7 @@ def test_a_pit_that_keeps_to_fixed_blocks(plan_folder, capsys):
 
 def test_a_pit_with_forced_blocks(plan_folder):
     project = load(plan_folder(ore_below_waste(), with_section('[constraints]\nmust_mine = "must"\n')))
-    table = pitplan.write_pit(project, 1.0)
+    table = pitplan.write_pit(project, 1.0, writing=PLAIN)
     assert table["blocks"].tolist() == [6, 4]
     assert read_record(project.folder / "pit")["constraints"] == {"must_mine": 1, "excluded": 0}
     # the block at the floor and the one above it, at 2 a tonne and 100 t a block
@@ -285,7 +286,7 @@ def test_shells_with_fixed_blocks_are_the_best_of_all_closed_sets_that_keep_to_t
 
 def test_shells_keep_to_fixed_blocks_and_are_compared_with_the_pit_of_the_program(plan_folder, capsys):
     path = plan_folder(ores_and_fixed(), with_section(FIXED_SECTION))
-    assert main(["shells", str(path), "--quiet"]) == 0
+    assert main(["shells", str(path), "--quiet", "--no-figures"]) == 0
     blocks = pd.read_csv(path.parent / "plan" / "tables/blocks.csv", dtype={"planner_id": str})
     assert (blocks.loc[blocks["must"] == 1, "revenue_factor"] == 0.5).all()
     assert (blocks.loc[blocks["never"] == 1, "revenue_factor"] == 0).all()
@@ -297,7 +298,7 @@ def test_a_pit_of_the_least_factor_of_all_is_compared_too(plan_folder):
     """At a thousandth of eight millions the ore of 6 % yields 24,000, and that of 0.5 % 2000: both pay for processing and four blocks."""
     text = with_section(FIXED_SECTION).replace("price = 8000", "price = 8_000_000")
     project = load(plan_folder(ores_and_fixed(), text))
-    table = pitplan.write_pit(project, 1)
+    table = pitplan.write_pit(project, 1, writing=PLAIN)
     # Four blocks each; and the one block more that must be dug, at the floor of the last column.
     assert table["blocks"].tolist() == [9, 8]
 
@@ -307,21 +308,21 @@ def test_a_shell_that_is_not_the_pit_of_the_solver_is_refused(plan_folder, monke
     path = plan_folder(ores_and_fixed(), with_section(FIXED_SECTION))
     monkeypatch.setattr(problem, "joined", lambda rest, settled, values: rest)
     with pytest.raises(PlanError, match="is not the solver's pit with the fixed blocks: 3 nodes differ"):
-        pitplan.write_shells(load(path), path.parent / "plan")
+        pitplan.write_shells(load(path), path.parent / "plan", writing=REPORTED)
     assert not (path.parent / "plan" / "report.html").exists()
 
 
 def test_the_best_case_of_a_pit_digs_its_inner_shells_first(plan_folder):
     project = load(plan_folder(ores_and_fixed(), with_section(FIXED_SECTION)))
-    pits = pitplan.write_pit(project, 1.5)
-    shells = pitplan.write_shells(project, project.folder)
+    pits = pitplan.write_pit(project, 1.5, writing=PLAIN)
+    shells = pitplan.write_shells(project, project.folder, writing=PLAIN)
     kept, last = pits.iloc[0], shells.set_index("revenue_factor").loc[1.5]
     assert kept["npv_best"] == last["npv_best"] > kept["npv_worst"] == last["npv_worst"]
 
 
 def test_an_audit_of_a_shell_with_fixed_blocks_is_confirmed_from_any_folder(plan_folder, tmp_path):
     project = load(plan_folder(ores_and_fixed(), with_section(FIXED_SECTION)))
-    pitplan.write_shells(project, project.folder)
+    pitplan.write_shells(project, project.folder, writing=PLAIN)
     target = pitplan.audit(project.folder, 1.0, silent)
     (tmp_path / "bin").mkdir()
     (tmp_path / "bin" / "program").symlink_to(program.program().resolve())
@@ -342,7 +343,7 @@ def test_scenarios_keep_to_fixed_blocks(plan_folder, tmp_path):
     project = load(plan_folder(table, text))
     folder = project.folder / "scenarios"
     told = io.StringIO()
-    pitplan.write_scenarios(project, folder, pitplan.Request(workers=1), pitplan.Writing(Progress(told)))
+    pitplan.write_scenarios(project, folder, pitplan.Request(workers=0), pitplan.Writing(Progress(told), figures=False))
     assert "solving 2 scenarios .. 1 2 " in told.getvalue()
     likely = pd.read_csv(folder / "tables/probability.csv")
     assert (likely.loc[likely["must"] == 1, "probability_0.50"] == 1).all()

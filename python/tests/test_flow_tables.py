@@ -7,7 +7,8 @@ import pandas as pd
 import pytest
 from conftest import PROJECT, rows
 from helpers.pushbacks import UPRIGHT, with_pushbacks
-from helpers.verified import UNVERIFIED, differing
+from helpers.verified import differing
+from helpers.writings import PLAIN, UNVERIFIED
 
 import pitplan
 from pitplan import PlanError, load, verify
@@ -30,7 +31,7 @@ def written_to(place, words, text=TEXT, **more):
 @pytest.fixture(scope="module")
 def written(tmp_path_factory):
     place = tmp_path_factory.mktemp("flows")
-    pitplan.write_schedule(written_to(place, STOCKED))
+    pitplan.write_schedule(written_to(place, STOCKED), writing=PLAIN)
     return place
 
 
@@ -81,7 +82,7 @@ accepts = { cu = { min = 0.9 } }
 @pytest.fixture(scope="module")
 def piled(tmp_path_factory):
     place = tmp_path_factory.mktemp("piles")
-    pitplan.write_schedule(written_to(place, PILES))
+    pitplan.write_schedule(written_to(place, PILES), writing=PLAIN)
     return place
 
 
@@ -109,7 +110,7 @@ def test_two_stockpiles_keep_what_they_accept_and_hold(piled):
 def test_the_integer_programme_has_them_too(tmp_path):
     """It is never worse than the schedule by linear programme, within its gap, nor better than the upper bound."""
     words = PILES.replace("bins = 2\n", "bins = 2\nmilp = { gap = 0.0, seconds = 60 }\n")
-    found = pitplan.write_schedule(written_to(tmp_path, words)).set_index("method")
+    found = pitplan.write_schedule(written_to(tmp_path, words), writing=PLAIN).set_index("method")
     npv, most = found["npv"], found.loc["milp", "upper_bound"]
     assert npv["lp"] - 1e-3 <= npv["milp"] <= most + 1e-3
     folder = tmp_path / "plan" / "schedule"
@@ -143,7 +144,7 @@ def test_head_grades_and_metal_by_hand(plan_folder):
     from helpers.pushbacks import PUSHBACKS, pillars
 
     path = plan_folder(pillars(), PUSHBACKS)
-    pitplan.write_schedule(path)
+    pitplan.write_schedule(path, writing=PLAIN)
     feed = pd.read_csv(path.parent / "plan" / "schedule" / "tables/feed.csv").query("method == 'lp'")
     assert feed["head_grade_copper"].tolist() == [1, 0.7, 0.5] and feed["contained_copper"].tolist() == [1, 0.7, 0.5]
     assert feed["recovered_copper"].tolist() == [0.5, 0.35, 0.25] and feed["process"].tolist() == ["mill"] * 3
@@ -355,7 +356,7 @@ reclaim_cost = 1
 
 def test_a_minimum_that_nothing_meets_is_an_error(plan_folder, capsys):
     path = hill(plan_folder, "[schedule]\nyears = 30\nminimum = { feed = 99 }\n")
-    assert main(["schedule", str(path), "--quiet"]) == 1
+    assert main(["schedule", str(path), "--quiet", "--no-figures"]) == 1
     said = capsys.readouterr().err
     assert "Smallest shortfall: the minimum of feed_tonnes in year 1 by " in said and "infeasible: " in said
     assert "project.toml" in said
@@ -398,5 +399,5 @@ def test_a_minimum_that_nothing_meets_is_an_error(plan_folder, capsys):
 )
 def test_what_is_refused(plan_folder, words, processes, said):
     with pytest.raises(PlanError) as error:
-        pitplan.write_schedule(hill(plan_folder, words, processes))
+        pitplan.write_schedule(hill(plan_folder, words, processes), writing=PLAIN)
     assert said in str(error.value)

@@ -55,7 +55,7 @@ def test_csv_files_keep_the_text(plan_folder, capsys):
     table = rows(3, 3, 2, cu=lambda i, j, k: 6 if (i, j, k) == (1, 1, 0) else 0).astype(object)
     table.loc[[4, 13], "rock"] = ["=1+2", "@a"]
     path = plan_folder(table)
-    assert main(["shells", str(path), "--no-verify"]) == 0
+    assert main(["shells", str(path), "--no-verify", "--no-figures"]) == 0
     said = capsys.readouterr()
     assert (said.out + said.err).count("begins with =, +, - or @") == 1
     folder = pitplan.load(path).folder
@@ -67,7 +67,7 @@ def test_csv_files_keep_the_text(plan_folder, capsys):
         assert "=1+2" in {row["rock"] for row in csv.DictReader(written)}
 
 
-def test_a_workbook_has_them_as_texts(tmp_path, with_workbooks):
+def test_a_workbook_has_them_as_texts(tmp_path):
     openpyxl = pytest.importorskip("openpyxl")
     texts = [*BEGIN, "#N/A", "#REF!", "plain"]
     xlsx.write(tmp_path / "book.xlsx", {"texts": pd.DataFrame({"=head": texts, "npv": range(len(texts))})})

@@ -8,6 +8,7 @@ import pytest
 from conftest import PROJECT, rows
 from helpers import worked_cash_flow
 from helpers.verified import differing
+from helpers.writings import PLAIN
 from matplotlib.figure import Figure
 
 import pitplan
@@ -16,7 +17,6 @@ from pitplan.figures import pits
 from pitplan.pits.grade_tonnage import nice
 
 GRADES = {(3, 4, 1): 6, (7, 4, 1): 2, (5, 2, 2): 0.9, (3, 3, 2): 1.5, (8, 4, 2): 1.8, (6, 4, 1): 0.7, (4, 4, 1): 3}
-PLAIN = pitplan.Writing(figures=False)
 
 
 def wrong(folder):

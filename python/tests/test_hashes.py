@@ -8,6 +8,7 @@ import shutil
 import pandas as pd
 import pytest
 from conftest import PROJECT, rows
+from helpers.writings import UNVERIFIED, UNVERIFIED_REPORT
 
 import pitplan
 from pitplan import PlanError
@@ -38,8 +39,8 @@ def two_grounds(plan_folder, tmp_path):
 
 def test_two_inputs_of_one_name_have_a_hash_each(two_grounds):
     place = two_grounds.parent
-    pitplan.write_shells(two_grounds, writing=pitplan.Writing(verifies=False))
-    pitplan.write_sensitivity(two_grounds, writing=pitplan.Writing(verifies=False))
+    pitplan.write_shells(two_grounds, writing=UNVERIFIED)
+    pitplan.write_sensitivity(two_grounds, writing=UNVERIFIED)
     names = ("project.toml", "blocks.csv", "a/ground.csv", "b/ground.csv")
     for record in (place / "plan" / "plan.json", place / "plan" / "sensitivity" / "sensitivity.json"):
         assert json.loads(record.read_text())["inputs"] == {name: sha256(place / name) for name in names}
@@ -51,7 +52,7 @@ def test_an_input_elsewhere_is_named_by_its_way_from_the_project(plan_folder, tm
     (tmp_path / "table").mkdir()
     shutil.move(tmp_path / "blocks.csv", tmp_path / "table" / "blocks.csv")
     project = shutil.move(path, tmp_path / "mine" / "project.toml")
-    pitplan.write_shells(project, tmp_path / "elsewhere", writing=pitplan.Writing(verifies=False))
+    pitplan.write_shells(project, tmp_path / "elsewhere", writing=UNVERIFIED)
     inputs = json.loads((tmp_path / "elsewhere" / "plan.json").read_text())["inputs"]
     assert inputs == {"project.toml": sha256(project), "../table/blocks.csv": sha256(tmp_path / "table" / "blocks.csv")}
     assert pitplan.write_report(tmp_path / "elsewhere").is_file()
@@ -67,7 +68,7 @@ def digests(page, heading):
 def test_the_report_has_the_hashes_of_inputs_and_outputs_apart(two_grounds):
     """The table and an output are both called blocks.csv."""
     place = two_grounds.parent
-    pitplan.write_shells(two_grounds, writing=pitplan.Writing(verifies=False))
+    pitplan.write_shells(two_grounds, writing=UNVERIFIED_REPORT)
     page = (place / "plan" / "report.html").read_text()
     names = ("project.toml", "blocks.csv", "a/ground.csv", "b/ground.csv")
     assert digests(page, "Input files and their SHA-256") == {name: sha256(place / name) for name in names}
@@ -80,7 +81,7 @@ def test_the_report_has_the_hashes_of_inputs_and_outputs_apart(two_grounds):
 
 def test_an_audit_has_the_hashes_of_inputs_and_outputs_apart(two_grounds):
     place = two_grounds.parent
-    pitplan.write_shells(two_grounds, writing=pitplan.Writing(verifies=False))
+    pitplan.write_shells(two_grounds, writing=UNVERIFIED)
     record = json.loads((pitplan.audit(place / "plan", 1.0) / "audit.json").read_text())
     assert record["inputs"]["blocks.csv"] == sha256(place / "blocks.csv")
     assert record["plan"]["tables/blocks.csv"] == sha256(place / "plan" / "tables/blocks.csv")
@@ -89,15 +90,15 @@ def test_an_audit_has_the_hashes_of_inputs_and_outputs_apart(two_grounds):
 @pytest.mark.parametrize("name", ["a/ground.csv", "b/ground.csv", "blocks.csv", "project.toml"])
 def test_a_sensitivity_of_another_input_is_no_part_of_a_report(two_grounds, name):
     place = two_grounds.parent
-    pitplan.write_sensitivity(two_grounds, writing=pitplan.Writing(verifies=False))
-    pitplan.write_shells(two_grounds, writing=pitplan.Writing(verifies=False))
+    pitplan.write_sensitivity(two_grounds, writing=UNVERIFIED_REPORT)
+    pitplan.write_shells(two_grounds, writing=UNVERIFIED_REPORT)
     assert "<h2>Sensitivity</h2>" in (place / "plan" / "report.html").read_text()
     other = place / name
     if name.endswith("ground.csv"):
         ground(other, 26 if name[0] == "b" else 29)
     else:
         other.write_text(other.read_text().replace("mining_cost = 2", "mining_cost = 3") + "\n")
-    pitplan.write_shells(two_grounds, writing=pitplan.Writing(verifies=False))
+    pitplan.write_shells(two_grounds, writing=UNVERIFIED_REPORT)
     page = (place / "plan" / "report.html").read_text()
     said = f"is a sensitivity of other inputs ({name})"
     assert f"{said}, and is left out here." in page and "<h2>Sensitivity</h2>" not in page
@@ -107,7 +108,7 @@ def test_a_sensitivity_of_another_input_is_no_part_of_a_report(two_grounds, name
 
 @pytest.mark.parametrize("name", ["a/ground.csv", "b/ground.csv"])
 def test_a_report_of_a_ground_that_has_changed_is_refused(two_grounds, name):
-    pitplan.write_shells(two_grounds, writing=pitplan.Writing(verifies=False))
+    pitplan.write_shells(two_grounds, writing=UNVERIFIED)
     ground(two_grounds.parent / name, 25)
     with pytest.raises(PlanError, match=f"{name}: has changed since .* was written: run pitplan again"):
         pitplan.write_report(two_grounds.parent / "plan")

@@ -8,7 +8,7 @@ import pandas as pd
 import pytest
 from conftest import PROJECT, rows
 from helpers.turned import turned
-from helpers.verified import UNVERIFIED
+from helpers.writings import PLAIN, UNVERIFIED
 
 import pitplan
 import planaudit
@@ -65,7 +65,7 @@ def test_a_road_is_rounded_once_and_verified(plan_folder):
     """28.284271 m in plan and a ramp of 40 / 0.12 = 333.333333 m are 361.617604 m: 361.618, where each part alone would be cut down."""
     section = "[haulage]\npit_exit = [25, 25, 40]\nramp_gradient = 0.12\ncost = 0.12\n"
     path = hauled(plan_folder, rows(6, 4, 4, cu=lambda i, j, k: 4.0), section)
-    pitplan.write_shells(path)
+    pitplan.write_shells(path, writing=PLAIN)
     assert pitplan.Plan.from_project(path).blocks.set_index("name").loc["b0-0-0", "haul_distance"] == 361.618
 
 
@@ -125,7 +125,7 @@ def test_the_exit_of_a_turned_model_is_the_planners(plan_folder):
         section = SECTION.replace("[15, 45, 30]", f"[{exit_at['x']:.6f}, {exit_at['y']:.6f}, 30]")
         table = turned(ore_hill(), degrees, 6)
         path = hauled(plan_folder, table, section, ("size = [10, 10, 10]", "tolerance = 0.001"))
-        pitplan.write_shells(path)
+        pitplan.write_shells(path, writing=PLAIN)
         found.append(pd.read_csv(path.parent / "plan" / "tables/blocks.csv").set_index("name"))
     assert found[0]["revenue_factor"].nunique() > 2
     assert np.abs(found[1]["haul_distance"] - found[0]["haul_distance"]).max() <= 0.0011
@@ -136,7 +136,7 @@ def test_sensitivity_to_haulage(plan_folder):
     """A tenth more a kilometre is a tenth more of all haulage, of what is dug and what is milled in the kept pit."""
     section = SECTION + '[sensitivity]\nchanges = [0.1]\nparameters = ["haulage"]\n'
     path = hauled(plan_folder, ore_hill(), section, ("discount_rate = 0.1", "discount_rate = 0.1\nselected = 1.0"))
-    table = pitplan.write_sensitivity(path, path.parent / "hang").set_index("parameter")
+    table = pitplan.write_sensitivity(path, path.parent / "hang", writing=PLAIN).set_index("parameter")
     plan = pitplan.Plan.from_project(path)
     entry = plan.shells().solution.entry[: plan.grid.count]
     mined = (entry > 0) & (entry <= 1.0)
@@ -152,7 +152,10 @@ def test_scenarios_haul_too(plan_folder, tmp_path):
     table[["x", "y", "z", "cu"]].to_csv(tmp_path / "realisations" / "a.csv", index=False)
     section = SECTION.replace("[15, 45, 30]", "[600035, 6500031, 30]")
     path = hauled(plan_folder, table, section + '[scenarios]\nrealisations = "realisations"\n')
-    assert main(["scenarios", str(path), "--out", str(tmp_path / "many"), "--workers", "1", "--quiet"]) == 0
+    assert (
+        main(["scenarios", str(path), "--out", str(tmp_path / "many"), "--workers", "1", "--quiet", "--no-figures"])
+        == 0
+    )
     likely, plan = pd.read_csv(tmp_path / "many" / "tables/probability.csv"), pitplan.Plan.from_project(path)
     assert likely[["x", "y", "z"]].to_numpy().tolist() == plan.blocks[["x", "y", "z"]].to_numpy().tolist()
     told = pd.read_csv(tmp_path / "many" / "tables/scenarios.csv").set_index("revenue_factor")["undiscounted_cash_flow"]

@@ -7,7 +7,7 @@ import shutil
 import pandas as pd
 import pytest
 from conftest import PROJECT, rows
-from helpers.verified import UNVERIFIED
+from helpers.writings import PLAIN, UNVERIFIED, WITH_WORKBOOK
 from matplotlib.figure import Figure
 
 import pitplan
@@ -69,7 +69,7 @@ def written(tmp_path_factory):
     place = tmp_path_factory.mktemp("hill")
     table().to_csv(place / "blocks.csv", index=False)
     (place / "project.toml").write_text(TEXT + HILL)
-    pitplan.write_sensitivity(place / "project.toml", writing=pitplan.Writing(figures=False))
+    pitplan.write_sensitivity(place / "project.toml", writing=PLAIN)
     return place / "plan" / "sensitivity"
 
 
@@ -153,7 +153,7 @@ def test_a_changed_number_is_found(written, tmp_path, name, by):
 def test_a_key_that_is_set_otherwise_is_found(plan_folder, monkeypatch):
     monkeypatch.setattr(sensitivity, "assigned", lambda data, path, value, where: data)
     with pytest.raises(PlanError, match="verification failed"):
-        pitplan.write_sensitivity(plan_folder(table(), TEXT + HILL))
+        pitplan.write_sensitivity(plan_folder(table(), TEXT + HILL), writing=PLAIN)
 
 
 def test_a_run_without_a_hill_removes_that_of_an_earlier_run(written, tmp_path):
@@ -163,10 +163,10 @@ def test_a_run_without_a_hill_removes_that_of_an_earlier_run(written, tmp_path):
     assert not [*(place / "plan/sensitivity").glob("tables/hill*")]
 
 
-def test_the_workbook_has_the_grid(plan_folder, with_workbooks):
+def test_the_workbook_has_the_grid(plan_folder):
     openpyxl = pytest.importorskip("openpyxl")
     path = plan_folder(table(), TEXT + HILL)
-    pitplan.write_sensitivity(path, writing=UNVERIFIED)
+    pitplan.write_sensitivity(path, writing=WITH_WORKBOOK)
     folder = path.parent / "plan" / "sensitivity"
     book = openpyxl.load_workbook(folder / "tables/hill_of_value.xlsx")
     assert book.sheetnames == ["npv", "hill_of_value"]

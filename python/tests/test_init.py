@@ -131,7 +131,7 @@ def test_the_project_runs_as_it_stands(tmp_path, capsys):
         "copper: Cu pct, mean 0.0625, maximum 2 %, priced per tonne, unit from the column name",
         "unused columns: Roche é",
     ]
-    assert main(["shells", str(tmp_path / "project.toml"), "--quiet"]) == 0
+    assert main(["shells", str(tmp_path / "project.toml"), "--quiet", "--no-figures"]) == 0
     shells = pd.read_csv(tmp_path / "plan" / "tables/shells.csv")
     assert shells["blocks"].iloc[-1] > 0
 

@@ -12,7 +12,7 @@ from helpers.benches import THREE, benches_of, demand_minable, problem_of, rando
 from helpers.programmes import integer_optimum, limits, small
 from helpers.pushbacks import PUSHBACKS, pillars, with_pushbacks
 from helpers.random_tests import examples
-from helpers.verified import UNVERIFIED
+from helpers.writings import PLAIN, UNVERIFIED
 from hypothesis import given, strategies as st
 from scipy.sparse import csr_matrix
 
@@ -110,7 +110,7 @@ def test_it_is_written_as_a_way_of_its_own(plan_folder):
 def test_where_none_is_found_in_time_the_others_stand(plan_folder, monkeypatch):
     monkeypatch.setattr(scheduler, "solve", lambda programme, effort, patience: highs.Optimum(None, np.inf))
     project = load(plan_folder(pillars(), PUSHBACKS + "[schedule]\nmilp = { seconds = 1 }\n"))
-    assert pitplan.write_schedule(project)["method"].tolist() == ["rule", "lp"]
+    assert pitplan.write_schedule(project, writing=PLAIN)["method"].tolist() == ["rule", "lp"]
     assert "WARNING: milp found no schedule within its time limit" in read_record(project.folder / "schedule")["notes"]
     assert json.loads((project.folder / "schedule" / "schedule.json").read_text())["milp_upper_bound"] is None
 

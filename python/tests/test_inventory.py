@@ -7,10 +7,10 @@ import pandas as pd
 import pytest
 from conftest import PROJECT, rows
 from helpers import office, worked_cash_flow
+from helpers.writings import PLAIN
 
 import pitplan
 from pitplan import verify
-from pitplan.export import xlsx
 
 GRADES = {(3, 4, 1): 6, (7, 4, 1): 2, (5, 2, 2): 0.9, (3, 3, 2): 1.5, (8, 4, 2): 1.8, (6, 4, 1): 0.7, (4, 4, 1): 3}
 CLASSES = {(3, 4): "measured", (7, 4): "inferred", (3, 3): "inferred", (8, 4): "", (6, 4): "measured"}
@@ -34,7 +34,7 @@ def wrong(folder):
 
 
 @pytest.fixture(scope="module")
-def written(tmp_path_factory, without_workbooks):
+def written(tmp_path_factory):
     """The folder of the hill's schedule, with its workbook."""
     place, text = tmp_path_factory.mktemp("inventory"), PROJECT + SCHEDULE
     for old, new in CHANGES:
@@ -42,9 +42,7 @@ def written(tmp_path_factory, without_workbooks):
         text = text.replace(old, new)
     rows(11, 9, 4, **HILL).to_csv(place / "blocks.csv", index=False)
     (place / "project.toml").write_text(text)
-    with pytest.MonkeyPatch.context() as patch:
-        patch.setattr(xlsx, "write", without_workbooks)
-        pitplan.write_schedule(place / "project.toml", writing=pitplan.Writing(figures=False))
+    pitplan.write_schedule(place / "project.toml", writing=pitplan.Writing(figures=False))
     return place / "plan" / "schedule"
 
 
@@ -61,7 +59,7 @@ def test_the_rows_of_three_pillars_are_as_worked_out_by_hand(tmp_path):
     """The sulphide of the first pillar waits on the stockpile for a year; see the worked cash flow."""
     worked_cash_flow.table().to_csv(tmp_path / "blocks.csv", index=False)
     (tmp_path / "project.toml").write_text(worked_cash_flow.TEXT)
-    pitplan.write_schedule(tmp_path / "project.toml", writing=pitplan.Writing(figures=False))
+    pitplan.write_schedule(tmp_path / "project.toml", writing=PLAIN)
     folder = tmp_path / "plan" / "schedule"
     found = table(folder).query("method == 'milp' and category != 'waste'").drop(columns=["method", "head_grade_gold"])
     assert [tuple(row) for row in found.to_numpy().tolist()] == [

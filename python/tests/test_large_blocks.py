@@ -3,7 +3,8 @@
 import pandas as pd
 import pytest
 from helpers.six_blocks import RICH, six_blocks
-from helpers.verified import UNVERIFIED, wrong
+from helpers.verified import wrong
+from helpers.writings import UNVERIFIED
 
 import pitplan
 

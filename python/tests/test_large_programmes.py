@@ -5,6 +5,7 @@ import pytest
 from conftest import rows
 from helpers.benches import benches_of, problem_of
 from helpers.pushbacks import PUSHBACKS, wrong
+from helpers.writings import PLAIN
 from scipy.sparse import csr_matrix
 
 import pitplan
@@ -93,9 +94,9 @@ def test_the_schedule_is_that_of_the_whole_programme(plan_folder, monkeypatch):
         "mining_capacity = 200", "mining_capacity = 6000"
     )
     project = load(plan_folder(table, text + MORE))
-    whole = pitplan.write_schedule(project).set_index("method").loc["lp"]
+    whole = pitplan.write_schedule(project, writing=PLAIN).set_index("method").loc["lp"]
     monkeypatch.setattr(programme, "MANY", 0)
-    large = pitplan.write_schedule(project).set_index("method").loc["lp"]
+    large = pitplan.write_schedule(project, writing=PLAIN).set_index("method").loc["lp"]
     assert wrong(project.folder / "schedule") == {}
     assert large["npv"] <= min(large["upper_bound"], whole["upper_bound"]) + 1
     assert large["npv"] >= 0.99 * whole["npv"]

@@ -4,7 +4,8 @@ import pandas as pd
 import pytest
 from conftest import PROJECT, rows
 from helpers.processes import deposit
-from helpers.verified import UNVERIFIED, differing, wrong
+from helpers.verified import differing, wrong
+from helpers.writings import UNVERIFIED
 
 import pitplan
 

@@ -128,6 +128,22 @@ def test_solved_in_a_process_of_its_own_the_same(highs_apart):
     assert optimum_of(problem_of(benches, limits), 3).value == pytest.approx(800 / 1.1 + 500 / 1.21)
 
 
+def test_a_process_is_kept_for_the_next_programme(highs_apart, monkeypatch):
+    """It ends after one with many unknowns."""
+    popen, begun = highs_process.subprocess.Popen, []
+    monkeypatch.setattr(
+        highs_process.subprocess, "Popen", lambda *given, **more: begun.append(popen(*given, **more)) or begun[-1]
+    )
+    benches, limits = benches_of(*THREE), Limits({"feed_tonnes": 100, "total_tonnes": 200})
+    programme = FlowProgramme(without_flows(problem_of(benches, limits), 3)).programme
+    first, second = (highs_process.solve(programme).bound for _ in range(2))
+    assert first == second and len(begun) == 1 and begun[0].poll() is None
+    monkeypatch.setattr(highs_process, "MANY", 0)
+    assert highs_process.solve(programme).bound == first and len(begun) == 1 and begun[0].wait(5) != 0
+    highs_process.solve(programme)
+    assert len(begun) == 2
+
+
 def test_an_interruption_ends_a_process_of_its_own(highs_apart, monkeypatch):
     """The process would take ten minutes."""
     popen, begun = highs_process.subprocess.Popen, []

@@ -8,7 +8,7 @@ from pitplan.studies import dask_pool
 
 
 @pytest.mark.filterwarnings("ignore:make_current is deprecated:DeprecationWarning")
-def test_dask_listens_on_this_machine_alone(dask_apart):
+def test_dask_listens_on_this_machine_alone():
     distributed = pytest.importorskip("distributed", reason="needs the Debian package python3-distributed")
     psutil = pytest.importorskip("psutil")
     own = psutil.Process()

@@ -8,6 +8,7 @@ from pathlib import Path
 import numpy as np
 import pytest
 from conftest import PROJECT, rows
+from helpers.writings import PLAIN
 from matplotlib.figure import Figure
 
 import pitplan
@@ -233,7 +234,7 @@ def test_grades_are_those_of_the_metal_asked_for(project):
 
 
 @pytest.mark.slow
-def test_figures_are_written_as_pdf_and_svg_too(project, with_figures, monkeypatch):
+def test_figures_are_written_as_pdf_and_svg_too(project, monkeypatch):
     """Figures are laid out and not rendered, which takes most of the time."""
     monkeypatch.setattr(Figure, "savefig", lambda figure, path, **options: Path(path).write_bytes(b"blank"))
     pitplan.write_shells(project('formats = ["pdf", "svg"]'), writing=pitplan.Writing(verifies=False))
@@ -275,7 +276,8 @@ def test_pushbacks_are_drawn_where_the_project_asks_for(project, with_blank_figu
         for name in ("write_plans", "write_sections"):
             patch.setattr(pushbacks, name, lambda scene, path: (shown.append(scene), path.touch()))
         pitplan.write_pushbacks(
-            project("levels = [5]\nnorth = 49\n[pushbacks]\ncount = 1"), writing=pitplan.Writing(verifies=False)
+            project("levels = [5]\nnorth = 49\n[pushbacks]\ncount = 1"),
+            writing=pitplan.Writing(verifies=False, processes=1),
         )
     assert [scene.levels for scene in shown] == [[2]] * 2 and shown[0].section_row == 4
 
@@ -308,7 +310,7 @@ def test_what_is_refused(project, words, said):
 )
 def test_places_beyond_the_model_are_refused(project, words, said):
     with pytest.raises(PlanError, match=said):
-        pitplan.write_shells(project(words))
+        pitplan.write_shells(project(words), writing=PLAIN)
 
 
 def test_the_models_ends_are_within_it(project):

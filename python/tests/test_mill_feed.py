@@ -5,6 +5,7 @@ from decimal import Decimal
 
 import pytest
 from conftest import PROJECT, rows
+from helpers.writings import PLAIN, UNVERIFIED
 
 import pitplan
 from pitplan import PlanError, verify, write_pushbacks, write_schedule
@@ -102,7 +103,7 @@ def test_a_shell_by_hand(plan_folder):
     path = plan_folder(
         one_block(), PROJECT, ("mining_cost = 2\n", TEXT), ("processing_capacity = 100", "processing_capacity = 33")
     )
-    table = pitplan.write_shells(path).set_index("revenue_factor").loc[1.0]
+    table = pitplan.write_shells(path, writing=PLAIN).set_index("revenue_factor").loc[1.0]
     expected = {
         "tonnes": 200,
         "feed_tonnes": 99,
@@ -121,7 +122,7 @@ def test_waste_is_never_negative(plan_folder):
     path = plan_folder(
         rows(2, 2, 1, cu=lambda i, j, k: 3), PROJECT, ("mining_cost = 2\n", "mining_cost = 2\ndilution = 0.1\n")
     )
-    table = pitplan.write_shells(path).set_index("revenue_factor").loc[1.0]
+    table = pitplan.write_shells(path, writing=PLAIN).set_index("revenue_factor").loc[1.0]
     assert (table["feed_tonnes"], table["in_situ_ore_tonnes"], table["waste_tonnes"], table["strip_ratio"]) == (
         pytest.approx(440),
         400,
@@ -144,8 +145,8 @@ def deposit():
 def test_pushbacks_and_schedules_count_what_comes_to_the_mill(plan_folder):
     """Three blocks of ore in all, and both looks agree."""
     path = plan_folder(deposit(), PROJECT, *SCHEDULED)
-    assert write_pushbacks(path)["feed_tonnes"].sum() == pytest.approx(3 * 99)
-    assert write_schedule(path).set_index("method")["feed_tonnes"]["rule"] == pytest.approx(3 * 99)
+    assert write_pushbacks(path, writing=PLAIN)["feed_tonnes"].sum() == pytest.approx(3 * 99)
+    assert write_schedule(path, writing=PLAIN).set_index("method")["feed_tonnes"]["rule"] == pytest.approx(3 * 99)
 
 
 def passed_over(**changed):
@@ -171,7 +172,7 @@ def passed_over(**changed):
 def test_what_is_passed_over_is_found(plan_folder, monkeypatch, changed):
     path = plan_folder(one_block(), PROJECT, ("mining_cost = 2\n", TEXT))
     monkeypatch.setattr(block_values, "values_of", passed_over(**changed))
-    pitplan.write_shells(path, writing=pitplan.Writing(verifies=False))
+    pitplan.write_shells(path, writing=UNVERIFIED)
     wrong = {rule.name for rule in verify(path.parent / "plan") if rule.differences}
     assert "money" in wrong and (("shells" in wrong) == ("royalty" not in next(iter(changed))))
 
@@ -185,5 +186,5 @@ def test_scenarios_count_what_comes_to_the_mill_by_region(plan_folder):
     )
     text = "mining_cost = 2\ndilution = { domain = { 1 = 0, 2 = 0.2 } }\n"
     path = plan_folder(table, PROJECT + '[scenarios]\ncolumns = { copper = "cu_*" }\n', ("mining_cost = 2\n", text))
-    found = pitplan.write_scenarios(path, request=pitplan.Request(workers=1)).table
+    found = pitplan.write_scenarios(path, request=pitplan.Request(workers=0), writing=PLAIN).table
     assert found[found["revenue_factor"] == 1.0]["feed_tonnes"].tolist() == [100, 240]

@@ -18,7 +18,8 @@ from helpers.flows import (
 from helpers.periods import column, entries, periods, solved
 from helpers.pushbacks import PUSHBACKS, pillars
 from helpers.random_tests import examples
-from helpers.verified import UNVERIFIED, schedule_folder, wrong
+from helpers.verified import schedule_folder, wrong
+from helpers.writings import UNVERIFIED
 from hypothesis import given, strategies as st
 
 import pitplan

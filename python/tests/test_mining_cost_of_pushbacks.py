@@ -5,6 +5,7 @@ import pandas as pd
 import pytest
 from conftest import PROJECT
 from helpers.pushbacks import RICH, UPRIGHT, floor, pillars, square, with_pushbacks
+from helpers.writings import PLAIN, REPORTED
 
 import pitplan
 from pitplan import PlanError, ResultWarning, verify
@@ -24,7 +25,7 @@ def present(*cash):
 def pushed(plan_folder):
     """The folder of the three pushbacks."""
     path = plan_folder(pillars(), with_pushbacks(ADDED, AT_ENDS))
-    pitplan.write_pushbacks(path)
+    pitplan.write_pushbacks(path, writing=REPORTED)
     return path.parent / "plan" / "pushbacks"
 
 
@@ -53,7 +54,7 @@ def test_pushbacks_and_years_by_hand(pushed):
 def test_shells_and_costs_of_blocks_are_those_without_it(pushed, plan_folder):
     blocks = pd.read_csv(pushed / "tables/blocks.csv")
     path = plan_folder(pillars(), with_pushbacks("count = 3", AT_ENDS))
-    pitplan.write_pushbacks(path)
+    pitplan.write_pushbacks(path, writing=PLAIN)
     pd.testing.assert_frame_equal(pd.read_csv(path.parent / "plan" / "pushbacks" / "tables/blocks.csv"), blocks)
     assert "mining_cost_added" not in pd.read_csv(path.parent / "plan" / "pushbacks" / "tables/pushbacks.csv")
 
@@ -70,7 +71,7 @@ def test_a_schedule_pays_it(plan_folder, bins):
     """The third pushback costs 4 more a tonne, 200 more than it is worth: the rule digs it, and the linear programme leaves it."""
     text = with_pushbacks("count = 3\nmining_cost_added = [0, 1.5, 4]", AT_ENDS) + f"[schedule]\nyears = 5\n{bins}"
     path = plan_folder(pillars(), text)
-    ways = pitplan.write_schedule(path).set_index("method")
+    ways = pitplan.write_schedule(path, writing=PLAIN).set_index("method")
     folder = path.parent / "plan" / "schedule"
     rows = pd.read_csv(folder / "tables/schedule.csv")
     by_pushback = rows.groupby(["method", "pushback"])["cash_flow"].sum()
@@ -91,7 +92,7 @@ def test_blocks_that_come_in_another_pushback_for_its_width_pay_there(plan_folde
     grades = dict.fromkeys(square(3, 2, 3), RICH) | dict.fromkeys({(5, 3)} | square(10, 2, 2), 0.6)
     words = "revenue_factors = [0.4, 1.5]\nmin_mining_width = 20\nmining_cost_added = [1, 2]"
     path = plan_folder(floor(grades, columns=15), with_pushbacks(words, PROJECT))
-    table = pitplan.write_pushbacks(path)
+    table = pitplan.write_pushbacks(path, writing=PLAIN)
     assert table["tonnes"].tolist() == [3000, 1600] and table["mining_cost_added"].tolist() == [3000, 3200]
     folder = path.parent / "plan" / "pushbacks"
     cash, shells = (pd.read_csv(folder / name) for name in ("tables/years.csv", "tables/shells.csv"))
@@ -127,7 +128,7 @@ def test_blocks_that_come_in_another_pushback_for_its_width_pay_there(plan_folde
 def test_what_is_refused(plan_folder, words, said):
     path = plan_folder(pillars(), with_pushbacks(words))
     with pytest.raises(PlanError, match=said):
-        pitplan.write_pushbacks(path)
+        pitplan.write_pushbacks(path, writing=PLAIN)
     assert not (path.parent / "plan" / "pushbacks" / "tables/pushbacks.csv").exists()
 
 
@@ -136,7 +137,7 @@ def test_blocks_one_by_one_have_no_pushbacks(plan_folder):
     with pytest.warns(
         ResultWarning, match=r"the NPV of this schedule by block leaves out the cost of \[pushbacks\] mining_cost_added"
     ):
-        pitplan.write_block_schedule(path)
+        pitplan.write_block_schedule(path, writing=PLAIN)
 
 
 def wrong(folder):
@@ -169,7 +170,7 @@ def test_costs_that_are_not_paid_are_found(plan_folder, monkeypatch):
     path = plan_folder(pillars(), text)
     monkeypatch.setattr(nested, "cost_added", lambda plan, pushback: np.zeros(plan.grid.count))
     with pytest.raises(PlanError) as error:
-        pitplan.write_schedule(path)
+        pitplan.write_schedule(path, writing=PLAIN)
     assert all(f"{name}: " in str(error.value) for name in ("pushbacks", "years"))
     with pytest.raises(PlanError, match="pushbacks: pushback 2: mining_cost_added 0 for 300"):
-        pitplan.write_pushbacks(path)
+        pitplan.write_pushbacks(path, writing=PLAIN)

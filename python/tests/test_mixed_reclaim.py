@@ -7,7 +7,8 @@ import numpy as np
 import pandas as pd
 import pytest
 from helpers.six_blocks import six_blocks
-from helpers.verified import UNVERIFIED, differing, wrong
+from helpers.verified import differing, wrong
+from helpers.writings import UNVERIFIED
 
 import pitplan
 from pitplan.scheduling.flow.mixed_reclaim import Pile

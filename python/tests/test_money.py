@@ -7,6 +7,7 @@ from types import SimpleNamespace
 import pandas as pd
 import pytest
 from conftest import PROJECT, rows
+from helpers.writings import PLAIN
 
 import pitplan
 from pitplan import PlanError
@@ -131,7 +132,7 @@ def test_the_top_of_the_model_is_that_of_its_highest_row(plan_folder, changes, t
     height = plan.grid.size[2]
     below = (toe - (bottom["z"] - height / 2)) / height
     assert bottom["mining_cost"] == pytest.approx(bottom["tonnes"] * (2 + 0.25 * below))
-    pitplan.write_shells(path)
+    pitplan.write_shells(path, writing=PLAIN)
 
 
 def test_filled_blocks_do_not_raise_the_top(plan_folder):
@@ -167,7 +168,7 @@ def test_cost_by_elevation_at_half_a_millionth(plan_folder):
         ("size = [10, 10, 10]", "size = [10, 10, 15]"),
         ("processing_capacity = 100", "processing_capacity = 100_000"),
     ]
-    pitplan.write_shells(plan_folder(table, PROJECT, ("mining_cost = 2", text), *changes))
+    pitplan.write_shells(plan_folder(table, PROJECT, ("mining_cost = 2", text), *changes), writing=PLAIN)
 
 
 def test_two_metals_and_prices_by_rock(plan_folder):

@@ -11,6 +11,7 @@ from conftest import PROJECT, rows
 from helpers.benches import made_of, optimum_of, problem_of, random_benches, without_flows
 from helpers.programmes import limits, small
 from helpers.random_tests import examples
+from helpers.writings import PLAIN, UNVERIFIED
 from hypothesis import given, strategies as st
 
 import pitplan
@@ -43,7 +44,7 @@ def mean(start, end):
 
 def solved(path):
     """The table of shells at revenue factor 1.00, and its years of the best case."""
-    shells = pitplan.write_shells(path)
+    shells = pitplan.write_shells(path, writing=PLAIN)
     years = pd.read_csv(path.parent / "plan" / "tables/years.csv")
     return shells.set_index("revenue_factor").loc[1.0], years[
         (years["case"] == "best") & (years["revenue_factor"] == 1.0)
@@ -186,7 +187,8 @@ def test_bins_end_before_capital_that_does_not_pay(plan_folder):
     ]
     text = "[pushbacks]\nrevenue_factors = [0.6, 1.0]\n[schedule]\nyears = {}\nbins = 3\nstockpile = {{ reclaim_cost = 1 }}\n[shells]"
     ended, short = (
-        write_schedule(plan_folder(table, PROJECT, *changes, ("[shells]", text.format(years)))) for years in (7, 3)
+        write_schedule(plan_folder(table, PROJECT, *changes, ("[shells]", text.format(years))), writing=PLAIN)
+        for years in (7, 3)
     )
     found = ended.set_index("method").loc["lp"]
     assert found["years"] == 3 and found["npv"] >= short.set_index("method").loc["lp", "npv"] * (1 - 1e-9)
@@ -280,7 +282,7 @@ def scheduled(plan_folder, way):
     "way", ["", "milp = { seconds = 60 }", "bins = 3", "bins = 3\nstockpile = { reclaim_cost = 1 }"]
 )
 def test_the_second_look_at_schedules_agrees(plan_folder, way):
-    ways = write_schedule(scheduled(plan_folder, way))
+    ways = write_schedule(scheduled(plan_folder, way), writing=PLAIN)
     assert (ways["optimality_gap"] >= -1e-9).all()
 
 
@@ -295,14 +297,14 @@ def test_the_second_look_at_schedules_agrees(plan_folder, way):
 def test_money_that_is_passed_over_is_found(plan_folder, monkeypatch, name, without, rule):
     path, of_project = scheduled(plan_folder, ""), period_costs.of_project
     monkeypatch.setattr(period_costs, "of_project", lambda project: replace(of_project(project), **{name: without}))
-    write_schedule(path, writing=pitplan.Writing(verifies=False))
+    write_schedule(path, writing=UNVERIFIED)
     wrong = {rule.name for rule in verify(path.parent / "plan" / "schedule") if rule.differences}
     assert {"years", rule, "upper bound"} <= wrong
 
 
 def test_costs_of_a_year_that_are_bent_are_found(mine):
     path = mine(MONEY, of_years("end_of_year"))
-    pitplan.write_shells(path)
+    pitplan.write_shells(path, writing=PLAIN)
     file = path.parent / "plan" / "tables/years.csv"
     table = pd.read_csv(file)
     table.loc[table.index[-1], "fixed_cost"] += 1

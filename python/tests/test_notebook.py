@@ -16,7 +16,7 @@ import pytest
 from conftest import ROOT
 from helpers.constraints import FIXED_SECTION, ores_and_fixed, with_section
 from helpers.scenarios import COLUMNS, PRICES, UPRIGHT, pillar
-from helpers.verified import UNVERIFIED
+from helpers.writings import PLAIN, REPORTED, UNVERIFIED, UNVERIFIED_REPORT
 from matplotlib import image
 from matplotlib.figure import Figure
 
@@ -54,7 +54,7 @@ def plan(plan_folder):
 
 
 def test_shells_are_written_and_given_as_a_frame(plan):
-    table = pitplan.write_shells(plan)
+    table = pitplan.write_shells(plan, writing=REPORTED)
     # The ore of 6 % is mined from 0.5 on, with three blocks above it; the block at the floor that must be dug needs the two above it.
     assert table["revenue_factor"].tolist() == [0.5, 1.0, 1.5]
     assert table["value_at_revenue_factor"].tolist() == [
@@ -63,7 +63,7 @@ def test_shells_are_written_and_given_as_a_frame(plan):
         Decimal(36_000 + 3000 - 3800),
     ]
     assert (plan.parent / "plan" / "report.html").exists()
-    again = pitplan.write_shells(str(plan), str(plan.parent / "other"), writing=pitplan.Writing(verifies=False))
+    again = pitplan.write_shells(str(plan), str(plan.parent / "other"), writing=UNVERIFIED_REPORT)
     pd.testing.assert_frame_equal(again, table)
     assert "were not verified" in (plan.parent / "other" / "report.html").read_text()
 
@@ -101,9 +101,18 @@ def test_a_page_exports_and_a_folder_for_auditors_are_told_by_their_paths(solved
             lambda folder: pitplan.verify(folder / "nowhere"),
             "nowhere/plan.json: cannot be read: run pitplan shells first",
         ),
-        (lambda folder: pitplan.gather(folder), "scenarios.json: cannot be read: run pitplan scenarios first"),
-        (lambda folder: pitplan.write_scenarios(folder.parent / "project.toml"), r"\[scenarios\] is missing"),
-        (lambda folder: pitplan.write_pit(folder.parent / "project.toml"), r"\[constraints\] is missing"),
+        (
+            lambda folder: pitplan.gather(folder, writing=PLAIN),
+            "scenarios.json: cannot be read: run pitplan scenarios first",
+        ),
+        (
+            lambda folder: pitplan.write_scenarios(folder.parent / "project.toml", writing=PLAIN),
+            r"\[scenarios\] is missing",
+        ),
+        (
+            lambda folder: pitplan.write_pit(folder.parent / "project.toml", writing=PLAIN),
+            r"\[constraints\] is missing",
+        ),
     ],
 )
 def test_what_cannot_be_is_refused_in_words(solved, call, said):
@@ -125,7 +134,7 @@ def test_a_verified_folder_is_told_rule_by_rule(solved):
 
 
 def test_a_pit_with_fixed_blocks_and_without_them(plan):
-    table = pitplan.write_pit(plan, 0.5)
+    table = pitplan.write_pit(plan, 0.5, writing=PLAIN)
     assert table["fixed_blocks"].tolist() == ["kept", "free"] and table["revenue_factor"].tolist() == [0.5, 0.5]
     assert (table["value_at_revenue_factor"][1] - table["value_at_revenue_factor"][0]) == 600
     assert (plan.parent / "plan" / "pit" / "tables/pits.csv").exists()
@@ -135,7 +144,7 @@ def test_scenarios_are_given_as_frames(plan_folder):
     """Three blocks above each other: at 8000 a tonne one of three models pays at 0.5 and 1.0, at 12,000 two do at 1.0."""
     pytest.importorskip("distributed", reason="needs the Debian package python3-distributed")
     path = plan_folder(pillar(), PRICES, UPRIGHT)
-    found = pitplan.write_scenarios(path, request=Request(workers=1), writing=UNVERIFIED)
+    found = pitplan.write_scenarios(path, request=Request(workers=0), writing=UNVERIFIED)
     assert found.folder == path.parent / "plan" / "scenarios" and found.start is None
     assert "6 solved (status 0)" in found.notes
     assert found.probability["probability_1.00"].tolist() == [0.5] * 3
@@ -213,26 +222,30 @@ def test_the_outputs_in_a_notebook_are_those_of_a_run(monkeypatch, name):
 
 def test_lists_of_jobs_are_told_by_what_to_start(plan_folder):
     path = plan_folder(pillar(), COLUMNS, UPRIGHT)
-    found = pitplan.write_scenarios(path, path.parent / "many", Request("parallel"))
+    found = pitplan.write_scenarios(path, path.parent / "many", Request("parallel"), writing=PLAIN)
     assert found.start == path.parent / "many" / "start.sh"
     with pytest.raises(PlanError, match="probability.csv: cannot be read: run pitplan scenarios or gather first"):
         found.probability
     with pytest.raises(PlanError, match="3 of 3 scenarios have no result"):
-        pitplan.gather(found.folder)
+        pitplan.gather(found.folder, writing=PLAIN)
 
 
 @pytest.mark.slow
 def test_the_lines_of_the_help_run(plan_folder, monkeypatch):
-    """In a folder whose project has fixed blocks, pushbacks, scenarios and the help's factor, and another run of it."""
+    """In a folder whose project has fixed blocks, pushbacks, scenarios and the help's factor, and another run of it. Nothing is drawn."""
     pytest.importorskip("distributed", reason="needs the Debian package python3-distributed")
     table = ores_and_fixed().assign(sim_1=lambda it: it["cu"], sim_2=lambda it: it["cu"] / 2)
     more = '[pushbacks]\nrevenue_factors = [0.5, 1.0]\n[scenarios]\ncolumns = { copper = "sim_*" }\n'
     text = with_section(FIXED_SECTION + more).replace("[0.5, 1.0, 1.5]", "[0.5, 0.8, 1.0]")
     path = plan_folder(table, text)
     monkeypatch.chdir(path.parent)
-    pitplan.write_shells("project.toml", "other")
-    names = {}
-    exec(LINES, names)
+    pitplan.write_shells("project.toml", "other", writing=PLAIN)
+    names, text = {"PLAIN": PLAIN}, LINES.replace('Request(by="block")', 'Request(workers=0, by="block")')
+    alone = 'write_scenarios("project.toml")'
+    assert text.count(alone) == 1
+    text = text.replace(alone, f"{alone[:-1]}, request=pitplan.Request(workers=0))")
+    writes = r"(pitplan\.(?:write_(?!report|export)\w+|compare)\((?:[^()]|\([^()]*\))*)\)"
+    exec(re.sub(writes, r"\1, writing=PLAIN)", text), names)
     assert names["runs"].results["run"].tolist() == ["out", "other"]
     assert names["table"]["revenue_factor"].tolist() == [0.5, 0.8, 1.0] and all(
         rule.count == 0 for rule in names["rules"]

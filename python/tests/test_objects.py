@@ -10,16 +10,16 @@ import pandas as pd
 import pytest
 import tomllib
 from conftest import PROJECT, files_in, rows
+from helpers.writings import PLAIN, UNVERIFIED
 
 import pitplan
-from pitplan import BlockModel, InputWarning, Plan, PlanError, PlanWarning, Project, ResultWarning, Writing
+from pitplan import BlockModel, InputWarning, Plan, PlanError, PlanWarning, Project, ResultWarning
 from pitplan.cli import main
 from pitplan.config.toml_text import as_toml
 
 GRADES = {(4, 4, 1): 6, (6, 4, 1): 2.5, (4, 7, 2): 0.8, (5, 3, 0): 9}
 ORE = {"cu": lambda i, j, k: GRADES.get((i, j, k), 0)}
 MORE = "[pushbacks]\ncount = 2\nultimate_pit = 1.5\n[schedule]\nmining_capacity = 2000\nyears = 20\n"
-BARE = Writing(figures=False)
 SECTIONS = {
     "economics": {"mining_cost": 2, "processing_cost": 10},
     "metals": [{"name": "copper", "column": "cu", "unit": "percent", "price": 8000, "recovery": 0.5}],
@@ -54,8 +54,8 @@ def test_objects_write_what_the_subcommand_writes(project, name, solver, tmp_pat
     asked = pitplan.load(project, overrides=['output.folder="out"'])
     asked = asked.changed("shells", {"discount_rate": 0.09}, keeps_others=True)
     object.__setattr__(asked, "solver", solver)
-    function(asked, tmp_path / "by_function", BARE)
-    assert made(Plan.from_project(asked)).write(tmp_path / "by_object", BARE) == tmp_path / "by_object"
+    function(asked, tmp_path / "by_function", PLAIN)
+    assert made(Plan.from_project(asked)).write(tmp_path / "by_object", PLAIN) == tmp_path / "by_object"
     one, two = files_in(tmp_path / "by_function"), files_in(tmp_path / "by_object")
     assert one.keys() == two.keys() and len(one) >= 6
     assert [key for key in one if one[key] != two[key]] == []
@@ -64,7 +64,7 @@ def test_objects_write_what_the_subcommand_writes(project, name, solver, tmp_pat
 def test_the_default_folders_are_those_of_the_subcommands(project):
     plan = Plan.from_project(project)
     shells = plan.shells()
-    places = [it.write(writing=Writing(verifies=False, figures=False)) for it in (shells, shells.pushbacks())]
+    places = [it.write(writing=UNVERIFIED) for it in (shells, shells.pushbacks())]
     assert places == [plan.project.folder, plan.project.folder / "pushbacks"]
 
 
@@ -75,10 +75,10 @@ def test_a_frame_gives_what_its_file_gives(project, tmp_path):
     shells = plan.shells()
     pd.testing.assert_frame_equal(shells.table, by_file.table)
     pd.testing.assert_frame_equal(shells.blocks, by_file.blocks)
-    out = shells.write(tmp_path / "out", BARE)
+    out = shells.write(tmp_path / "out", PLAIN)
     assert sorted(path.name for path in (out / "inputs").iterdir()) == ["block_model.csv", "project.toml"]
     assert all(not rule.differences for rule in pitplan.verify(out))
-    pitplan.write_shells(out / "inputs/project.toml", tmp_path / "again", BARE)
+    pitplan.write_shells(out / "inputs/project.toml", tmp_path / "again", PLAIN)
     for name in ("shells.csv", "years.csv", "blocks.csv"):
         assert (tmp_path / "again/tables" / name).read_bytes() == (out / "tables" / name).read_bytes()
 
@@ -87,7 +87,7 @@ def test_the_record_has_the_hashes_of_inputs_that_were_made_in_python(tmp_path):
     from pitplan.core.atomic_files import hash_of
 
     plan = Plan.from_model(BlockModel.from_frame(table(), **COLUMNS), **SECTIONS)
-    out = plan.shells().write(tmp_path / "out", BARE)
+    out = plan.shells().write(tmp_path / "out", PLAIN)
     record = json.loads((out / "plan.json").read_text())
     assert record["project"] == "inputs/project.toml"
     assert record["inputs"] == {name: hash_of(out / "inputs" / name) for name in ("project.toml", "block_model.csv")}
@@ -96,7 +96,7 @@ def test_the_record_has_the_hashes_of_inputs_that_were_made_in_python(tmp_path):
 def test_a_changed_frame_is_not_that_of_the_project(project, tmp_path):
     """A project of a file with another frame: the record names the frame that was planned, not the project's file."""
     richer = table().assign(cu=lambda it: 2 * it["cu"])
-    out = Plan.from_project(project, table=richer).shells().write(tmp_path / "out", BARE)
+    out = Plan.from_project(project, table=richer).shells().write(tmp_path / "out", PLAIN)
     assert pd.read_csv(out / "inputs/block_model.csv")["cu"].tolist() == richer["cu"].tolist()
     assert all(not rule.differences for rule in pitplan.verify(out))
 
@@ -114,7 +114,7 @@ def test_a_model_in_a_file_is_read_from_where_it_is(tmp_path, monkeypatch):
     model = BlockModel.from_csv("model.csv", **COLUMNS)
     plan = Plan.from_model(model, folder="elsewhere", **SECTIONS)
     assert plan.project.table.file == tmp_path / "model.csv" and plan.source == str(tmp_path / "model.csv")
-    out = plan.shells().write(tmp_path / "out", BARE)
+    out = plan.shells().write(tmp_path / "out", PLAIN)
     assert all(not rule.differences for rule in pitplan.verify(out))
     assert [path.name for path in (out / "inputs").iterdir()] == ["project.toml"]
 
@@ -217,7 +217,7 @@ def test_warnings_have_categories_and_name_the_caller(plan_folder):
     with pytest.warns(InputWarning, match="no block pays for its processing"):
         Plan.from_project(path, overrides=["metals.copper.price=8"])
     with pytest.warns(ResultWarning, match="the largest shell reaches the floor"):
-        pitplan.write_shells(path, writing=BARE)
+        pitplan.write_shells(path, writing=PLAIN)
     assert issubclass(InputWarning, PlanWarning) and issubclass(ResultWarning, PlanWarning)
 
 

@@ -6,7 +6,7 @@ import pandas as pd
 import pytest
 from conftest import PROJECT, rows
 from helpers import office
-from helpers.verified import UNVERIFIED
+from helpers.writings import PLAIN, UNVERIFIED, WITH_WORKBOOK
 
 import pitplan
 from pitplan import PlanError, load, verify
@@ -84,9 +84,9 @@ def test_tables_have_what_lay_there(written):
     assert inventory["feed_tonnes"].tolist() == [40, 20] and (inventory["category"] == "ore").all()
 
 
-def test_the_sheet_of_reserves_names_it(tmp_path, with_workbooks):
+def test_the_sheet_of_reserves_names_it(tmp_path):
     """60 t of 1 % copper that lay there, and 100 t of 0.8 % from pushback 1."""
-    pitplan.write_schedule(written_to(tmp_path, PILE), writing=UNVERIFIED)
+    pitplan.write_schedule(written_to(tmp_path, PILE), writing=WITH_WORKBOOK)
     book = office.recalculated(tmp_path / "plan/schedule/tables/schedule.xlsx", tmp_path)
     cells = [list(row) for row in book["reserves"].iter_rows(values_only=True)]
     top = [row[0] for row in cells].index("pushback")
@@ -281,4 +281,4 @@ def test_a_rock_type_without_a_cost_is_named(tmp_path):
 
 def test_by_block_there_is_none(tmp_path):
     with pytest.raises(PlanError, match=r"\[schedule\] stockpile: found one, expected none by block"):
-        pitplan.write_block_schedule(written_to(tmp_path, PILE))
+        pitplan.write_block_schedule(written_to(tmp_path, PILE), writing=PLAIN)

@@ -5,6 +5,7 @@ from fractions import Fraction
 
 import pytest
 from helpers.random_tests import seeds
+from helpers.writings import PLAIN
 from oracle import closures, pits, projects, tables
 from oracle.mine import Mine
 
@@ -91,16 +92,17 @@ def test_a_plan_is_the_oracles(tmp_path, seed):
     shells = pits.shells_of(mine, factors)
     if shells is None:
         with pytest.raises(pitplan.PlanError, match=CLASH):
-            pitplan.write_shells(tmp_path / "project.toml")
+            pitplan.write_shells(tmp_path / "project.toml", writing=PLAIN)
         return
     if with_pushbacks:
         kept = pits.growing(mine, factors, shells)
         factors, shells = list(kept), list(kept.values())
         if not kept:
             with pytest.raises(pitplan.PlanError, match="is empty"):
-                pitplan.write_pushbacks(tmp_path / "project.toml")
+                pitplan.write_pushbacks(tmp_path / "project.toml", writing=PLAIN)
             return
-    (pitplan.write_pushbacks if with_pushbacks else pitplan.write_shells)(tmp_path / "project.toml", tmp_path / "out")
+    write = pitplan.write_pushbacks if with_pushbacks else pitplan.write_shells
+    write(tmp_path / "project.toml", tmp_path / "out", writing=PLAIN)
     folder = tmp_path / "out" / "tables"
     demand_blocks(mine, factors, shells, folder / "blocks.csv")
     expected = tables.Shells(mine, factors, shells)
@@ -118,9 +120,9 @@ def test_a_pit_with_its_constraints_and_without_is_the_oracles(tmp_path, seed):
     kept, free = (pits.shells_of(mine, factors, is_free) for is_free in (False, True))
     if kept is None:
         with pytest.raises(pitplan.PlanError, match=CLASH):
-            pitplan.write_pit(tmp_path / "project.toml")
+            pitplan.write_pit(tmp_path / "project.toml", writing=PLAIN)
         return
-    pitplan.write_pit(tmp_path / "project.toml", folder=tmp_path / "out")
+    pitplan.write_pit(tmp_path / "project.toml", folder=tmp_path / "out", writing=PLAIN)
     rows = rows_of(tmp_path / "out" / "tables" / "pits.csv")
     assert [row["fixed_blocks"] for row in rows] == ["kept", "free"]
     demand_rows([tables.Shells(mine, factors, shells).row(len(factors)) for shells in (kept, free)], rows)

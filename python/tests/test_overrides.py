@@ -42,7 +42,7 @@ def test_a_run_records_the_project_with_the_set_keys(path):
     out = path.parent / "high"
     options = ["--set", "metals.copper.price=9000", "--set", "economics.mining_cost=2.6", "--no-figures", "--quiet"]
     before = path.read_bytes()
-    assert main(["shells", str(path), "--out", str(out), *options]) == 0
+    assert main(["shells", str(path), "--out", str(out), *options, "--no-figures"]) == 0
     recorded = load(out / "project-as-run.toml")
     assert str(recorded.metals[0].price) == "9000" and str(recorded.economics.mining_cost) == "2.6"
     assert path.read_bytes() == before and all(not rule.differences for rule in pitplan.verify(out))

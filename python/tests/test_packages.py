@@ -4,6 +4,7 @@ import subprocess
 import sys
 
 import pytest
+from helpers.writings import PLAIN
 
 import pitplan.scheduling.blocks
 from pitplan import MissingPackage
@@ -46,7 +47,7 @@ def test_only_the_missing_library_of_pits_is_called_missing(monkeypatch):
     monkeypatch.setitem(sys.modules, module, None)
     monkeypatch.delattr(pitplan.scheduling.blocks, "tables", raising=False)
     with pytest.raises(ImportError, match="tables"):
-        pitplan.write_block_schedule("project.toml")
+        pitplan.write_block_schedule("project.toml", writing=PLAIN)
 
 
 def test_the_program_stands_in_for_a_missing_library_alone(tmp_path, monkeypatch):

@@ -7,7 +7,7 @@ import pandas as pd
 import pytest
 from conftest import ROOT
 from helpers.documentation import blocks
-from helpers.verified import UNVERIFIED
+from helpers.writings import UNVERIFIED
 
 import pitplan
 

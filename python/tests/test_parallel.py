@@ -11,6 +11,7 @@ from dataclasses import replace
 
 import pytest
 from helpers.pushbacks import UPRIGHT, pillars
+from helpers.writings import PLAIN
 
 import pitplan
 from pitplan import MissingPackage, PlanError, ProgramError, Writing, load
@@ -148,9 +149,9 @@ def test_an_error_of_the_audit_is_sent_with_its_lines(kind):
 def test_cases_in_processes_are_those_of_one(plan_folder, monkeypatch):
     text = UPRIGHT + '[sensitivity]\nparameters = ["price", "mining_cost"]\nchanges = [-0.1, 0.1]\n'
     project = load(plan_folder(pillars(), text))
-    one = pitplan.write_sensitivity(project, project.folder / "one")
+    one = pitplan.write_sensitivity(project, project.folder / "one", writing=PLAIN)
     monkeypatch.setattr(processes, "cores", lambda: 3)
-    several = pitplan.write_sensitivity(project, project.folder / "several")
+    several = pitplan.write_sensitivity(project, project.folder / "several", writing=PLAIN)
     assert len(one) == 5 and one.equals(several)
 
 
@@ -173,11 +174,11 @@ def recorded(folder):
 
 def test_a_process_of_its_own_verifies_the_same(plan_folder, monkeypatch, apart):
     project = load(plan_folder(pillars(), UPRIGHT))
-    pitplan.write_shells(project, project.folder / "apart")
-    pitplan.Plan.from_project(project).shells().write(project.folder / "object")
+    pitplan.write_shells(project, project.folder / "apart", writing=PLAIN)
+    pitplan.Plan.from_project(project).shells().write(project.folder / "object", PLAIN)
     assert len(apart) == 2 and all(child.returncode == 0 for child in apart)
     monkeypatch.setattr(verification, "APART", 100)
-    pitplan.write_shells(project, project.folder / "within")
+    pitplan.write_shells(project, project.folder / "within", writing=PLAIN)
     found = recorded(project.folder / "within")
     assert len(apart) == 2 and len(found) > 8
     assert found == recorded(project.folder / "apart") == recorded(project.folder / "object")
@@ -192,7 +193,7 @@ def test_a_misread_table_fails_the_run(plan_folder, monkeypatch, apart):
 
     monkeypatch.setattr(reader, "read", misread)
     with pytest.raises(PlanError, match="verification failed: .*discrepanc"):
-        pitplan.write_shells(path)
+        pitplan.write_shells(path, writing=PLAIN)
     folder = load(path).folder
     assert not list(folder.rglob("plan.json")) and not list(folder.rglob(".pitplan-*"))
 
@@ -218,14 +219,14 @@ def replaced_by(code):
 def test_a_verification_without_a_result_fails_the_run(plan_folder, monkeypatch, apart, code, why):
     monkeypatch.setattr(AuditProcess, "__init__", replaced_by(code))
     with pytest.raises(PlanError, match=why):
-        pitplan.write_shells(plan_folder(pillars(), UPRIGHT))
+        pitplan.write_shells(plan_folder(pillars(), UPRIGHT), writing=PLAIN)
 
 
 def test_a_missing_package_of_the_verification_is_named(plan_folder, monkeypatch, apart):
     said = json.dumps({"error": "GDAL is missing", "details": [], "package": True})
     monkeypatch.setattr(AuditProcess, "__init__", replaced_by(f"print({said!r})"))
     with pytest.raises(MissingPackage, match="GDAL is missing"):
-        pitplan.write_shells(plan_folder(pillars(), UPRIGHT))
+        pitplan.write_shells(plan_folder(pillars(), UPRIGHT), writing=PLAIN)
 
 
 def test_an_error_while_drawing_ends_the_verification(plan_folder, monkeypatch, apart):
@@ -242,7 +243,7 @@ def test_an_error_before_any_result_ends_the_verification(plan_folder, monkeypat
     )
     monkeypatch.setattr("pitplan.solver.problem.solve", lambda *_: failing(PlanError("no solver"))())
     with pytest.raises(PlanError, match="no solver"):
-        pitplan.write_shells(plan_folder(pillars(), UPRIGHT))
+        pitplan.write_shells(plan_folder(pillars(), UPRIGHT), writing=PLAIN)
     assert not apart and len(processes) == 1 and processes[0].poll() is not None
 
 
@@ -270,7 +271,7 @@ def test_an_audit_whose_run_has_gone_ends(plan_folder):
 def test_the_audit_runs_without_pitplan(plan_folder, capsys):
     project = load(plan_folder(pillars(), UPRIGHT))
     folder = project.folder
-    pitplan.write_shells(project, folder)
+    pitplan.write_shells(project, folder, writing=PLAIN)
     assert main([str(folder)]) == 0
     *found, verdict = capsys.readouterr().out.splitlines()
     assert verdict == f"verified: all {len(found)} rules hold"

@@ -13,6 +13,7 @@ from helpers import block_commands as blocks
 from helpers.periods import column, entries, periods, schedule_of, solved
 from helpers.pushbacks import pillars
 from helpers.verified import wrong
+from helpers.writings import WITH_WORKBOOK
 
 import pitplan
 from pitplan import PlanError
@@ -129,8 +130,10 @@ def test_the_record_of_a_schedule_has_years_and_periods(mixed):
         assert methods["years"][name] == [0.25, 0.5, 0.75, 1, 2, 3, 6, 9][count - 1]
 
 
-def test_the_workbook_has_periods(plan_folder, with_workbooks):
-    folder = schedule_of(plan_folder, "period_months = 24", "period_months = 12", more="bins = 2\n")
+def test_the_workbook_has_periods(plan_folder):
+    folder = schedule_of(
+        plan_folder, "period_months = 24", "period_months = 12", more="bins = 2\n", writing=WITH_WORKBOOK
+    )
     sheets = pd.read_excel(folder / "tables/schedule.xlsx", sheet_name=None)
     assert all("period" in sheets[name] for name in ("schedule", "years", "flows", "feed", "cutoffs"))
 

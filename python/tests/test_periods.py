@@ -12,7 +12,8 @@ from helpers import block_commands as blocks
 from helpers.periods import column, periods, schedule_of, solved
 from helpers.processes import WITH, deposit
 from helpers.pushbacks import pillars
-from helpers.verified import UNVERIFIED, wrong
+from helpers.verified import wrong
+from helpers.writings import PLAIN, UNVERIFIED
 
 import pitplan
 from pitplan import PlanError
@@ -75,7 +76,7 @@ def test_capacities_of_processes_of_years(plan_folder):
     text = PROJECT + "[[periods]]\ncapacity = { mill = 20 }\n[[periods]]\ncapacity = { leach = 50, mill = 200 }\n"
     changes = [*WITH, ("mining_cost = 2\n", "mining_cost = 0.3\n")]
     path = plan_folder(deposit(), text, *changes)
-    pitplan.write_shells(path)
+    pitplan.write_shells(path, writing=PLAIN)
     years = pd.read_csv(path.parent / "plan" / "tables/years.csv")
     first = years["year"] == 1
     assert years["feed_tonnes_mill"][first].max() == pytest.approx(20)
@@ -279,6 +280,8 @@ def test_scenarios_by_block_have_the_limits_of_periods(plan_folder):
     """Of one realisation the schedule of its own is that of the model."""
     words = "[[periods]]\nmining_capacity = 300\n"
     path = plan_folder(pillars(), blocks.YEARLY + '[scenarios]\ncolumns = { copper = "cu*" }\n' + words)
-    found = pitplan.write_scenarios(path, request=pitplan.Request(by="block")).schedules.iloc[0]
-    alone = pitplan.write_block_schedule(plan_folder(pillars(), blocks.YEARLY + words)).iloc[0]
+    found = pitplan.write_scenarios(path, request=pitplan.Request(workers=0, by="block"), writing=PLAIN).schedules.iloc[
+        0
+    ]
+    alone = pitplan.write_block_schedule(plan_folder(pillars(), blocks.YEARLY + words), writing=PLAIN).iloc[0]
     assert found["npv"] == pytest.approx(alone["npv"]) == found["common_npv"] and found["npv"] > 0

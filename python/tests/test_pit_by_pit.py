@@ -10,6 +10,7 @@ from conftest import PROJECT, rows
 from helpers.blank_figures import blank_figures
 from helpers.processes import deposit
 from helpers.random_tests import examples
+from helpers.writings import UNVERIFIED
 from hypothesis import given, strategies as st
 from scipy.optimize import linprog
 
@@ -248,7 +249,7 @@ def test_another_lag_than_the_projects_is_found(plan_folder, monkeypatch):
     monkeypatch.setattr(
         best_worst_case, "specified_pieces", lambda benches, rules: pieces(benches, replace(rules, bench_lag=0))
     )
-    pitplan.write_shells(path, writing=pitplan.Writing(verifies=False))
+    pitplan.write_shells(path, writing=UNVERIFIED)
     assert "years" in {rule.name for rule in pitplan.verify(path.parent / "plan") if rule.differences}
 
 

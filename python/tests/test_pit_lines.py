@@ -9,6 +9,7 @@ import numpy as np
 import pandas as pd
 import pytest
 from conftest import rows
+from helpers.writings import UNVERIFIED
 
 import pitplan
 from pitplan import MissingPackage, PlanError
@@ -118,7 +119,7 @@ def test_a_geopackage_is_one_for_those_who_read_its_tables(folder):
 def test_a_pit_of_one_factor_by_hand(plan_folder, capsys):
     """One block of ore under one of waste: four corners on two levels, each with a toe and a crest."""
     path = plan_folder(rows(1, 1, 2, cu=lambda i, j, k: 6 if k == 0 else 0))
-    pitplan.write_shells(path, writing=pitplan.Writing(verifies=False))
+    pitplan.write_shells(path, writing=UNVERIFIED)
     assert main(["export", str(path.parent / "plan"), "--to", "str", "--revenue-factor", "1.00"]) == 0
     found = path.parent / "plan" / "lines-1.00.str"
     assert capsys.readouterr().out.strip() == str(found)
@@ -135,7 +136,7 @@ def test_a_pit_of_one_factor_by_hand(plan_folder, capsys):
 
 def test_an_empty_pit_has_no_lines(plan_folder):
     path = plan_folder(rows(2, 2, 2))
-    pitplan.write_shells(path, writing=pitplan.Writing(verifies=False))
+    pitplan.write_shells(path, writing=UNVERIFIED)
     for kind in ("str", "lines"):
         with pytest.raises(PlanError, match="the pit of revenue factor 1.00 is empty"):
             pitplan.write_export(path.parent / "plan", kind)

@@ -6,6 +6,7 @@ import gzip
 import pandas as pd
 import pytest
 from conftest import PROJECT, rows
+from helpers.writings import PLAIN, UNVERIFIED
 
 import pitplan
 from pitplan import PlanError
@@ -20,14 +21,14 @@ def lines(path, separator=",", encoding="utf-8"):
 
 
 @pytest.fixture(scope="module")
-def scheduled(tmp_path_factory, without_figures):
+def scheduled(tmp_path_factory):
     """Two pillars of ore, the richer in pushback 1, scheduled by years; rows from last to first."""
     place = tmp_path_factory.mktemp("scheduled")
     table = rows(9, 5, 3, cu=lambda i, j, k: {(2, 2, 1): 6, (6, 2, 1): 0.8}.get((i, j, k), 0))
     table.iloc[::-1].to_csv(place / "blocks.csv", index=False)
     words = "\n[pushbacks]\nrevenue_factors = [0.5, 1.0]\n[schedule]\nbench_lag = 1\n"
     (place / "project.toml").write_text(PROJECT + words)
-    pitplan.write_schedule(place / "project.toml")
+    pitplan.write_schedule(place / "project.toml", writing=PLAIN)
     return place
 
 
@@ -64,7 +65,7 @@ def test_the_tables_own_format_stays(plan_folder):
         line.rstrip("\n").rstrip(";") + "\n" if "b4-4-2" in line else line for line in text.splitlines(keepends=True)
     )
     (path.parent / "blocks.csv").write_text(text, encoding="cp1252")
-    pitplan.write_shells(path, writing=pitplan.Writing(verifies=False))
+    pitplan.write_shells(path, writing=UNVERIFIED)
     after = lines(pitplan.write_export(path.parent / "plan", "table"), ";", "cp1252")
     before = lines(path.parent / "blocks.csv", ";", "cp1252")
     assert [line[:9] for line in after[:-1]] == before[:-1] and after[-1][:9] == [*before[-1], ""]
@@ -78,14 +79,14 @@ def test_a_compressed_table_is_written_plain(solved):
     packed.write_bytes(gzip.compress(plain))
     text = project.path.read_text().replace('"blocks.csv"', '"blocks.csv.gz"')
     project.path.write_text(text)
-    pitplan.write_shells(project.path, writing=pitplan.Writing(verifies=False))
+    pitplan.write_shells(project.path, writing=UNVERIFIED)
     assert [",".join(line[:8]) for line in lines(pitplan.write_export(folder, "table"))] == plain.decode().split()
 
 
 def test_a_column_of_the_planners_with_such_a_name_is_kept_beside(plan_folder):
     table = rows(5, 5, 3, cu=lambda i, j, k: 6 if (i, j, k) == (2, 2, 1) else 0, revenue_factor=lambda i, j, k: i + 7)
     path = plan_folder(table)
-    pitplan.write_shells(path, writing=pitplan.Writing(verifies=False))
+    pitplan.write_shells(path, writing=UNVERIFIED)
     after = pd.read_csv(pitplan.write_export(path.parent / "plan", "table"))
     assert list(after.columns) == [*table.columns[:-1], "planner_revenue_factor", *FOUND]
     assert after["planner_revenue_factor"].tolist() == table["revenue_factor"].tolist() and set(
@@ -102,7 +103,7 @@ def test_rock_of_cells_without_rows_has_none(plan_folder):
         'file = "blocks.csv"\nmissing_blocks = { tonnes = 100, rock_type = "R", domain = "1" }',
     )
     path = plan_folder(table, PROJECT, words)
-    pitplan.write_shells(path)
+    pitplan.write_shells(path, writing=PLAIN)
     after = pd.read_csv(pitplan.write_export(path.parent / "plan", "table"))
     assert after["name"].tolist() == table["name"].tolist()
     assert "absent-37" in set(pd.read_csv(path.parent / "plan" / "tables/blocks.csv")["name"])
@@ -111,7 +112,7 @@ def test_rock_of_cells_without_rows_has_none(plan_folder):
 def test_rows_that_are_put_together_have_the_numbers_of_their_block(plan_folder):
     table = rows(8, 8, 3, cu=lambda i, j, k: 6 if (i // 2, j // 2, k) == (2, 2, 1) else 0).iloc[::-1]
     path = plan_folder(table, PROJECT, ('file = "blocks.csv"', 'file = "blocks.csv"\nreblock = [2, 2, 1]'))
-    pitplan.write_shells(path, writing=pitplan.Writing(verifies=False))
+    pitplan.write_shells(path, writing=UNVERIFIED)
     after = pd.read_csv(pitplan.write_export(path.parent / "plan", "table"))
     assert after["name"].tolist() == table["name"].tolist()
     # The ore, and above it the block itself and those beside it, each of four rows.
@@ -141,4 +142,4 @@ def test_the_planners_own_table_of_that_name_is_never_written_over(plan_folder):
     path = plan_folder(rows(3, 3, 2), PROJECT, ('file = "blocks.csv"', 'file = "table.csv"'))
     (path.parent / "blocks.csv").rename(path.parent / "table.csv")
     with pytest.raises(PlanError, match="table.csv: the run would overwrite it"):
-        pitplan.write_shells(path, path.parent)
+        pitplan.write_shells(path, path.parent, writing=PLAIN)

@@ -8,6 +8,7 @@ from decimal import Decimal
 
 import pytest
 from conftest import ROOT
+from helpers.writings import PLAIN, UNVERIFIED
 
 import pitplan
 from pitplan.cli import main
@@ -22,10 +23,11 @@ EXAMPLE = ROOT / "examples" / "plan" / "project.toml"
 
 
 def test_the_lines_for_a_notebook_run(tmp_path, monkeypatch):
-    """In a folder of the example's files, since the last line writes there."""
+    """In a folder of the example's files, since the last line writes there, here without figures."""
     monkeypatch.chdir(shutil.copytree(EXAMPLE.parent, tmp_path / "plan"))
-    names = {}
-    exec(re.search(r"```python\n(.*?)```", PAGES["notebook"], re.DOTALL)[1], names)
+    names, text = {"PLAIN": PLAIN}, re.search(r"```python\n(.*?)```", PAGES["notebook"], re.DOTALL)[1]
+    assert text.count('.write("out")') == 1
+    exec(text.replace('.write("out")', '.write("out", PLAIN)'), names)
     shells = names["shells"]
     assert len(names["plan"].blocks) == 7119 and shells.solution.worth.index.tolist()[-1] == 1.2
     assert shells.table["revenue_factor"].tolist() == shells.solution.worth.index.tolist()
@@ -143,9 +145,7 @@ def test_the_widths_of_the_page_are_those_of_the_example():
 def test_the_sensitivity_of_the_page_is_that_of_the_example(tmp_path):
     project = pitplan.load(EXAMPLE)
     rules = SensitivityRules((Decimal("-0.2"), Decimal("-0.1")), ("price", "slopes"))
-    table = pitplan.write_sensitivity(
-        replace(project, sensitivity=rules), tmp_path, writing=pitplan.Writing(verifies=False, figures=False)
-    )
+    table = pitplan.write_sensitivity(replace(project, sensitivity=rules), tmp_path, writing=UNVERIFIED)
     npv = {(row.parameter, row.change): f"{row.npv / 1e6:.1f}" for row in table.itertuples()}
     said = re.search(
         r"Of the example's ([\d.]+) M USD a price that is 20 % lower leaves ([\d.]+), and slopes that are 10 % flatter ([\d.]+)\.",
@@ -169,7 +169,7 @@ def test_init_prints_the_lines_of_the_page(tmp_path, monkeypatch, capsys):
     shown = re.search(r"\$ pitplan init model.csv\n(.*?)```", PAGES["getting-started"], re.DOTALL)[1].splitlines()
     assert len(shown) > 8 and [line for line in shown if line not in said] == []
     shown = re.search(r"\$ pitplan shells project.toml [^\n]*\n(.*?)```", PAGES["getting-started"], re.DOTALL)[1]
-    assert main(["shells", "project.toml", "--out", "build/plan", "--quiet"]) == 0
+    assert main(["shells", "project.toml", "--out", "build/plan", "--quiet", "--no-figures"]) == 0
     said = capsys.readouterr().out.splitlines()
     cut = [line.removesuffix("..") for line in shown.splitlines()]
     assert len(cut) == 6 and [line for line in cut if not any(it.startswith(line) for it in said)] == []

@@ -9,6 +9,7 @@ import pytest
 from conftest import PROJECT
 from helpers.random_tests import PROFILE, THOROUGH, seeds
 from helpers.verified import TEXT, deposit
+from helpers.writings import PLAIN
 
 import pitplan
 from pitplan import PlanError
@@ -37,7 +38,7 @@ def folders(tmp_path_factory):
         place = tmp_path_factory.mktemp(name.replace(" ", "_"))
         deposit().to_csv(place / "blocks.csv", index=False)
         (place / "project.toml").write_text((PROJECT if name == "by block" else TEXT) + more)
-        write(place / "project.toml")
+        write(place / "project.toml", writing=PLAIN)
         found[name] = next(path.parent for path in place.rglob("tables"))
     return found
 

@@ -12,7 +12,7 @@ from conftest import PROJECT
 from helpers.block_commands import YEARLY, with_processes
 from helpers.pushbacks import PUSHBACKS, pillars
 from helpers.read_alike import demand_read_alike
-from helpers.verified import UNVERIFIED
+from helpers.writings import REPORTED, UNVERIFIED
 from matplotlib.figure import Figure
 
 import pitplan
@@ -94,7 +94,7 @@ def test_without_volatility_the_price_goes_straight_to_its_long_term():
     assert found == pytest.approx(np.array([[one, 9000], [one, 9000]]), rel=1e-6)
 
 
-def written_to(folder, text, by_block=False, writing=pitplan.Writing(figures=False)):
+def written_to(folder, text, by_block=False, writing=REPORTED):
     folder.mkdir(exist_ok=True)
     pillars().to_csv(folder / "blocks.csv", index=False)
     (folder / "project.toml").write_text(text)

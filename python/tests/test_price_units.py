@@ -6,6 +6,7 @@ from decimal import Decimal
 import pandas as pd
 import pytest
 from conftest import PROJECT, rows
+from helpers.writings import PLAIN
 
 import pitplan
 from pitplan.config.project import load
@@ -59,7 +60,7 @@ def test_both_conversions_round_alike(plan_folder, per, unit):
 
 def test_a_run_by_the_pound_is_verified_and_reads_back(plan_folder):
     path = plan_folder(ore(), PROJECT, priced("4.1", "0.2", "4.3", "lb"))
-    pitplan.write_shells(path, writing=pitplan.Writing(figures=False))
+    pitplan.write_shells(path, writing=PLAIN)
     assert 'price_per = "lb"' in (path.parent / "plan" / "project-as-run.toml").read_text()
     assert load(path.parent / "plan" / "project-as-run.toml").metals == load(path).metals
 

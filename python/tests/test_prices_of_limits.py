@@ -12,7 +12,8 @@ from helpers.flows import mine_of, mines, model_of, processes, stockpiles
 from helpers.processes import WITH, deposit
 from helpers.random_tests import examples
 from helpers.six_blocks import RICH, six_blocks
-from helpers.verified import UNVERIFIED, differing, wrong
+from helpers.verified import differing, wrong
+from helpers.writings import UNVERIFIED
 from hypothesis import given, strategies as st
 
 import pitplan

@@ -8,6 +8,7 @@ import pytest
 from conftest import PROJECT, rows
 from helpers.processes import LEACH_AND_MILL, WITH, deposit
 from helpers.verified import differing
+from helpers.writings import PLAIN, UNVERIFIED
 from hypothesis import given, strategies as st
 
 import pitplan
@@ -131,7 +132,7 @@ def test_the_process_of_a_block_by_hand(plan_folder, grade, process, ore):
     """Of 0.2 % leach gains 640 - 300, the mill 1440 - 1300; 0.05 % pay nowhere. Digging is demanded."""
     table = rows(1, 1, 2, cu=lambda i, j, k: 0 if k else grade, must=lambda i, j, k: 1 - k)
     path = plan_folder(table, PROJECT + '[constraints]\nmust_mine = "must"\n', *WITH)
-    shell = pitplan.write_shells(path).set_index("revenue_factor").loc[1.0]
+    shell = pitplan.write_shells(path, writing=PLAIN).set_index("revenue_factor").loc[1.0]
     blocks = pd.read_csv(path.parent / "plan" / "tables/blocks.csv", keep_default_na=False).set_index("name")
     assert blocks["process"].tolist() == ["", process] and shell["feed_tonnes"] == ore
     assert {name: shell[f"feed_tonnes_{name}"] for name in ("leach", "mill")} == {
@@ -142,7 +143,7 @@ def test_the_process_of_a_block_by_hand(plan_folder, grade, process, ore):
 def test_worth_by_hand_at_each_factor(plan_folder):
     """Two blocks are dug for 400. At 0.3 leaching 768 - 300 is worth more than milling 1728 - 1300, at 0.5 milling 2880 - 1300."""
     path = plan_folder(one_column(), PROJECT, *WITH, ("[0.5, 1.0, 1.5]", "[0.27, 0.3, 0.5, 1.0]"))
-    shells = pitplan.write_shells(path).set_index("revenue_factor")
+    shells = pitplan.write_shells(path, writing=PLAIN).set_index("revenue_factor")
     assert [float(worth) for worth in shells["value_at_revenue_factor"]] == [0, 768 - 700, 2880 - 1700, 5760 - 1700]
     assert shells["undiscounted_cash_flow"].tolist() == [0, 4060, 4060, 4060] and shells[
         "processed_at_revenue_factor"
@@ -163,7 +164,7 @@ MORE = [
 
 def solved(plan_folder):
     path = plan_folder(deposit(), PROJECT, *MORE)
-    pitplan.write_shells(path, writing=pitplan.Writing(verifies=False))
+    pitplan.write_shells(path, writing=UNVERIFIED)
     return path.parent / "plan"
 
 
@@ -269,7 +270,7 @@ def test_a_mine_that_waits_for_each_process_is_found(plan_folder, monkeypatch):
     waits = ore_kinds.OreKinds.waits
     monkeypatch.setattr(ore_kinds.OreKinds, "waits", lambda self, settings: waits(self, settings)[-1:])
     path = plan_folder(deposit(), PROJECT, *MORE, ("capacity = 300", "capacity = 2"))
-    pitplan.write_shells(path, writing=pitplan.Writing(verifies=False))
+    pitplan.write_shells(path, writing=UNVERIFIED)
     assert differing(path.parent / "plan", "years")
 
 
@@ -277,11 +278,11 @@ def test_a_mine_that_waits_for_each_process_is_found(plan_folder, monkeypatch):
 def test_a_leach_beside_the_mill_never_lowers_the_npv(plan_folder, capacity):
     """A mine may leave a small process idle, and need not wait for it."""
     path = plan_folder(deposit(), PROJECT, *MORE, ("capacity = 300", f"capacity = {capacity}"))
-    both = pitplan.write_shells(path).set_index("revenue_factor")
+    both = pitplan.write_shells(path, writing=PLAIN).set_index("revenue_factor")
     leach = LEACH_AND_MILL.split("[[processes]]")[1]
-    alone = pitplan.write_shells(plan_folder(deposit(), PROJECT, *MORE, ("[[processes]]" + leach, ""))).set_index(
-        "revenue_factor"
-    )
+    alone = pitplan.write_shells(
+        plan_folder(deposit(), PROJECT, *MORE, ("[[processes]]" + leach, "")), writing=PLAIN
+    ).set_index("revenue_factor")
     assert both["npv_best"].max() >= alone["npv_best"].max() - 0.01
     assert both["npv_worst"].max() >= alone["npv_worst"].max() - 0.01
 
@@ -290,15 +291,17 @@ def test_a_process_twice_with_half_of_the_capacity_is_one_process(plan_folder):
     mill = LEACH_AND_MILL.split("[[processes]]")[2].removesuffix("[slopes]\n")
     half = mill.replace("capacity = 100", "capacity = 50")
     twice = ("[[processes]]" + mill, "[[processes]]" + half + "[[processes]]" + half.replace('"mill"', '"other"'))
-    once = pitplan.write_shells(plan_folder(deposit(), PROJECT, *MORE)).set_index("revenue_factor")
-    found = pitplan.write_shells(plan_folder(deposit(), PROJECT, *MORE, twice)).set_index("revenue_factor")
+    once = pitplan.write_shells(plan_folder(deposit(), PROJECT, *MORE), writing=PLAIN).set_index("revenue_factor")
+    found = pitplan.write_shells(plan_folder(deposit(), PROJECT, *MORE, twice), writing=PLAIN).set_index(
+        "revenue_factor"
+    )
     for name in ("npv_best", "npv_worst", "years"):
         assert found[name].tolist() == pytest.approx(once[name].tolist())
 
 
 def test_pushbacks_and_schedules_keep_to_the_capacities(plan_folder):
     text = "[pushbacks]\ncount = 2\n[schedule]\nbench_lag = 1\nramp_up = [0.5, 1.0]\n[shells]"
-    ways = write_schedule(plan_folder(deposit(), PROJECT, *MORE, ("[shells]", text)))
+    ways = write_schedule(plan_folder(deposit(), PROJECT, *MORE, ("[shells]", text)), writing=PLAIN)
     assert ways["method"].tolist() == ["rule", "lp"] and (ways["optimality_gap"] >= -1e-9).all()
 
 

@@ -12,7 +12,7 @@ from helpers.flows import complete_optimum, mine_of, mines, model_of, processes,
 from helpers.programmes import limits
 from helpers.pushbacks import UPRIGHT, with_pushbacks
 from helpers.random_tests import examples
-from helpers.verified import UNVERIFIED
+from helpers.writings import UNVERIFIED, UNVERIFIED_REPORT
 from hypothesis import given, strategies as st
 
 import pitplan
@@ -129,7 +129,7 @@ def project_of(place, words, text=TEXT, **more):
 @pytest.fixture(scope="module")
 def written(tmp_path_factory):
     project = project_of(tmp_path_factory.mktemp("mine") / "mine", STOCKED)
-    pitplan.write_schedule(project, writing=UNVERIFIED, certificate=True)
+    pitplan.write_schedule(project, writing=UNVERIFIED_REPORT, certificate=True)
     return project.folder.parent
 
 

@@ -8,6 +8,7 @@ import pytest
 from conftest import PROJECT, rows
 from helpers.pushbacks import POOR, RICH, UPRIGHT, blocks_of, floor, square, with_pushbacks, wrong
 from helpers.random_tests import examples
+from helpers.writings import PLAIN
 from hypothesis import given, strategies as st
 
 import pitplan
@@ -23,7 +24,7 @@ def pushed(plan_folder, table, words, text=PROJECT):
     """The pushbacks, of the pit of revenue factor 1.00 unless the words name another, with each block's pushback and the notes of widths."""
     words += "" if "ultimate_pit" in words or "factors" in words else "\nultimate_pit = 1.0"
     project = load(plan_folder(table, with_pushbacks(words, text)))
-    found = pitplan.write_pushbacks(project).set_index("pushback")
+    found = pitplan.write_pushbacks(project, writing=PLAIN).set_index("pushback")
     notes = [
         note
         for note in read_record(project.folder / "pushbacks")["notes"]
@@ -103,7 +104,7 @@ def test_a_pushback_that_hardly_keeps_anything_is_told(plan_folder):
     rich = square(2, 2, 4)
     table = rows(10, 10, 1, cu=lambda i, j, k: RICH if (i, j) in rich else 0.6 if (i, j) in square(1, 1, 6) else 0)
     project = load(plan_folder(table, with_pushbacks("revenue_factors = [0.4, 1.0]\nmin_mining_width = 30", PROJECT)))
-    assert pitplan.write_pushbacks(project)["blocks"].tolist() == [0, 36]
+    assert pitplan.write_pushbacks(project, writing=PLAIN)["blocks"].tolist() == [0, 36]
     told = "WARNING: at this width pushback 1 keeps 0 of 1,600 t of its shell; reduce the number or width of pushbacks"
     assert told in read_record(project.folder / "pushbacks")["notes"]
 
@@ -237,7 +238,7 @@ def divided(tmp_path_factory):
     (place / "project.toml").write_text(
         with_pushbacks("revenue_factors = [0.4, 1.5]\nmin_mining_width = 20\nmin_bottom_width = 20", PROJECT)
     )
-    pitplan.write_pushbacks(place / "project.toml")
+    pitplan.write_pushbacks(place / "project.toml", writing=PLAIN)
     return place
 
 
@@ -288,7 +289,7 @@ def test_a_bottom_that_is_wide_by_a_later_pushback_alone_is_found(plan_folder):
         plan_folder(floor(grades), with_pushbacks("revenue_factors = [0.4, 1.5]\nmin_bottom_width = 20", PROJECT))
     )
     # Above the second square a block of pushback 2 lies between one of pushback 1 and the ground.
-    assert pitplan.write_pushbacks(project)["min_width"].tolist() == [20, 10]
+    assert pitplan.write_pushbacks(project, writing=PLAIN)["min_width"].tolist() == [20, 10]
     folder = project.folder / "pushbacks"
     table = pd.read_csv(folder / "tables/blocks.csv")
     table.loc[table["name"] == "b4-2-0", "pushback"] = 2

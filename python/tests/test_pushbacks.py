@@ -8,7 +8,7 @@ import pytest
 from conftest import PROJECT, rows
 from helpers.pushbacks import GRADES, UPRIGHT, blocks_of, pillars, with_pushbacks, wrong
 from helpers.random_tests import examples
-from helpers.verified import UNVERIFIED
+from helpers.writings import PLAIN, REPORTED, UNVERIFIED
 from hypothesis import given, strategies as st
 
 import pitplan
@@ -22,7 +22,7 @@ from pitplan.results.folder import read_record
 def test_three_shells_of_like_tonnage_are_three_pushbacks(plan_folder):
     """The greatest factors whose shells have 200 and 400 of 600 t are 0.5 and 0.7."""
     project = load(plan_folder(pillars(), with_pushbacks("count = 3")))
-    table = pitplan.write_pushbacks(project).set_index("pushback")
+    table = pitplan.write_pushbacks(project, writing=PLAIN).set_index("pushback")
     assert table.index.tolist() == [1, 2, 3] and table["revenue_factor"].tolist() == [0.5, 0.7, 1.0]
     assert table["blocks"].tolist() == [2, 2, 2] and table["tonnes"].tolist() == [200, 200, 200]
     assert table["feed_tonnes"].tolist() == [100, 100, 100] and table["strip_ratio"].tolist() == [1, 1, 1]
@@ -70,7 +70,7 @@ def test_three_shells_of_like_tonnage_are_three_pushbacks(plan_folder):
 )
 def test_what_is_asked_for_by_count_tonnes_and_factors(plan_folder, words, factors, told):
     project = load(plan_folder(pillars(), with_pushbacks(words)))
-    assert pitplan.write_pushbacks(project)["revenue_factor"].tolist() == factors
+    assert pitplan.write_pushbacks(project, writing=PLAIN)["revenue_factor"].tolist() == factors
     notes = read_record(project.folder / "pushbacks")["notes"]
     found = [
         note
@@ -126,7 +126,7 @@ def test_fixed_blocks_are_in_the_first_pushback_and_in_none(plan_folder):
     table = pillars(must=lambda i, j, k: int((i, k) == (2, 0)), never=lambda i, j, k: int((i, k) == (0, 1)))
     text = with_pushbacks("count = 2") + '[constraints]\nmust_mine = "must"\nexclude = "never"\n'
     project = load(plan_folder(table, text))
-    assert pitplan.write_pushbacks(project)["blocks"].tolist() == [2, 2]
+    assert pitplan.write_pushbacks(project, writing=PLAIN)["blocks"].tolist() == [2, 2]
     said = blocks_of(project.folder / "pushbacks")["pushback"]
     assert said.to_dict() == {f"b{i}-0-{k}": [0, 2, 1][i] for i in range(3) for k in range(2)}
 
@@ -145,10 +145,10 @@ def test_the_last_pushback_ends_with_the_shell_that_is_selected(plan_folder):
     of best and worst case falls, and shells selects the two pillars of a lesser factor."""
     table = rows(3, 1, 2, cu=lambda i, j, k: 0 if k else [1, 0.7, 0.355][i])
     path = plan_folder(table, with_pushbacks("count = 2", UPRIGHT.replace("[0.5, 1.0, 1.5]", "[0.5, 0.8, 1.0, 1.5]")))
-    pitplan.write_shells(path)
+    pitplan.write_shells(path, writing=PLAIN)
     selected = read_record(path.parent / "plan")["shells"]["selected"]
     assert selected == 0.8
-    assert pitplan.write_pushbacks(path)["revenue_factor"].tolist() == [0.5, 0.8]
+    assert pitplan.write_pushbacks(path, writing=PLAIN)["revenue_factor"].tolist() == [0.5, 0.8]
     record = read_record(path.parent / "plan" / "pushbacks")
     assert record["shells"]["selected"] == 0.8
     assert (
@@ -160,7 +160,7 @@ def test_the_last_pushback_ends_with_the_shell_that_is_selected(plan_folder):
         with_pushbacks("count = 3\nultimate_pit = 1.0"),
         with_pushbacks("count = 3").replace("discount_rate = 0.1", "discount_rate = 0.1\nselected = 1.0"),
     ):
-        assert pitplan.write_pushbacks(plan_folder(table, change))["revenue_factor"].iloc[-1] == 1.0
+        assert pitplan.write_pushbacks(plan_folder(table, change), writing=PLAIN)["revenue_factor"].iloc[-1] == 1.0
 
 
 def test_where_no_shell_pays_the_last_pushback_is_that_of_the_price_as_given(plan_folder):
@@ -169,16 +169,16 @@ def test_where_no_shell_pays_the_last_pushback_is_that_of_the_price_as_given(pla
         "[0.5, 1.0, 1.5]", "[0.1, 0.5, 1.0, 1.5]"
     )
     path = plan_folder(pillars(), with_pushbacks("count = 2", costs))
-    assert pitplan.write_pushbacks(path)["revenue_factor"].iloc[-1] == 1.0
+    assert pitplan.write_pushbacks(path, writing=PLAIN)["revenue_factor"].iloc[-1] == 1.0
     told = "WARNING: no shell has an NPV above 0; the last pushback ends at the shell of revenue factor 1.00"
     assert told in read_record(path.parent / "plan" / "pushbacks")["notes"]
-    ways = pitplan.write_schedule(path).set_index("method")
+    ways = pitplan.write_schedule(path, writing=PLAIN).set_index("method")
     assert ways.loc["lp", ["npv", "tonnes", "years"]].tolist() == [0, 0, 0]
 
 
 def test_an_empty_pit_is_refused(plan_folder, capsys):
     path = plan_folder(pillars(), with_pushbacks("count = 2\nultimate_pit = 0.3"))
-    assert main(["pushbacks", str(path), "--quiet"]) == 1
+    assert main(["pushbacks", str(path), "--quiet", "--no-figures"]) == 1
     assert "[pushbacks] the pit of revenue factor 0.30 is empty" in capsys.readouterr().err
     assert not (path.parent / "plan" / "pushbacks" / "tables/pushbacks.csv").exists()
 
@@ -209,13 +209,13 @@ def test_an_empty_pit_is_refused(plan_folder, capsys):
 )
 def test_what_is_refused(plan_folder, words, said):
     with pytest.raises(PlanError) as error:
-        pitplan.write_pushbacks(plan_folder(pillars(), with_pushbacks(words)))
+        pitplan.write_pushbacks(plan_folder(pillars(), with_pushbacks(words)), writing=PLAIN)
     assert said in str(error.value) and "project.toml" in str(error.value)
 
 
 def test_a_project_that_asks_for_no_pushbacks_is_told_so(plan_folder):
     with pytest.raises(PlanError, match="project.toml: .pushbacks. is missing"):
-        pitplan.write_pushbacks(plan_folder(pillars(), UPRIGHT))
+        pitplan.write_pushbacks(plan_folder(pillars(), UPRIGHT), writing=PLAIN)
 
 
 def random_table(seed):
@@ -233,7 +233,7 @@ def test_pushbacks_of_random_mines_are_closed_nested_and_even(tmp_path_factory, 
     (place / "project.toml").write_text(with_pushbacks("count = 3\nultimate_pit = 1.5", PROJECT))
     project = load(place / "project.toml")
     try:
-        table = pitplan.write_pushbacks(project)
+        table = pitplan.write_pushbacks(project, writing=PLAIN)
     except PlanError as error:
         assert "is empty" in str(error)
         return
@@ -258,7 +258,7 @@ def divided(tmp_path_factory):
     (place / "project.toml").write_text(
         with_pushbacks("count = 3", PROJECT) + '[constraints]\nmust_mine = "must"\nexclude = "never"\n'
     )
-    pitplan.write_pushbacks(place / "project.toml")
+    pitplan.write_pushbacks(place / "project.toml", writing=REPORTED)
     return place
 
 
@@ -347,7 +347,7 @@ def test_a_last_pushback_beyond_the_base_price_is_found(divided, tmp_path):
     path = shutil.copytree(divided, tmp_path / "mine", ignore=shutil.ignore_patterns("plan")) / "project.toml"
     text = path.read_text()
     path.write_text(text.replace("count = 3", "count = 3\nultimate_pit = 1.5"))
-    pitplan.write_pushbacks(path, writing=pitplan.Writing(verifies=False))
+    pitplan.write_pushbacks(path, writing=UNVERIFIED)
     path.write_text(text)
     (rule,) = wrong(path.parent / "plan" / "pushbacks").values()
     assert rule.name == "pushback of blocks"
@@ -367,13 +367,13 @@ def test_nothing_is_written_where_a_pushback_is_wrong(plan_folder, monkeypatch):
     monkeypatch.setattr(nested.Pushbacks, "blocks", wrong)
     project = load(plan_folder(pillars(), with_pushbacks("count = 3")))
     with pytest.raises(PlanError, match="verification failed"):
-        pitplan.write_pushbacks(project)
+        pitplan.write_pushbacks(project, writing=PLAIN)
     assert not (project.folder / "pushbacks" / "tables/pushbacks.csv").exists()
 
 
 def test_a_column_that_is_called_pushback_is_kept(plan_folder):
     text = with_pushbacks("count = 3").replace('rock_type = "rock"', 'rock_type = "pushback"')
     project = load(plan_folder(pillars().rename(columns={"rock": "pushback"}), text))
-    pitplan.write_pushbacks(project)
+    pitplan.write_pushbacks(project, writing=PLAIN)
     blocks = blocks_of(project.folder / "pushbacks")
     assert sorted(set(blocks["pushback"])) == [1, 2, 3] and set(blocks["planner_pushback"]) == {"R"}

@@ -6,7 +6,7 @@ import numpy as np
 import pandas as pd
 import pytest
 from conftest import PROJECT, rows
-from helpers.verified import UNVERIFIED
+from helpers.writings import PLAIN, UNVERIFIED
 
 import pitplan
 from pitplan import PlanError, crop, verify
@@ -128,7 +128,7 @@ def wrong(path):
     return {rule.name: rule.differences for rule in verify(path.parent / "plan") if rule.differences}
 
 
-def test_the_second_look_agrees(plan_folder, few, without_figures):
+def test_the_second_look_agrees(plan_folder, few):
     path = plan_folder(deposit(), PROJECT, ANGLES)
     pitplan.write_shells(path, writing=UNVERIFIED)
     assert wrong(path) == {}
@@ -136,9 +136,9 @@ def test_the_second_look_agrees(plan_folder, few, without_figures):
     assert len(pd.read_csv(path.parent / "plan" / "tables/blocks.csv")) < 1000
 
 
-def test_a_table_written_back_has_no_factor_where_it_was_left_out(plan_folder, few, without_figures):
+def test_a_table_written_back_has_no_factor_where_it_was_left_out(plan_folder, few):
     path = plan_folder(deposit(), PROJECT, ANGLES)
-    pitplan.write_shells(path)
+    pitplan.write_shells(path, writing=PLAIN)
     blocks = pd.read_csv(path.parent / "plan" / "tables/blocks.csv").set_index("name")
     after = pd.read_csv(pitplan.write_export(path.parent / "plan", "table")).set_index("name")
     assert after.index.tolist() == deposit()["name"].tolist()
@@ -153,24 +153,24 @@ def narrower(used, grid):
 box_of = crop.box_of
 
 
-def test_ground_that_shells_need_and_is_left_out_is_found(plan_folder, few, monkeypatch, without_figures):
+def test_ground_that_shells_need_and_is_left_out_is_found(plan_folder, few, monkeypatch):
     path = plan_folder(deposit(), PROJECT, ANGLES)
     monkeypatch.setattr(crop, "box_of", narrower)
-    pitplan.write_shells(path, writing=pitplan.Writing(verifies=False))
+    pitplan.write_shells(path, writing=UNVERIFIED)
     assert "depends on ground that was removed" in wrong(path)["crop"][0]
 
 
-def test_ore_that_is_left_out_is_found(plan_folder, few, monkeypatch, without_figures):
+def test_ore_that_is_left_out_is_found(plan_folder, few, monkeypatch):
     path = plan_folder(deposit().assign(cu=lambda it: it["cu"].mask(it["name"] == "b20-15-7", 20.0)), PROJECT, ANGLES)
     can_pay = crop.can_pay
     monkeypatch.setattr(crop, "can_pay", lambda model, project: can_pay(model, project)[:2])
-    pitplan.write_shells(path, writing=pitplan.Writing(verifies=False))
+    pitplan.write_shells(path, writing=UNVERIFIED)
     assert wrong(path)["crop"] == ("block b20-15-7 was removed, and pays at revenue factor 1.50",)
 
 
-def test_a_table_that_has_changed_where_it_was_left_out_is_found(plan_folder, few, without_figures):
+def test_a_table_that_has_changed_where_it_was_left_out_is_found(plan_folder, few):
     path = plan_folder(deposit(), PROJECT, ANGLES)
-    pitplan.write_shells(path)
+    pitplan.write_shells(path, writing=PLAIN)
     file = path.parent / "blocks.csv"
     table = pd.read_csv(file)
     table[table["name"] != "b20-15-7"].to_csv(file, index=False)
@@ -182,7 +182,7 @@ ABSENT = ('file = "blocks.csv"', 'file = "blocks.csv"\nmissing_blocks = { tonnes
 
 
 @pytest.mark.parametrize("change", [('file = "blocks.csv"', 'file = "blocks.csv"\nreblock = [2, 1, 1]'), ABSENT])
-def test_rows_that_are_put_together_and_cells_without_rows(plan_folder, monkeypatch, without_figures, change):
+def test_rows_that_are_put_together_and_cells_without_rows(plan_folder, monkeypatch, change):
     """A block of the floor and one in the ground have no row."""
     monkeypatch.setattr(pitplan.blockmodel.grid, "MOST_BLOCKS", 1500)
     table = deposit()

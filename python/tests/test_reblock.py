@@ -6,7 +6,7 @@ import numpy as np
 import pandas as pd
 import pytest
 from conftest import PROJECT, rows
-from helpers.verified import UNVERIFIED
+from helpers.writings import UNVERIFIED
 
 import pitplan
 from pitplan import PlanError, verify
@@ -165,7 +165,7 @@ FIXED = '[constraints]\nmust_mine = "must"\nexclude = "never"\n'
 def solved_hill(plan_folder):
     def solve():
         path = plan_folder(hill(), PROJECT + FIXED, ('file = "blocks.csv"', 'file = "blocks.csv"\nreblock = [2, 2, 2]'))
-        pitplan.write_shells(path, writing=pitplan.Writing(verifies=False))
+        pitplan.write_shells(path, writing=UNVERIFIED)
         return path.parent / "plan"
 
     return solve

@@ -9,7 +9,7 @@ import pandas as pd
 import pytest
 from conftest import ROOT
 from helpers.documentation import blocks, commands
-from helpers.verified import UNVERIFIED
+from helpers.writings import UNVERIFIED
 
 import pitplan
 from pitplan.cli import main
@@ -76,7 +76,8 @@ def answered(subcommand, words, place):
     """The output folder of a command on the hill's project in a folder."""
     file, *more = words
     assert file == "project.toml"
-    assert main([subcommand, str(place / file), *more, "--out", str(place / "out"), "--quiet"]) == 0
+    bare = ["--no-figures"] if subcommand in ("shells", "pushbacks", "schedule", "sensitivity", "scenarios") else []
+    assert main([subcommand, str(place / file), *more, "--out", str(place / "out"), "--quiet", *bare]) == 0
     return place / "out"
 
 

@@ -7,6 +7,7 @@ from fractions import Fraction
 import numpy as np
 import pytest
 from conftest import PROJECT, rows
+from helpers.writings import PLAIN, UNVERIFIED
 from hypothesis import given, strategies as st
 
 import pitplan
@@ -131,7 +132,7 @@ def wrong(path):
 
 
 def test_the_second_look_agrees(plan_folder):
-    pitplan.write_shells(plan_folder(deposit(), PROJECT, *TEXT))
+    pitplan.write_shells(plan_folder(deposit(), PROJECT, *TEXT), writing=PLAIN)
 
 
 def at_own_grade(recovery, rock, head):
@@ -149,7 +150,7 @@ of_rows = weighing.of_rows
 def test_a_recovery_at_another_grade_or_rounded_otherwise_is_found(plan_folder, monkeypatch, name, planted):
     path = plan_folder(deposit(), PROJECT, *TEXT)
     monkeypatch.setattr(weighing, name, planted)
-    pitplan.write_shells(path, writing=pitplan.Writing(verifies=False))
+    pitplan.write_shells(path, writing=UNVERIFIED)
     assert "money" in wrong(path)
 
 
@@ -165,7 +166,7 @@ def test_a_tail_that_is_passed_over_is_found(plan_folder, monkeypatch):
         )
 
     monkeypatch.setattr(block_values, "values_of", without)
-    pitplan.write_shells(path, writing=pitplan.Writing(verifies=False))
+    pitplan.write_shells(path, writing=UNVERIFIED)
     assert "money" in wrong(path)
 
 

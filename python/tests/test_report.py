@@ -15,6 +15,7 @@ import pytest
 from browser import Browser, needs_chromium
 from conftest import PROJECT, rows
 from helpers.blank_figures import blank_figures
+from helpers.writings import UNVERIFIED_REPORT
 
 import pitplan
 from pitplan import PlanError, verify
@@ -271,7 +272,7 @@ def test_the_report_is_made_anew_with_a_sensitivity_of_the_same_inputs(copied, c
 def test_a_sensitivity_of_other_inputs_is_left_out_and_refused_where_it_is_asked_for(copied):
     project = copied / "project.toml"
     project.write_text(project.read_text().replace("mining_cost = 2", "mining_cost = 3"))
-    pitplan.write_shells(project, writing=pitplan.Writing(verifies=False))
+    pitplan.write_shells(project, writing=UNVERIFIED_REPORT)
     page = (copied / "plan" / "report.html").read_text()
     assert (
         "is a sensitivity of other inputs (project.toml), and is left out here." in page

@@ -7,11 +7,10 @@ import pandas as pd
 import pytest
 from conftest import PROJECT, rows
 from helpers import worked_cash_flow
+from helpers.writings import UNVERIFIED_REPORT
 
 import pitplan
 from pitplan.report.statements import WrittenTable, of_money, physicals
-
-PLAIN = pitplan.Writing(figures=False, verifies=False)
 
 
 class Page(HTMLParser):
@@ -55,7 +54,7 @@ def worked(tmp_path_factory):
     place = tmp_path_factory.mktemp("statements")
     worked_cash_flow.table().to_csv(place / "blocks.csv", index=False)
     (place / "project.toml").write_text(worked_cash_flow.TEXT + worked_cash_flow.MONEY)
-    pitplan.write_schedule(place / "project.toml", writing=PLAIN)
+    pitplan.write_schedule(place / "project.toml", writing=UNVERIFIED_REPORT)
     folder = place / "plan" / "schedule"
     return folder, Page((folder / "report.html").read_text())
 
@@ -177,7 +176,7 @@ def test_ore_is_summed_by_class_and_inferred_feed_is_apart(tmp_path):
     varied = {"cu": lambda i, j, k: GRADES.get((i, j, k), 0), "cls": lambda i, j, k: CLASSES.get((i, j), "indicated")}
     rows(11, 9, 4, **varied).to_csv(tmp_path / "blocks.csv", index=False)
     (tmp_path / "project.toml").write_text(text)
-    pitplan.write_block_schedule(tmp_path / "project.toml", writing=PLAIN)
+    pitplan.write_block_schedule(tmp_path / "project.toml", writing=UNVERIFIED_REPORT)
     page = Page((tmp_path / "plan/block_schedule/report.html").read_text())
     head, *lines = page.table("Mill feed of the schedule")
     assert [text for text, _ in head] == [

@@ -11,7 +11,7 @@ from helpers.block_commands import YEARLY, scheduled
 from helpers.block_scenarios import prepared as prepared_by_block, solved_in_turn as solved_by_block
 from helpers.pushbacks import UPRIGHT, pillars, with_pushbacks, wrong
 from helpers.scenarios import COLUMNS, UPRIGHT as UPRIGHT_CHANGE, prepared, solved_in_turn
-from helpers.verified import UNVERIFIED
+from helpers.writings import PLAIN, UNVERIFIED
 
 import pitplan
 from pitplan import PlanError, verify
@@ -38,7 +38,7 @@ def shaft(middle=0.4, **more):
 
 
 def shells_of(path):
-    pitplan.write_shells(path)
+    pitplan.write_shells(path, writing=PLAIN)
     return pd.read_csv(path.parent / "plan/tables/shells.csv").set_index("revenue_factor")
 
 
@@ -279,7 +279,7 @@ def test_pits_and_pushbacks_have_mineralised_waste(plan_folder):
 def test_a_schedule_processes_no_inferred_ore(plan_folder):
     table = pillars(cls=lambda i, j, k: ("measured", "inferred", "indicated")[i])
     path = plan_folder(table, with_pushbacks("count = 2", UPRIGHT.replace(*CLASS)))
-    pitplan.write_schedule(path)
+    pitplan.write_schedule(path, writing=PLAIN)
     methods = pd.read_csv(path.parent / "plan/schedule/tables/methods.csv")
     assert set(methods["feed_tonnes"]) == {200.0} and set(methods["recovered_copper"]) == {0.75}
 
@@ -287,7 +287,7 @@ def test_a_schedule_processes_no_inferred_ore(plan_folder):
 def test_sensitivity_keeps_to_the_classes(plan_folder):
     """At twice the price the poor block would pay for its processing at 0.2 %."""
     text = UPRIGHT.replace(*CLASS) + '[sensitivity]\nchanges = [1]\nparameters = ["price"]\n'
-    table = pitplan.write_sensitivity(plan_folder(shaft(0.2), text, ("[0.5, 1.0, 1.5]", "[1.0]")))
+    table = pitplan.write_sensitivity(plan_folder(shaft(0.2), text, ("[0.5, 1.0, 1.5]", "[1.0]")), writing=PLAIN)
     assert table[MINERALISED].tolist() == [0, 100]
     assert table["undiscounted_cash_flow"].tolist() == [12_000 - 1600, 24_000 - 1600]
 
@@ -320,10 +320,10 @@ def test_another_treatment_is_another_key_of_scenarios(plan_folder):
 
 def test_inferred_ore_that_is_processed_is_found(plan_folder, monkeypatch):
     path = plan_folder(shaft(), UPRIGHT.replace(*CLASS))
-    pitplan.write_shells(path)
+    pitplan.write_shells(path, writing=PLAIN)
     monkeypatch.setattr(resource_classes, "waste_of", lambda *_: None)
     with pytest.raises(PlanError, match="block b0-0-1: revenue 1600 for 0"):
-        pitplan.write_shells(path)
+        pitplan.write_shells(path, writing=PLAIN)
 
 
 @pytest.mark.parametrize(("factor", "said"), [(0.0, "0 for 100"), (1.5, "100 for 0")])
@@ -332,12 +332,12 @@ def test_other_mineralised_waste_is_found(plan_folder, monkeypatch, factor, said
     own = Values.mineralised_waste
     monkeypatch.setattr(Values, "mineralised_waste", lambda values, _: own(values, factor))
     with pytest.raises(PlanError, match=f"shells: revenue factor .*{MINERALISED} {said}"):
-        pitplan.write_shells(plan_folder(shaft(), UPRIGHT.replace(*CLASS)))
+        pitplan.write_shells(plan_folder(shaft(), UPRIGHT.replace(*CLASS)), writing=PLAIN)
 
 
 def test_another_class_in_the_results_is_found(plan_folder):
     path = plan_folder(shaft(), UPRIGHT.replace(*CLASS))
-    pitplan.write_shells(path)
+    pitplan.write_shells(path, writing=PLAIN)
     file = path.parent / "plan/tables/blocks.csv"
     file.write_text(file.read_text().replace("inferred", "measured"))
     assert any(
@@ -348,7 +348,7 @@ def test_another_class_in_the_results_is_found(plan_folder):
 def test_the_project_as_run_has_the_classes(plan_folder):
     text = ruled(UPRIGHT, '"" = "ore"', '3 = "refuse"', 'a-b = "waste"')
     path = plan_folder(shaft(), text)
-    pitplan.write_shells(path)
+    pitplan.write_shells(path, writing=PLAIN)
     again = pitplan.load(path.parent / "plan/project-as-run.toml")
     assert again.classes == pitplan.load(path).classes == ClassRules({"": "ore", "3": "refuse", "a-b": "waste"})
     assert again.table.resource_class == "cls"
@@ -372,7 +372,7 @@ def test_a_frame_has_classes(plan_folder):
 def test_a_block_of_waste_adds_no_metal_to_a_schedule_by_block(plan_folder):
     """Whatever share of it a schedule sends to the mill."""
     path = plan_folder(shaft(), UPRIGHT.replace(*CLASS))
-    pitplan.write_shells(path)
+    pitplan.write_shells(path, writing=PLAIN)
     answer = answers.read(path.parent / "plan")
     whole = limits.quantity(answer, 0, [("", np.ones(3))])
     assert dict(zip(answer.rows["cls"] + answer.rows["cu"].astype(str), whole)) == {

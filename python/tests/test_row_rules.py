@@ -292,7 +292,7 @@ def test_realisations_have_null_codes_and_rows_that_are_left_out(plan_folder, tm
         model.loc[model["cu"] == 0, "cu"] = -99
         model.loc[32 + number, "cu"] = 2.0 * number
         model.to_csv(tmp_path / "models" / f"m{number}.csv", index=False)
-    assert main(["scenarios", str(path), "--quiet", "--no-figures"]) == 0
+    assert main(["scenarios", str(path), "--workers", "1", "--quiet", "--no-figures"]) == 0
 
 
 def test_the_planners_table_comes_back_with_all_of_its_rows(plan_folder, tmp_path):

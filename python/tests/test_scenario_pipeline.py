@@ -8,7 +8,7 @@ import pandas as pd
 import pytest
 from conftest import PROJECT, rows
 from helpers.random_tests import examples
-from helpers.verified import UNVERIFIED
+from helpers.writings import PLAIN, UNVERIFIED
 from hypothesis import HealthCheck, given, strategies as st
 
 import pitplan
@@ -442,7 +442,7 @@ def test_what_is_prepared_wrongly_is_found(plan_folder, tmp_path, monkeypatch, p
     for scenario in shared.scenarios:
         assert worker.solve(str(shared.folder), scenario.number).status == 0
     monkeypatch.undo()
-    pitplan.gather(shared.folder, writing=pitplan.Writing(verifies=False, figures=False))
+    pitplan.gather(shared.folder, writing=UNVERIFIED)
     assert {rule.name for rule in verify(shared.folder) if rule.differences} == found
 
 
@@ -452,7 +452,7 @@ def test_grades_that_are_kept_of_other_blocks_are_found(plan_folder):
     shared = prepared(path)
     for scenario in shared.scenarios:
         assert worker.solve(str(shared.folder), scenario.number).status == 0
-    pitplan.gather(shared.folder)
+    pitplan.gather(shared.folder, writing=PLAIN)
     file = shared.folder / "realisations" / f"{shared.scenarios[1].grades}.npy"
     grades = np.load(file)
     row = int(np.flatnonzero(grades[:, 0] == 0)[0]) if (grades[:, 0] == 0).any() else 0
@@ -493,5 +493,5 @@ def test_blocks_that_are_left_as_mined_wrongly_are_found(plan_folder, tmp_path, 
     for scenario in shared.scenarios:
         assert worker.solve(str(shared.folder), scenario.number).status == 0
     monkeypatch.undo()
-    pitplan.gather(shared.folder, writing=pitplan.Writing(verifies=False, figures=False))
+    pitplan.gather(shared.folder, writing=UNVERIFIED)
     assert "constraints" in {rule.name for rule in verify(shared.folder) if rule.differences}

@@ -15,6 +15,7 @@ from conftest import PROJECT, rows
 from helpers.random_tests import examples
 from helpers.scenarios import COLUMNS, MODELS, PRICES, UPRIGHT, hill, pillar, prepared, solved_in_turn, write_models
 from helpers.shells import BOX, CLOSED, best_by_trying
+from helpers.writings import PLAIN
 from hypothesis import given, strategies as st
 
 import pitplan
@@ -291,7 +292,7 @@ def test_what_went_wrong_is_told_by_status(plan_folder, monkeypatch):
     monkeypatch.setattr(dask_pool, "run", lambda *_: ended)
     project = load(plan_folder(pillar(), COLUMNS))
     with pytest.raises(PlanError) as said:
-        pitplan.write_scenarios(project, project.folder)
+        pitplan.write_scenarios(project, project.folder, Request(workers=0), writing=PLAIN)
     assert str(said.value) == (
         "1 solved (status 0); 1 out of budget (status 3): sim_2: exhausted; 1 killed repeatedly (status 75): gone: "
         "run again, or gather the others with --partial"
@@ -315,7 +316,7 @@ def test_some_answers_are_gathered_on_request_alone(plan_folder, with_blank_figu
         pitplan.gather(shared.folder, Request(revenue_factor=0.7))
 
 
-def test_pictures_of_scenarios_are_those_that_the_project_asks_for(plan_folder, monkeypatch, with_figures):
+def test_pictures_of_scenarios_are_those_that_the_project_asks_for(plan_folder, monkeypatch):
     """Three blocks over each other: of the three levels the lowest is asked for."""
     shown = []
     monkeypatch.setattr(maps, "write_plans", lambda likely, path: shown.append(likely))
@@ -353,7 +354,7 @@ def test_the_image_has_the_probabilities_of_all_cells(plan_folder):
 def test_lists_of_jobs_are_shell_and_name_what_is_missing(plan_folder, kind):
     path = plan_folder(pillar(), COLUMNS, UPRIGHT)
     assert worker.solve(str(prepared(path).folder), 1).status == 0
-    result = pitplan.write_scenarios(load(path), load(path).folder, Request(where=kind))
+    result = pitplan.write_scenarios(load(path), load(path).folder, Request(where=kind), writing=PLAIN)
     folder = load(path).folder
     assert result.notes[-1] == "1 of 3 scenarios have a result already"
     assert result.start == folder / "start.sh" and (folder / "jobs.txt").read_text() == "2\n3\n"
@@ -439,16 +440,16 @@ def test_a_missing_dask_is_named_by_its_package(plan_folder, monkeypatch):
     project = load(plan_folder(pillar(), COLUMNS))
     monkeypatch.setitem(sys.modules, "distributed", None)
     with pytest.raises(MissingPackage, match="needs the Debian package python3-distributed: apt-get install"):
-        pitplan.write_scenarios(project, project.folder)
+        pitplan.write_scenarios(project, project.folder, Request(workers=0), writing=PLAIN)
     with pytest.raises(PlanError, match="revenue factor 0.70 is not among the revenue factors 0.50, 1.00, 1.50"):
-        pitplan.write_scenarios(project, project.folder, Request(revenue_factor=0.7))
+        pitplan.write_scenarios(project, project.folder, Request(revenue_factor=0.7), writing=PLAIN)
 
 
 def test_a_scheduler_that_is_not_there_is_named(plan_folder):
     pytest.importorskip("distributed", reason="needs the Debian package python3-distributed")
     load(plan_folder(pillar(), COLUMNS))
     with pytest.raises(PlanError, match="nowhere://x: no Dask scheduler answers there"):
-        pitplan.write_scenarios(plan_folder(pillar(), COLUMNS), request=Request("nowhere://x"))
+        pitplan.write_scenarios(plan_folder(pillar(), COLUMNS), request=Request("nowhere://x"), writing=PLAIN)
 
 
 def likely(folder):
@@ -464,7 +465,7 @@ def test_answers_are_gathered_from_the_command_line(plan_folder, capsys):
     shared = prepared(plan_folder(pillar(), COLUMNS, UPRIGHT))
     for number in (1, 3):
         assert worker.solve(str(shared.folder), number).status == 0
-    words = ["gather", str(shared.folder), "--quiet"]
+    words = ["gather", str(shared.folder), "--quiet", "--no-figures"]
     assert main(words) == 1
     assert "1 of 3 scenarios have no result, first sim_2: was not solved" in capsys.readouterr().err
     assert main([*words, "--partial"]) == 0
@@ -481,7 +482,7 @@ def test_answers_are_gathered_from_the_command_line(plan_folder, capsys):
 def test_no_lists_of_jobs_are_written_where_all_is_answered(plan_folder, kind):
     path = plan_folder(pillar(), COLUMNS, UPRIGHT)
     solved_in_turn(prepared(path))
-    result = pitplan.write_scenarios(load(path), load(path).folder, Request(where=kind))
+    result = pitplan.write_scenarios(load(path), load(path).folder, Request(where=kind), writing=PLAIN)
     assert (result.folder, result.start) == (load(path).folder, None)
     assert result.notes[-1] == "3 of 3 scenarios have a result already"
     assert (load(path).folder / "tables/quantiles.csv").exists() and not (load(path).folder / "jobs.txt").exists()
@@ -577,7 +578,7 @@ def test_probabilities_are_told_without_the_image_where_vtk_is_missing(plan_fold
     shared = prepared(plan_folder(pillar(), COLUMNS, UPRIGHT))
     solved_in_turn(shared)
     monkeypatch.setitem(sys.modules, "vtk", None)
-    (note,) = pitplan.gather(shared.folder).notes
+    (note,) = pitplan.gather(shared.folder, writing=PLAIN).notes
     assert note.startswith("probability.vti was not written: ") and "python3-vtk9" in note
     assert (
         likely(shared.folder)[0] == pytest.approx([1 / 3, 1 / 3, 2 / 3], abs=1e-6)

@@ -209,7 +209,7 @@ def test_axes_that_are_too_few_are_refused(schedule):
         schedule_figures.plot_gantt(schedule, [Figure().subplots()])
 
 
-def test_a_workbook_has_a_sheet_a_table(tmp_path, with_workbooks):
+def test_a_workbook_has_a_sheet_a_table(tmp_path):
     openpyxl = pytest.importorskip("openpyxl")
     tables = {
         "methods": pd.DataFrame(

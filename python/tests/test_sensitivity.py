@@ -7,13 +7,12 @@ import numpy as np
 import pandas as pd
 import pytest
 from conftest import PROJECT, files_in, rows
-from helpers.verified import UNVERIFIED
+from helpers.writings import PLAIN, UNVERIFIED
 from matplotlib.figure import Figure
 
 import pitplan
 from pitplan import PlanError, Where, load, verify as verify_folder
 from pitplan.cli import main
-from pitplan.commands.writing import Writing
 from pitplan.figures import sensitivity as charts
 from pitplan.pits import skin
 from pitplan.studies import sensitivity
@@ -46,7 +45,7 @@ def small(plan_folder):
 
 def test_each_number_by_hand(small):
     """What 100 t of the rich block earn in their year, and with the poor one where it pays, in two."""
-    table = by_case(pitplan.write_sensitivity(small("changes = [-0.1, 0.1]")))
+    table = by_case(pitplan.write_sensitivity(small("changes = [-0.1, 0.1]"), writing=PLAIN))
     assert list(table.index.get_level_values(0)) == [
         "",
         *np.repeat(["price", "mining_cost", "processing_cost", "recovery", "capacity"], 2),
@@ -80,7 +79,7 @@ def test_each_number_by_hand(small):
 
 def test_what_the_pit_as_given_earns_stands_beside_it(small):
     """The rich block alone, at the case's numbers."""
-    table = by_case(pitplan.write_sensitivity(small("changes = [-0.1, 0.1]")))
+    table = by_case(pitplan.write_sensitivity(small("changes = [-0.1, 0.1]"), writing=PLAIN))
     kept = table.xs(("", 0.0), level=("second_parameter", "second_change"))["kept_undiscounted_cash_flow"]
     assert kept["price"].tolist() == pytest.approx([20_400, 25_200]) and kept["mining_cost"].tolist() == pytest.approx(
         [22_820, 22_780]
@@ -97,7 +96,7 @@ def test_pairs_by_hand(small):
     """Both numbers at once; and each of a pair alone too, though it is not named by itself."""
     table = by_case(
         pitplan.write_sensitivity(
-            small('changes = [-0.1, 0.1]\nparameters = "price"\npairs = [["price", "mining_cost"]]')
+            small('changes = [-0.1, 0.1]\nparameters = "price"\npairs = [["price", "mining_cost"]]'), writing=PLAIN
         )
     )
     worth = table["undiscounted_cash_flow"].to_dict()
@@ -180,7 +179,7 @@ def test_a_case_is_the_project_with_this_number_written_there(plan_folder, tmp_p
 
 def demand_as_written(path, other, number, changes):
     """The case of a sensitivity is the project in whose text these changes were made."""
-    table = pitplan.write_sensitivity(path)
+    table = pitplan.write_sensitivity(path, writing=PLAIN)
     shutil.copytree(path.parent, other, ignore=shutil.ignore_patterns("plan"))
     text = path.read_text()
     for old, new in changes:
@@ -189,7 +188,7 @@ def demand_as_written(path, other, number, changes):
     (other / "project.toml").write_text(text)
     for row, folder in ((0, path), (1, other / "project.toml")):
         shells = (
-            pitplan.write_shells(folder, writing=pitplan.Writing(verifies=False))
+            pitplan.write_shells(folder, writing=UNVERIFIED)
             .set_index("revenue_factor")
             .loc[1.0]
             .drop("value_at_revenue_factor")
@@ -225,8 +224,8 @@ def test_fixed_blocks_hold_in_every_case_and_ore_may_be_settled(plan_folder):
     path = plan_folder(
         table, PROJECT + words, *MORE, ("processing_cost = 10\n", 'processing_cost = 10\ncutoff = "base_price"\n')
     )
-    found = pitplan.write_sensitivity(path)
-    shells = pitplan.write_shells(path, writing=pitplan.Writing(verifies=False)).set_index("revenue_factor")
+    found = pitplan.write_sensitivity(path, writing=PLAIN)
+    shells = pitplan.write_shells(path, writing=UNVERIFIED).set_index("revenue_factor")
     assert found.loc[0, ["blocks", "undiscounted_cash_flow"]].tolist() == pytest.approx(
         shells.loc[1.0, ["blocks", "undiscounted_cash_flow"]].tolist()
     )
@@ -242,7 +241,7 @@ def test_rows_that_are_put_together_are_varied_as_blocks(plan_folder):
     table = rows(8, 8, 3, cu=lambda i, j, k: 6 if (i // 2, j // 2, k) == (2, 2, 1) else 0)
     change = ('file = "blocks.csv"', 'file = "blocks.csv"\nreblock = [2, 2, 1]')
     found = pitplan.write_sensitivity(
-        plan_folder(table, PROJECT + '\n[sensitivity]\nchanges = [0.1]\nparameters = "price"\n', change)
+        plan_folder(table, PROJECT + '\n[sensitivity]\nchanges = [0.1]\nparameters = "price"\n', change), writing=PLAIN
     )
     # Four times 24,000 and 1000 for processing, and of five blocks of 400 t, of which one is over the ore, 800 each.
     assert found["undiscounted_cash_flow"].tolist() == pytest.approx(
@@ -255,7 +254,7 @@ def test_the_base_case_of_the_shells_of_the_project_has_their_values_with_must_m
     table = rows(9, 8, 4, **RICH, must=lambda i, j, k: int((i, j, k) == (1, 6, 2)))
     words = f'\n[constraints]\nmust_mine = "must"\n[sensitivity]\nchanges = [0.2]\nparameters = "price"\n{COARSE}'
     path = plan_folder(table, PROJECT + words, *MORE)
-    base = pitplan.write_sensitivity(path).iloc[0]
+    base = pitplan.write_sensitivity(path, writing=PLAIN).iloc[0]
     shells = pitplan.write_shells(path, writing=UNVERIFIED).set_index("revenue_factor").loc[1.0]
     names = ["npv_best", "npv_worst", "undiscounted_cash_flow", "years"]
     assert base[names].tolist() == pytest.approx(shells[names].tolist(), abs=1e-6)
@@ -269,7 +268,7 @@ def test_the_revenue_factors_of_the_project_do_not_decide(plan_folder):
     found = []
     for factors in ("[0.5, 1.0]", "[0.05, 0.3, 0.85, 1.0]"):
         path = plan_folder(rows(9, 8, 4, **RICH), PROJECT + words, *changes, ("[0.5, 1.0, 1.5]", factors))
-        found.append(pitplan.write_sensitivity(path)[["npv_best", "npv_worst", "kept_npv_best"]])
+        found.append(pitplan.write_sensitivity(path, writing=PLAIN)[["npv_best", "npv_worst", "kept_npv_best"]])
     assert found[0].to_numpy().ravel().tolist() == pytest.approx(found[1].to_numpy().ravel().tolist(), abs=1e-6)
     path.write_text(path.read_text().replace("[0.05, 0.3, 0.85, 1.0]", "{ from = 0.001, to = 1.0, step = 0.001 }"))
     shells = pitplan.Plan.from_project(path).shells().table.set_index("revenue_factor").loc[1.0]
@@ -319,13 +318,13 @@ def test_costs_by_elevation_and_walls_by_azimuth(plan_folder, tmp_path):
         *domains,
         *money,
     )
-    table = pitplan.write_sensitivity(path)
+    table = pitplan.write_sensitivity(path, writing=PLAIN)
     text = path.read_text().replace("mining_cost = 2\n", "mining_cost = 2.2\n").replace("[5, 2]", "[5, 2.2]")
     for row, changed in ((1, text), (2, path.read_text().replace("[[0, 40], [180, 50]]", "[[0, 44], [180, 55]]"))):
         path.write_text(changed)
-        assert pitplan.write_shells(path, writing=pitplan.Writing(verifies=False))["undiscounted_cash_flow"].iloc[
-            1
-        ] == pytest.approx(table.loc[row, "undiscounted_cash_flow"])
+        assert pitplan.write_shells(path, writing=UNVERIFIED)["undiscounted_cash_flow"].iloc[1] == pytest.approx(
+            table.loc[row, "undiscounted_cash_flow"]
+        )
 
 
 def test_a_lower_price_of_all_is_a_lesser_factor(plan_folder):
@@ -335,8 +334,8 @@ def test_a_lower_price_of_all_is_a_lesser_factor(plan_folder):
         PROJECT + '\n[sensitivity]\nchanges = [-0.2]\nparameters = "price"\n',
         ("revenue_factors = [0.5, 1.0, 1.5]", "revenue_factors = [0.64, 0.8]\nselected = 0.8"),
     )
-    table = pitplan.write_sensitivity(path)
-    shells = pitplan.write_shells(path, writing=pitplan.Writing(verifies=False)).set_index("revenue_factor")
+    table = pitplan.write_sensitivity(path, writing=PLAIN)
+    shells = pitplan.write_shells(path, writing=UNVERIFIED).set_index("revenue_factor")
     assert table.loc[1, "revenue_factor"] == 0.8 and table.loc[1, "kept_undiscounted_cash_flow"] == pytest.approx(
         float(shells["value_at_revenue_factor"][0.8])
     )
@@ -350,13 +349,13 @@ def test_what_has_an_answer_is_not_solved_again(small, monkeypatch):
     path, solved = small("changes = [0.1]"), []
     find = sensitivity.find
     monkeypatch.setattr(sensitivity, "find", lambda *words: solved.append(words) or find(*words))
-    first = pitplan.write_sensitivity(path)
+    first = pitplan.write_sensitivity(path, writing=PLAIN)
     assert len(solved) == 6
     monkeypatch.chdir(path.parent)
-    second = pitplan.write_sensitivity("project.toml")
+    second = pitplan.write_sensitivity("project.toml", writing=PLAIN)
     assert len(solved) == 6 and first.astype(str).equals(second.astype(str))
     path.write_text(path.read_text().replace("changes = [0.1]", "changes = [0.1, 0.2]"))
-    pitplan.write_sensitivity(path)
+    pitplan.write_sensitivity(path, writing=PLAIN)
     assert len(solved) == 6 + 11, "the project's text is another"
 
 
@@ -387,28 +386,39 @@ def test_files_and_what_the_command_line_tells(small, capsys, with_blank_figures
     assert json.loads((folder / "sensitivity.json").read_text())["verified"] == []
 
 
-def test_cases_over_dask_are_those_of_one_after_the_other(small, capsys, dask_apart):
+def test_cases_over_dask_are_those_of_one_after_the_other(small, capsys):
     pytest.importorskip("distributed")
     path = small('changes = [-0.1, 0.1]\nparameters = ["price", "capacity"]')
     assert (
         main(
-            ["sensitivity", str(path), "--quiet", "--on", "local", "--workers", "1", "--out", str(path.parent / "dask")]
+            [
+                "sensitivity",
+                str(path),
+                "--quiet",
+                "--on",
+                "local",
+                "--workers",
+                "1",
+                "--out",
+                str(path.parent / "dask"),
+                "--no-figures",
+            ]
         )
         == 0
     )
-    pitplan.write_sensitivity(path, path.parent / "one", writing=pitplan.Writing(verifies=False))
+    pitplan.write_sensitivity(path, path.parent / "one", writing=UNVERIFIED)
     assert (path.parent / "dask" / "tables/sensitivity.csv").read_bytes() == (
         path.parent / "one" / "tables/sensitivity.csv"
     ).read_bytes()
     assert len(list((path.parent / "dask" / "cases").iterdir())) == 5
     path.write_text(path.read_text().replace("[-0.1, 0.1]", "[-0.9999]"))
     with pytest.raises(PlanError, match="check that the capacities are in tonnes per year"):
-        pitplan.write_sensitivity(path, path.parent / "dask", Where("local", 1))
+        pitplan.write_sensitivity(path, path.parent / "dask", Where("local", 0), writing=PLAIN)
 
 
 def test_cases_are_solved_here_or_over_dask_alone(small, capsys):
     with pytest.raises(SystemExit):
-        main(["sensitivity", str(small()), "--on", "slurm"])
+        main(["sensitivity", str(small()), "--on", "slurm", "--no-figures"])
     assert 'found "slurm", expected local or tcp://host:port' in capsys.readouterr().err
 
 
@@ -452,7 +462,7 @@ def test_walls_that_no_share_allows_are_refused(plan_folder):
         ('pattern = "1:5"', "angle = 45"),
     )
     with pytest.raises(PlanError, match="changes: slope angles times 2.1 are outside 1 to 90 degrees"):
-        pitplan.write_sensitivity(path)
+        pitplan.write_sensitivity(path, writing=PLAIN)
 
 
 def test_shares_have_their_ends(small):
@@ -477,7 +487,7 @@ def write_rich(place, words):
 def whole(tmp_path_factory):
     """The folder of a sensitivity to every parameter."""
     path = write_rich(tmp_path_factory.mktemp("whole"), FEW.replace('parameters = ["price", "mining_cost"]\n', ""))
-    pitplan.write_sensitivity(path, writing=Writing(verifies=False))
+    pitplan.write_sensitivity(path, writing=UNVERIFIED)
     return path.parent
 
 
@@ -485,7 +495,7 @@ def whole(tmp_path_factory):
 def answered(tmp_path_factory):
     """The same with two parameters and their pair: each number of its files is verified as with all."""
     path = write_rich(tmp_path_factory.mktemp("varied"), FEW)
-    pitplan.write_sensitivity(path, writing=Writing(verifies=False))
+    pitplan.write_sensitivity(path, writing=UNVERIFIED)
     return path.parent
 
 
@@ -660,7 +670,7 @@ def test_a_number_that_is_varied_otherwise_is_found(tmp_path, monkeypatch, numbe
     path = write_rich(tmp_path, f'\n[sensitivity]\nchanges = [-0.2, 0.2]\nparameters = ["{number}"]\n')
     monkeypatch.setitem(sensitivity.VARIED, number, careless)
     with pytest.raises(PlanError, match="verification failed"):
-        pitplan.write_sensitivity(path)
+        pitplan.write_sensitivity(path, writing=PLAIN)
     assert not (tmp_path / "plan" / "sensitivity" / "tables/sensitivity.csv").exists()
 
 

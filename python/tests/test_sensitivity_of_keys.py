@@ -6,7 +6,7 @@ import pandas as pd
 import pytest
 from conftest import PROJECT
 from helpers.processes import WITH, deposit
-from helpers.verified import UNVERIFIED
+from helpers.writings import PLAIN, UNVERIFIED
 
 import pitplan
 from pitplan import PlanError
@@ -57,7 +57,7 @@ def test_what_slopes_change_has_no_kept_amounts(path):
 def test_a_key_that_is_changed_otherwise_is_found(path, monkeypatch):
     monkeypatch.setattr(sensitivity, "with_key", lambda project, by, key: project)
     with pytest.raises(PlanError, match="verification failed"):
-        pitplan.write_sensitivity(path)
+        pitplan.write_sensitivity(path, writing=PLAIN)
 
 
 @pytest.mark.parametrize(

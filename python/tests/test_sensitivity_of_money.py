@@ -7,6 +7,7 @@ import pandas as pd
 import pytest
 from conftest import PROJECT, rows
 from helpers.processes import WITH
+from helpers.writings import PLAIN
 
 import pitplan
 from pitplan import PlanError, load
@@ -24,7 +25,7 @@ def two_blocks():
 
 def worths(path):
     """By number and share."""
-    return pitplan.write_sensitivity(path).set_index(["parameter", "change"])["undiscounted_cash_flow"]
+    return pitplan.write_sensitivity(path, writing=PLAIN).set_index(["parameter", "change"])["undiscounted_cash_flow"]
 
 
 def test_several_processes(plan_folder):
@@ -75,7 +76,7 @@ def test_walls_of_benches(plan_folder):
         "[[slopes.domains]]\nbench = { height = 20, face_angle = 65, berm_width = 9 }",
     )
     table = rows(9, 9, 3, cu=lambda i, j, k: 30 if (i, j, k) == (4, 4, 0) else 0)
-    found = pitplan.write_sensitivity(plan_folder(table, PROJECT + RULES, domain, BY)).set_index(
+    found = pitplan.write_sensitivity(plan_folder(table, PROJECT + RULES, domain, BY), writing=PLAIN).set_index(
         ["parameter", "change"]
     )["blocks"]
     assert found[("slopes", 0.2)] < found[("", 0.0)] <= found[("slopes", -0.1)]
@@ -93,13 +94,13 @@ def test_a_model_that_is_too_large_is_refused(plan_folder, monkeypatch):
     monkeypatch.setattr(pitplan.blockmodel.grid, "MOST_BLOCKS", 40)
     table = rows(12, 3, 2, cu=lambda i, j, k: 9 if (i, j, k) == (2, 1, 0) else 0)
     with pytest.raises(PlanError, match="each case would be cropped differently"):
-        pitplan.write_sensitivity(plan_folder(table, PROJECT + RULES, BY))
+        pitplan.write_sensitivity(plan_folder(table, PROJECT + RULES, BY), writing=PLAIN)
 
 
 def test_a_zipped_table_is_written_back(plan_folder):
     path = plan_folder(two_blocks(), PROJECT, ('"blocks.csv"', '"blocks.zip"'))
     with zipfile.ZipFile(path.parent / "blocks.zip", "w") as packed:
         packed.write(path.parent / "blocks.csv", "blocks.csv")
-    pitplan.write_shells(path)
+    pitplan.write_shells(path, writing=PLAIN)
     written = pd.read_csv(pitplan.write_export(path.parent / "plan", "table"))
     assert written["name"].tolist() == two_blocks()["name"].tolist() and (written["revenue_factor"] > 0.0).sum() == 2

@@ -3,6 +3,7 @@
 import pandas as pd
 import pytest
 from conftest import PROJECT, rows
+from helpers.writings import PLAIN, UNVERIFIED
 
 import pitplan
 
@@ -41,7 +42,7 @@ def sensitivity(place, frame, text):
     place.mkdir()
     frame.to_csv(place / "blocks.csv", index=False)
     (place / "project.toml").write_text(text)
-    pitplan.write_sensitivity(place / "project.toml", writing=pitplan.Writing(figures=False))
+    pitplan.write_sensitivity(place / "project.toml", writing=PLAIN)
     folder = place / "plan" / "sensitivity" / "tables"
     return pd.read_csv(folder / "sensitivity.csv"), pd.read_csv(folder / "hill_of_value.csv")
 
@@ -77,6 +78,6 @@ def test_codes_of_reblocked_models_are_mapped_once(tmp_path, reblock):
         (PROJECT + STUDY).replace('file = "blocks.csv"\n', rules).replace("size = [10, 10, 10]\n", "tolerance = 0.01\n")
     )
     cases, _ = sensitivity(tmp_path / "mine", raw, text)
-    pitplan.write_shells(tmp_path / "mine/project.toml", writing=pitplan.Writing(figures=False, verifies=False))
+    pitplan.write_shells(tmp_path / "mine/project.toml", writing=UNVERIFIED)
     shells = pd.read_csv(tmp_path / "mine/plan/tables/shells.csv").set_index("revenue_factor")
     assert cases["tonnes"][0] in shells["tonnes"].tolist() and cases["npv"].nunique() > 3

@@ -6,6 +6,7 @@ import numpy as np
 import pandas as pd
 import pytest
 from conftest import PROJECT, rows
+from helpers.writings import PLAIN
 
 import pitplan
 from pitplan import PlanError, load, verify as verify_folder
@@ -30,7 +31,7 @@ def record_of(path):
 
 def test_what_the_skin_earns_in_each_case(project):
     path = project("changes = [-0.1, 0.1]")
-    table = pitplan.write_sensitivity(path).set_index(["parameter", "change"])["skin_value"]
+    table = pitplan.write_sensitivity(path, writing=PLAIN).set_index(["parameter", "change"])["skin_value"]
     due = {
         ("", 0.0): 800,
         ("price", -0.1): 600,
@@ -56,7 +57,9 @@ def test_what_the_skin_earns_in_each_case(project):
 def test_a_greater_share_reaches_a_lesser_shell(project):
     """A shell of at most 80 of 200 t has neither block; the rich one breaks even at 1,200 / 24,000."""
     path = project('changes = [0.1]\nparameters = "price"\nskin = 0.6')
-    assert pitplan.write_sensitivity(path)["skin_value"].tolist() == pytest.approx([23_600, 23_600 + 2_600])
+    assert pitplan.write_sensitivity(path, writing=PLAIN)["skin_value"].tolist() == pytest.approx(
+        [23_600, 23_600 + 2_600]
+    )
     assert record_of(path)["skin"] == {
         "revenue_factor": 0.05,
         "tonnes": 200,
@@ -71,7 +74,7 @@ def test_a_pit_that_no_lesser_factor_divides_is_all_skin(plan_folder):
         "price = 8000", "price = 80000000"
     )
     path = plan_folder(rows(5, 3, 1, **ORE), text + '\n[sensitivity]\nchanges = [0.1]\nparameters = "mining_cost"\n')
-    pitplan.write_sensitivity(path)
+    pitplan.write_sensitivity(path, writing=PLAIN)
     assert (record_of(path)["skin"]["revenue_factor"], record_of(path)["skin"]["tonnes"]) == (0, 200)
 
 
@@ -81,14 +84,14 @@ def test_where_walls_move_nothing_is_told_of_it(plan_folder):
         rows(5, 3, 1, **ORE),
         text.replace('pattern = "1:5"', "angle = 45") + '\n[sensitivity]\nchanges = [0.2]\nparameters = "slopes"\n',
     )
-    worth = pitplan.write_sensitivity(path)["skin_value"]
+    worth = pitplan.write_sensitivity(path, writing=PLAIN)["skin_value"]
     assert worth[0] == pytest.approx(800) and np.isnan(worth[1])
 
 
 def test_the_command_line_tells_of_it(project, capsys):
     path = project('changes = [0.1]\nparameters = "price"')
     for words in ([], ["--quiet"]):
-        assert main(["sensitivity", str(path), *words]) == 0
+        assert main(["sensitivity", str(path), *words, "--no-figures"]) == 0
         told = capsys.readouterr().err.splitlines()
         skin = "pit skin, 50.0 % of its tonnes, beyond the shell of revenue factor 0.60: undiscounted cash flow 800"
         assert [line for line in told if "skin" in line] == [line for line in told if line.startswith(skin)] != []
@@ -108,7 +111,7 @@ def wrong(folder):
 def test_the_second_look_finds_another_skin(project):
     """One that lacks a block, one that takes more than it may, and one whose tonnes are others."""
     path = project("changes = [0.1]")
-    pitplan.write_sensitivity(path)
+    pitplan.write_sensitivity(path, writing=PLAIN)
     folder = load(path).folder / "sensitivity"
     assert wrong(folder) == set()
     record = folder / "sensitivity.json"
@@ -136,7 +139,7 @@ def test_the_second_look_finds_a_skin_that_others_need(plan_folder):
         rows(5, 5, 2, cu=lambda i, j, k: {(2, 2, 0): 9}.get((i, j, k), 0)),
         text + '\n[sensitivity]\nchanges = [0.1]\nparameters = "price"\n',
     )
-    pitplan.write_sensitivity(path)
+    pitplan.write_sensitivity(path, writing=PLAIN)
     folder = load(path).folder / "sensitivity"
     said = json.loads((folder / "sensitivity.json").read_text())
     answer = folder / "cases" / f"{said['cases'][0]['key']}.npz"

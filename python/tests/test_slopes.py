@@ -9,6 +9,7 @@ import pandas as pd
 import pytest
 from conftest import PROJECT, ROOT, rows
 from helpers.random_tests import examples
+from helpers.writings import PLAIN
 from hypothesis import given, strategies as st
 
 import pitplan
@@ -430,12 +431,12 @@ def test_the_audit_finds_fewer_benches_than_the_budget_allows(plan_folder, monke
         table[name] *= step / 10
     angle = ('pattern = "1:5"', "angle = 40"), ("precedence_benches = 3\n", ""), ("[10, 10, 10]", "[20, 20, 15]")
     path = plan_folder(table, PROJECT, *angle)
-    pitplan.write_shells(path, path.parent / "plan")
+    pitplan.write_shells(path, path.parent / "plan", writing=PLAIN)
     monkeypatch.setattr(slope_patterns, "MOST_CHOSEN", 100)
     with pytest.raises(
         PlanError, match="slope error: domain entry 1: over 7 benches the slope is 2.08 degrees steeper than its angle"
     ):
-        pitplan.write_shells(path, path.parent / "plan")
+        pitplan.write_shells(path, path.parent / "plan", writing=PLAIN)
 
 
 def test_the_page_says_what_40_degrees_take():

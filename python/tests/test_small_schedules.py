@@ -3,6 +3,7 @@
 import pytest
 from conftest import rows
 from helpers.pushbacks import UPRIGHT, with_pushbacks
+from helpers.writings import REPORTED
 
 import pitplan
 from pitplan import load
@@ -25,7 +26,7 @@ def scheduled(place, words):
     place.mkdir()
     rows(3, 1, 3, cu=lambda i, j, k: GRADES[i][k]).to_csv(place / "blocks.csv", index=False)
     (place / "project.toml").write_text(TEXT + words)
-    table = pitplan.write_schedule(load(place / "project.toml"), place / "out")
+    table = pitplan.write_schedule(load(place / "project.toml"), place / "out", writing=REPORTED)
     return table.set_index("method")["npv"].to_dict()
 
 

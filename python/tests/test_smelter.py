@@ -10,7 +10,8 @@ import pytest
 from conftest import ROOT, rows
 from helpers import office, worked_cash_flow
 from helpers.read_alike import demand_read_alike
-from helpers.verified import UNVERIFIED, differing
+from helpers.verified import differing
+from helpers.writings import PLAIN, UNVERIFIED, WITH_WORKBOOK
 
 import pitplan
 from pitplan import PlanError, load, verify
@@ -241,7 +242,7 @@ def test_terms_of_copper_in_pounds():
 
 
 # Each is 500 USD per tonne of copper: a concentrate of 25 % takes 4 dry tonnes, or 5 wet ones.
-PLAIN = {
+AS_SELLING_COST = {
     "refining": "refining_charge = 500",
     "both": "concentrate_grade = 25\nmoisture = 0.2\nfreight = 40\ntreatment_charge = 50\nrefining_charge = 100",
 }
@@ -255,11 +256,11 @@ def short(tmp_path_factory):
     return written_to(tmp_path_factory.mktemp("short"), text, worked_cash_flow.table())
 
 
-@pytest.mark.parametrize("terms", PLAIN)
+@pytest.mark.parametrize("terms", AS_SELLING_COST)
 def test_terms_that_are_a_selling_cost_change_no_table(tmp_path, short, terms):
     """All is paid, and charges are 500 per tonne of copper and 2 per gram of gold."""
     text = worked_cash_flow.TEXT + worked_cash_flow.MONEY
-    text = text.replace("selling_cost = 500", f'[metals.smelter]\nprocesses = "all"\n{PLAIN[terms]}')
+    text = text.replace("selling_cost = 500", f'[metals.smelter]\nprocesses = "all"\n{AS_SELLING_COST[terms]}')
     text = text.replace("selling_cost = 2", "[metals.smelter]\nrefining_charge = 2")
     folder = written_to(tmp_path, text, worked_cash_flow.table())
     names = {path.name for path in (short / "tables").glob("*.csv")}
@@ -298,9 +299,9 @@ def test_a_changed_payable_metal_of_the_inventory_is_found(concentrate, tmp_path
     assert differing(folder, "inventory")
 
 
-def test_npv_is_rebuilt_from_the_sheet_down_to_prices(tmp_path, with_workbooks):
+def test_npv_is_rebuilt_from_the_sheet_down_to_prices(tmp_path):
     """LibreOffice recalculates revenue from payable metal and price, and NPV from that."""
-    folder = written_to(tmp_path)
+    folder = written_to(tmp_path, writing=WITH_WORKBOOK)
     sheet = office.recalculated(folder / "tables/schedule.xlsx", tmp_path)["cash_flow"]
     found = {row[0]: row[1:] for row in sheet.iter_rows(values_only=True)}
     assert found["payable copper"][0] == "t" and found["payable copper"][1] == pytest.approx(100)
@@ -381,7 +382,7 @@ def test_charges_are_varied_as_the_selling_cost(tmp_path):
     table().to_csv(tmp_path / "blocks.csv", index=False)
     rules = '[sensitivity]\nchanges = [0.1]\nparameters = ["price", "selling_cost", "metals.copper.smelter.treatment_charge"]\n'
     (tmp_path / "project.toml").write_text(TEXT + rules)
-    pitplan.write_sensitivity(tmp_path / "project.toml")
+    pitplan.write_sensitivity(tmp_path / "project.toml", writing=PLAIN)
     found = (
         pd.read_csv(tmp_path / "plan/sensitivity/tables/sensitivity.csv")
         .fillna({"parameter": ""})
@@ -415,7 +416,7 @@ def test_scenarios_have_the_terms_at_their_grades_and_prices(tmp_path):
     blocks.to_csv(tmp_path / "blocks.csv", index=False)
     decks = "".join(f"[[scenarios.prices]]\ncopper = {price}\n" for price in (7000, 8000))
     (tmp_path / "project.toml").write_text(f'{TEXT}[scenarios]\ncolumns = {{ copper = "sim_*" }}\n{decks}')
-    pitplan.write_scenarios(tmp_path / "project.toml")
+    pitplan.write_scenarios(tmp_path / "project.toml", request=pitplan.Request(workers=0), writing=PLAIN)
     folder = tmp_path / "plan" / "scenarios"
     found = pd.read_csv(folder / "tables/scenarios.csv").query("revenue_factor == 1.0")
     found = found.set_index(["realisation", "price_copper"])["undiscounted_cash_flow"]

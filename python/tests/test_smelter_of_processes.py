@@ -7,7 +7,8 @@ import pytest
 from conftest import rows
 from helpers import office
 from helpers.read_alike import demand_read_alike
-from helpers.verified import UNVERIFIED, differing
+from helpers.verified import differing
+from helpers.writings import PLAIN, UNVERIFIED, WITH_WORKBOOK
 
 import pitplan
 from pitplan import PlanError, load, verify
@@ -197,8 +198,8 @@ def test_terms_of_all_processes_are_those_of_each(tmp_path):
     assert wrong(tmp_path / "plan/schedule") == set()
 
 
-def test_npv_is_rebuilt_from_the_sheet(tmp_path, with_workbooks):
-    folder = written_to(tmp_path)
+def test_npv_is_rebuilt_from_the_sheet(tmp_path):
+    folder = written_to(tmp_path, writing=WITH_WORKBOOK)
     sheet = office.recalculated(folder / "tables/schedule.xlsx", tmp_path)["cash_flow"]
     found = {row[0]: row[1:] for row in sheet.iter_rows(values_only=True)}
     assert found["revenue copper"][1] == pytest.approx(1_360_000) and found["selling copper"][1] == pytest.approx(
@@ -208,10 +209,10 @@ def test_npv_is_rebuilt_from_the_sheet(tmp_path, with_workbooks):
     assert found["discounted cash flow; total: NPV"][1] == pytest.approx(npv, abs=0.001)
 
 
-def test_another_price_in_the_sheet_gives_the_cash_flow_at_that_price(tmp_path, with_workbooks):
+def test_another_price_in_the_sheet_gives_the_cash_flow_at_that_price(tmp_path):
     """170 t earn 980 more each after royalty, of which the smelter keeps 100 for each of 100 payable tonnes of the concentrate."""
     openpyxl = pytest.importorskip("openpyxl")
-    folder = written_to(tmp_path)
+    folder = written_to(tmp_path, writing=WITH_WORKBOOK)
     book = openpyxl.load_workbook(folder / "tables/schedule.xlsx")
     for row in book["cash_flow"].iter_rows():
         if row[0].value == "price of copper":
@@ -229,7 +230,7 @@ def test_charges_of_all_processes_are_varied_as_the_selling_cost(tmp_path):
     table().to_csv(tmp_path / "blocks.csv", index=False)
     rules = '[sensitivity]\nchanges = [0.1]\nparameters = ["selling_cost", "price"]\n'
     (tmp_path / "project.toml").write_text(TEXT + rules)
-    pitplan.write_sensitivity(tmp_path / "project.toml")
+    pitplan.write_sensitivity(tmp_path / "project.toml", writing=PLAIN)
     found = pd.read_csv(tmp_path / "plan/sensitivity/tables/sensitivity.csv").fillna({"parameter": ""})
     cash = found.set_index("parameter")["undiscounted_cash_flow"]
     assert cash["selling_cost"] - cash[""] == pytest.approx(-1050 - 8070, abs=0.001)

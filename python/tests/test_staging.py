@@ -9,6 +9,7 @@ from pathlib import Path
 import numpy as np
 import pytest
 from conftest import PROJECT, files_in, rows
+from helpers.writings import PLAIN, UNVERIFIED
 
 import pitplan
 from pitplan import PlanError, Request, Shape
@@ -35,14 +36,12 @@ def mine(plan_folder):
 
 RUNS = {
     "prepare": lambda path, folder: write_plan(pitplan.load(path), folder),
-    "shells": lambda path, folder: pitplan.write_shells(path, folder, writing=pitplan.Writing(verifies=False)),
-    "pit": lambda path, folder: pitplan.write_pit(path, 1.0, folder, writing=pitplan.Writing(verifies=False)),
-    "pushbacks": lambda path, folder: pitplan.write_pushbacks(path, folder, writing=pitplan.Writing(verifies=False)),
-    "schedule": lambda path, folder: pitplan.write_schedule(path, folder, writing=pitplan.Writing(verifies=False)),
-    "sensitivity": lambda path, folder: pitplan.write_sensitivity(
-        path, folder, writing=pitplan.Writing(verifies=False)
-    ),
-    "scenarios": lambda path, folder: pitplan.write_scenarios(path, folder, Request(where="parallel")),
+    "shells": lambda path, folder: pitplan.write_shells(path, folder, writing=UNVERIFIED),
+    "pit": lambda path, folder: pitplan.write_pit(path, 1.0, folder, writing=UNVERIFIED),
+    "pushbacks": lambda path, folder: pitplan.write_pushbacks(path, folder, writing=UNVERIFIED),
+    "schedule": lambda path, folder: pitplan.write_schedule(path, folder, writing=UNVERIFIED),
+    "sensitivity": lambda path, folder: pitplan.write_sensitivity(path, folder, writing=UNVERIFIED),
+    "scenarios": lambda path, folder: pitplan.write_scenarios(path, folder, Request(where="parallel"), writing=PLAIN),
 }
 
 
@@ -130,17 +129,17 @@ def test_a_run_by_the_command_line_is_refused_by_one_in_another_process(mine, ca
         [sys.executable, "-c", source, str(folder / ".pitplan.lock")], stdin=-1, stdout=-1, text=True
     ) as other:
         assert other.stdout.readline() == "locked\n"
-        assert main(["shells", str(mine), "--no-verify", "--quiet"]) == 1
+        assert main(["shells", str(mine), "--no-verify", "--quiet", "--no-figures"]) == 1
         assert capsys.readouterr().err.startswith(f"pitplan: {folder}: {OTHER} (process 4711): wait until it ends")
         other.kill()
     assert (folder / ".pitplan.lock").read_text() == "4711\n"
-    assert main(["shells", str(mine), "--no-verify", "--quiet"]) == 0
+    assert main(["shells", str(mine), "--no-verify", "--quiet", "--no-figures"]) == 0
     assert not (folder / ".pitplan.lock").exists()
 
 
 def test_commands_that_only_read_work_beside_a_run_and_each_other(mine):
     folder = mine.parent / "out"
-    pitplan.write_schedule(mine, folder, writing=pitplan.Writing(verifies=False))
+    pitplan.write_schedule(mine, folder, writing=UNVERIFIED)
     with staging.alone(folder):
         assert not any(rule.differences for rule in pitplan.verify(folder))
         for write in (pitplan.write_report, pitplan.audit, pitplan.view):
@@ -153,7 +152,7 @@ def test_commands_that_only_read_work_beside_a_run_and_each_other(mine):
 
 def test_two_audits_or_exports_into_one_folder_are_kept_apart(mine):
     folder = mine.parent / "out"
-    pitplan.write_schedule(mine, folder, writing=pitplan.Writing(verifies=False))
+    pitplan.write_schedule(mine, folder, writing=UNVERIFIED)
     with staging.alone(folder / "audit-0.50"), pytest.raises(PlanError, match=f"audit-0.50: {OTHER}"):
         pitplan.audit(folder, 0.5)
     target = folder / registry.name_of("obj", Shape("year"))
@@ -163,9 +162,9 @@ def test_two_audits_or_exports_into_one_folder_are_kept_apart(mine):
 
 def test_gathering_is_kept_apart_from_another_run(tmp_path):
     with staging.alone(tmp_path), pytest.raises(PlanError, match=OTHER):
-        pitplan.gather(tmp_path)
+        pitplan.gather(tmp_path, writing=PLAIN)
     with pytest.raises(PlanError, match="nowhere/scenarios.json: cannot be read"):
-        pitplan.gather(tmp_path / "nowhere" / "nowhere")
+        pitplan.gather(tmp_path / "nowhere" / "nowhere", writing=PLAIN)
     assert list(tmp_path.iterdir()) == []
 
 
@@ -250,7 +249,7 @@ def test_a_folder_in_place_of_a_file_is_refused_before_anything_is_replaced(mine
 
 def test_a_folder_in_place_of_an_export_is_refused(mine):
     folder = mine.parent / "out"
-    pitplan.write_shells(mine, folder, writing=pitplan.Writing(verifies=False))
+    pitplan.write_shells(mine, folder, writing=UNVERIFIED)
     (folder / "pit.csv").mkdir()
     with pytest.raises(PlanError, match="out/pit.csv: found a folder, expected a file or nothing"):
         pitplan.write_export(folder, "csv")
@@ -301,19 +300,19 @@ def test_a_file_in_place_of_a_subfolder_is_refused_before_anything_is_replaced(m
     folder.mkdir()
     (folder / name).write_text("mine")
     with pytest.raises(PlanError, match=rf"out/{name}: cannot be written: "):
-        pitplan.write_shells(mine, folder, writing=pitplan.Writing(verifies=False))
+        pitplan.write_shells(mine, folder, writing=UNVERIFIED)
     assert files_in(folder) == {name: b"mine"}
 
 
 def test_a_subfolder_that_may_not_be_written_is_refused_before_anything_is_replaced(mine, monkeypatch):
     """As another user's: who runs the tests as root may write anywhere."""
     folder = mine.parent / "out"
-    pitplan.write_shells(mine, folder, writing=pitplan.Writing(verifies=False))
+    pitplan.write_shells(mine, folder, writing=UNVERIFIED)
     before, asked = files_in(folder), os.access
     mine.write_text(mine.read_text().replace("price = 8000", "price = 9000"))
     monkeypatch.setattr(os, "access", lambda path, mode: Path(path).name != "tables" and asked(path, mode))
     with pytest.raises(PlanError, match="out/tables: cannot be written: Permission denied"):
-        pitplan.write_shells(mine, folder, writing=pitplan.Writing(verifies=False))
+        pitplan.write_shells(mine, folder, writing=UNVERIFIED)
     assert files_in(folder) == before
 
 

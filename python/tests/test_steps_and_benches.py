@@ -7,7 +7,7 @@ import numpy as np
 import pandas as pd
 import pytest
 from conftest import PROJECT, rows
-from helpers.verified import UNVERIFIED
+from helpers.writings import UNVERIFIED
 
 import pitplan
 from pitplan import PlanError, verify
@@ -138,12 +138,12 @@ def test_a_step_that_is_passed_over_is_found(plan_folder, monkeypatch):
         "pitplan.slopes.domains.pattern_of",
         lambda domain, *more: pattern_of(replace(domain, offsets=domain.offsets[1:]), *more),
     )
-    pitplan.write_shells(path, writing=pitplan.Writing(verifies=False))
+    pitplan.write_shells(path, writing=UNVERIFIED)
     assert "slopes" in wrong(path)
 
 
 def test_berms_that_are_passed_over_are_found(plan_folder, monkeypatch):
     monkeypatch.setattr(Bench, "angle", property(lambda bench: bench.face_angle))
     path = plan_folder(deposit(), PROJECT, domains(BENCH))
-    pitplan.write_shells(path, writing=pitplan.Writing(verifies=False))
+    pitplan.write_shells(path, writing=UNVERIFIED)
     assert "slopes" in wrong(path)

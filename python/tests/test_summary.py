@@ -10,7 +10,7 @@ from pitplan.cli import main
 
 FLOOR_OF_ORE = {"cu": lambda i, j, k: 2.0 if k == 0 else 0.5, "tonnes": lambda i, j, k: 300 if k == 0 else 100}
 GOLD = '[[metals]]\nname = "gold"\ncolumn = "au"\nunit = "gram_per_tonne"\nprice = 60\nrecovery = 0.5\n[slopes]'
-SOLVES = [["shells"], ["pit", "--revenue-factor", "1.00"]]
+SOLVES = [["shells", "--no-figures"], ["pit", "--revenue-factor", "1.00"]]
 
 
 def first_lines(err):
@@ -158,7 +158,7 @@ def test_scenarios_tell_the_grades_of_all_models(plan_folder, tmp_path, capsys):
     sims = {f"sim_{n}": lambda i, j, k, n=n: 2.0 * n if i + j + k == 0 else 0.0 for n in (1, 2)}
     path = box(plan_folder, **sims)
     path.write_text(path.read_text() + '[scenarios]\ncolumns = { copper = "sim_*" }\n')
-    assert main(["scenarios", str(path), "--on", "parallel"]) == 0
+    assert main(["scenarios", str(path), "--on", "parallel", "--no-figures"]) == 0
     lines = capsys.readouterr().err.splitlines()
     assert f"{tmp_path / 'blocks.csv'}: 24 blocks in 24 cells, 4,800 t, tonnes from column tonnes" in lines
     assert "y: from 0 to 30 m, 3 cells of 10 m, centres in y" in lines and "unused columns: cu" in lines
@@ -172,5 +172,5 @@ def test_scenarios_of_a_folder_tell_its_models(plan_folder, tmp_path, capsys):
     for number in (1, 2, 3):
         table = rows(4, 3, 2, cu=lambda i, j, k: 1.0 * number)[["name", "cu"]]
         table.to_csv(tmp_path / "realisations" / f"m{number}.csv", index=False)
-    assert load(path).scenarios is not None and main(["scenarios", str(path), "--on", "parallel"]) == 0
+    assert load(path).scenarios is not None and main(["scenarios", str(path), "--on", "parallel", "--no-figures"]) == 0
     assert "copper: cu and so on, of 3 realisations, mean 2, maximum 3 %, priced per tonne" in capsys.readouterr().err

@@ -7,6 +7,7 @@ import pandas as pd
 import pytest
 from conftest import PROJECT, rows
 from helpers.surfaces import triangles_of, volume_of
+from helpers.writings import UNVERIFIED
 
 import pitplan
 from pitplan import MissingPackage, PlanError
@@ -34,7 +35,7 @@ def far(plan_folder):
     )
     table = table.assign(x=table["x"] + 430_000.5, y=table["y"] + 6_512_000.25)
     path = plan_folder(table)
-    pitplan.write_shells(path, writing=pitplan.Writing(verifies=False))
+    pitplan.write_shells(path, writing=UNVERIFIED)
     return path
 
 
@@ -62,7 +63,7 @@ def test_a_surface_holds_what_its_blocks_do(far, capsys, kind, factor):
 def test_an_empty_pit_has_no_surface(plan_folder):
     pytest.importorskip("vtk")
     path = plan_folder(rows(3, 3, 2), PROJECT)
-    pitplan.write_shells(path, writing=pitplan.Writing(verifies=False))
+    pitplan.write_shells(path, writing=UNVERIFIED)
     with pytest.raises(PlanError, match="the pit of revenue factor 1.00 is empty and has no surface"):
         pitplan.write_export(path.parent / "plan", "stl")
     assert not (path.parent / "plan" / "pit-1.00.stl").exists()

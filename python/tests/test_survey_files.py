@@ -10,6 +10,7 @@ from ezdxf.render import MeshBuilder
 from helpers.read_alike import compare_surveys
 from helpers.surveys import AREA, HOLED, LEASE, SURFACE, areas, drawing, gis, layer, read, tiff
 from helpers.verified import looked_at
+from helpers.writings import PLAIN
 from osgeo import gdal, ogr
 
 import pitplan
@@ -170,7 +171,7 @@ def test_a_string_may_have_one_point(tmp_path):
 def test_strings_that_are_written_are_read(plan_folder, tmp_path):
     """The toes and crests of a pit, which the export has in two forms."""
     path = plan_folder(rows(7, 7, 3, cu=lambda i, j, k: 9 * ((i, j, k) == (3, 3, 1))), PROJECT)
-    pitplan.write_shells(path)
+    pitplan.write_shells(path, writing=PLAIN)
     strings, table = (pitplan.write_export(path.parent / "plan", kind) for kind in ("str", "lines"))
     expected = pd.read_csv(table)[["x", "y", "z"]].to_numpy()
     assert sorted(map(tuple, read(strings, "*").points)) == sorted(map(tuple, expected)) and len(expected) > 8

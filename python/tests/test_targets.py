@@ -6,6 +6,7 @@ import shutil
 from pathlib import Path
 
 import pytest
+from helpers.writings import UNVERIFIED
 
 import pitplan
 from pitplan import PlanError, Shape
@@ -158,7 +159,7 @@ def test_an_audit_replaces_no_input(solved, capsys):
     project, _ = solved
     project.table.file.rename(project.path.parent / "pit.txt")
     project.path.write_text(project.path.read_text().replace("blocks.csv", "pit.txt"))
-    pitplan.write_shells(project.path, writing=pitplan.Writing(verifies=False, figures=False))
+    pitplan.write_shells(project.path, writing=UNVERIFIED)
     before = contents(project.path.parent)
     said = refused(capsys, "audit", project.folder, "--rf", "1.0", "--out", project.path.parent)
     assert said.startswith(f"{project.path.parent / 'pit.txt'}: found an input of the plan")

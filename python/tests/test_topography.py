@@ -6,7 +6,8 @@ import pytest
 from conftest import PROJECT, rows
 from helpers.surveys import drawing, layer, tiff
 from helpers.turned import turned
-from helpers.verified import UNVERIFIED, looked_at
+from helpers.verified import looked_at
+from helpers.writings import PLAIN, UNVERIFIED
 from hypothesis import given, strategies as st
 from scipy.interpolate import LinearNDInterpolator
 
@@ -329,7 +330,7 @@ def cut_hill(plan_folder, tmp_path):
     points = [(x, y, 25 + 0.15 * x + rng.uniform(-9, 9)) for x in range(-7, 106, 7) for y in range(-7, 96, 7)]
     pd.DataFrame(points, columns=["x", "y", "z"]).to_csv(tmp_path / "topo.csv", index=False)
     path = plan_folder(hill(), PROJECT, CUT)
-    pitplan.write_shells(path, writing=pitplan.Writing(verifies=False))
+    pitplan.write_shells(path, writing=UNVERIFIED)
     return path.parent / "plan"
 
 
@@ -394,7 +395,7 @@ def test_a_run_that_cuts_wrong_is_refused(plan_folder, tmp_path, monkeypatch, be
     else:
         monkeypatch.setattr(topography, "below", lambda triangles, grid: right(triangles + [0, 0, 1], grid))
     with pytest.raises(PlanError, match="topography: block "):
-        pitplan.write_shells(plan_folder(rows(6, 5, 3, cu=lambda i, j, k: 2), PROJECT, CUT))
+        pitplan.write_shells(plan_folder(rows(6, 5, 3, cu=lambda i, j, k: 2), PROJECT, CUT), writing=PLAIN)
 
 
 def test_a_model_too_large_for_the_program(plan_folder, tmp_path, monkeypatch):
@@ -417,7 +418,7 @@ def test_a_sensitivity_of_blocks_that_are_cut(plan_folder, tmp_path):
         + '[sensitivity]\nchanges = [0.1]\nparameters = ["price"]\n'
     )
     path = plan_folder(rows(5, 3, 1, cu=lambda i, j, k: 6 * ((i, j) == (1, 1))), text, CUT)
-    table = pitplan.write_sensitivity(path)
+    table = pitplan.write_sensitivity(path, writing=PLAIN)
     # 50 t of 6 % with a recovery of a half at 8000 a tonne, with 10 for processing and 2 for mining.
     assert table["undiscounted_cash_flow"].tolist() == pytest.approx([50 * (240 - 12), 50 * (264 - 12)])
     folder = path.parent / "plan" / "sensitivity"

@@ -11,6 +11,7 @@ import pandas as pd
 import pytest
 from conftest import PROJECT, rows
 from helpers.turned import turned
+from helpers.writings import PLAIN
 from matplotlib.figure import Figure
 
 import pitplan
@@ -42,7 +43,7 @@ def hill():
 def planned(plan_folder, table, text=PROJECT, *changes):
     """The folder of a plan and its blocks by name."""
     path = plan_folder(table, text, *changes)
-    pitplan.write_shells(path)
+    pitplan.write_shells(path, writing=PLAIN)
     folder = path.parent / "plan"
     return folder, pd.read_csv(folder / "tables/blocks.csv").set_index("name")
 
@@ -144,7 +145,7 @@ def one_block(plan_folder):
     table = rows(5, 4, 2, cu=lambda i, j, k: 6 if (i, j, k) == (2, 1, 1) else 0)
     table["x"], table["y"] = (axis.round(3) for axis in by_hand(table["x"], table["y"]))
     path = plan_folder(table)
-    pitplan.write_shells(path)
+    pitplan.write_shells(path, writing=PLAIN)
     return path
 
 
@@ -270,7 +271,7 @@ def test_a_section_of_a_turned_model_is_asked_for_along_its_axes(one_block, plan
     with pytest.raises(
         PlanError, match=r"\[figures\] north: 5002 is beyond the model, from 0 to 40 m along azimuth 36.8\d*°"
     ):
-        pitplan.write_shells(path)
+        pitplan.write_shells(path, writing=PLAIN)
 
 
 def turned_points(points, degrees):
@@ -307,7 +308,7 @@ def test_pushbacks_widths_and_schedules_are_those_of_the_straight_model(plan_fol
     for degrees in (0, -12.5):
         path = plan_folder(turned(ore, degrees), text, domains_at(degrees), NO_SIZE)
         folder = path.parent / f"schedule{degrees}"
-        pitplan.write_schedule(path, folder)
+        pitplan.write_schedule(path, folder, writing=PLAIN)
         blocks = pd.read_csv(folder / "tables/blocks.csv").set_index("name")[["pushback", "year", "revenue_factor"]]
         tables.append(
             [
@@ -337,7 +338,9 @@ def test_rows_are_put_together_along_the_grids_axes(plan_folder, one_block):
     for plan in (counts, corner):
         assert plan.grid.shape == (2, 2, 2) and np.allclose(plan.grid.origin, (1014, 5002, 15), atol=0.002)
         assert plan.table["tonnes"].tolist() == [400] * 8 and plan.table["cu"].max() == 1.5
-    pitplan.write_shells(plan_folder(table, PROJECT, ('domain = "region"', 'domain = "region"\nreblock = [2, 2, 1]')))
+    pitplan.write_shells(
+        plan_folder(table, PROJECT, ('domain = "region"', 'domain = "region"\nreblock = [2, 2, 1]')), writing=PLAIN
+    )
 
 
 def test_blocks_of_cells_without_a_row_have_the_planners_centres(plan_folder, one_block):
@@ -345,7 +348,7 @@ def test_blocks_of_cells_without_a_row_have_the_planners_centres(plan_folder, on
     table = pd.read_csv(one_block.parent / "blocks.csv")
     rock = 'domain = "region"\nmissing_blocks = { tonnes = 90, rock_type = "R", domain = "1" }'
     path = plan_folder(table[table["name"] != "b3-2-0"], PROJECT, ('domain = "region"', rock))
-    pitplan.write_shells(path)
+    pitplan.write_shells(path, writing=PLAIN)
     blocks = pd.read_csv(path.parent / "plan" / "tables/blocks.csv").set_index("name")
     added = blocks.loc[[name for name in blocks.index if name.startswith("absent-")]]
     assert added["tonnes"].tolist() == [90] and np.allclose(added[["x", "y", "z"]], [[1043, 4999, 5]], atol=0.002)
@@ -362,7 +365,7 @@ def test_a_simulated_model_is_matched_by_the_planners_centres(plan_folder, tmp_p
 
 def test_the_second_look_sees_a_wrong_azimuth(plan_folder, tmp_path, capsys):
     path = plan_folder(turned(hill(), 30), PROJECT, domains_at(30), ("size = [10, 10, 10]", "azimuth = 30"))
-    pitplan.write_shells(path)
+    pitplan.write_shells(path, writing=PLAIN)
     for azimuth in (-30, 30.02):
         shutil.copytree(path.parent / "plan", tmp_path / "other", dirs_exist_ok=True)
         told = tmp_path / "other" / "plan.json"

@@ -11,7 +11,8 @@ import pandas as pd
 import pytest
 from conftest import PROJECT, rows
 from helpers.random_tests import examples
-from helpers.verified import TEXT, UNVERIFIED, deposit, looked_at, ore_everywhere, wrong
+from helpers.verified import TEXT, deposit, looked_at, ore_everywhere, wrong
+from helpers.writings import PLAIN, UNVERIFIED
 from hypothesis import HealthCheck, given, strategies as st
 
 import pitplan
@@ -37,7 +38,7 @@ def answered(tmp_path_factory):
     deposit().to_csv(place / "blocks.csv", index=False)
     (place / "project.toml").write_text(TEXT)
     project = load(place / "project.toml")
-    pitplan.write_shells(project)
+    pitplan.write_shells(project, writing=PLAIN)
     return place, read_record(project.folder)
 
 
@@ -72,7 +73,7 @@ def test_what_is_right_is_told_rule_by_rule(answered, copied, capsys):
 
 def test_a_run_may_leave_it_out_and_says_so(plan_folder):
     path = plan_folder(deposit(), TEXT)
-    assert main(["shells", str(path), "--quiet", "--no-verify"]) == 0
+    assert main(["shells", str(path), "--quiet", "--no-verify", "--no-figures"]) == 0
     assert json.loads((path.parent / "plan" / "plan.json").read_text())["verified"] == []
     assert "were not verified" in (path.parent / "plan" / "report.html").read_text()
     assert main(["verify", str(path.parent / "plan")]) == 0
@@ -336,7 +337,7 @@ def test_a_last_digit_is_found_at_any_block(plan_folder, monkeypatch, sampled):
     """Also far from any shell, and where an amount lies halfway between two cents: it is rounded to the even one."""
     monkeypatch.setattr("planaudit.money.block_values.SAMPLE", sampled)
     path = plan_folder(halves(), PROJECT.replace("mining_cost = 2\n", "mining_cost = 2\ndecimals = 2\n"))
-    pitplan.write_shells(path)
+    pitplan.write_shells(path, writing=PLAIN)
     blocks = path.parent / "plan" / "tables/blocks.csv"
     whole = pd.read_csv(blocks)
     assert set(whole["mining_cost"]) == {200.0, 0.0, 200.02, 66.67, 199.98}
@@ -364,7 +365,7 @@ def refused(plan_folder, table=None, text=TEXT, *changes):
     """What a run says that is refused by its second look; nothing of it stays."""
     path = plan_folder(deposit() if table is None else table, text, *changes)
     with pytest.raises(PlanError, match="verification failed") as said:
-        pitplan.write_shells(load(path), path.parent / "plan")
+        pitplan.write_shells(load(path), path.parent / "plan", writing=PLAIN)
     assert not (path.parent / "plan").exists()
     return str(said.value)
 
@@ -379,7 +380,7 @@ def test_a_misread_table_fails_the_verification_of_the_run(plan_folder, monkeypa
 
     monkeypatch.setattr(reader, "read", misread)
     with pytest.raises(PlanError, match="verification failed") as said:
-        pitplan.write_shells(path)
+        pitplan.write_shells(path, writing=PLAIN)
     assert {line.split(":")[0].strip() for line in str(said.value).splitlines()[1:]} == {
         "blocks",
         "money",
@@ -388,13 +389,13 @@ def test_a_misread_table_fails_the_verification_of_the_run(plan_folder, monkeypa
         "years",
     }
     monkeypatch.undo()
-    pitplan.write_shells(path)
+    pitplan.write_shells(path, writing=PLAIN)
     assert wrong(path.parent / "plan") == set()
 
 
 def test_a_table_that_changed_since_the_run_is_read_again(plan_folder):
     path = plan_folder(deposit(), TEXT)
-    pitplan.write_shells(path)
+    pitplan.write_shells(path, writing=PLAIN)
     table = deposit()
     table.assign(cu=table["cu"].where(table["cu"] < 6, 5.9)).to_csv(path.parent / "blocks.csv", index=False)
     assert wrong(path.parent / "plan") == {"blocks", "inputs", "money", "shells", "years", "grade tonnage"}

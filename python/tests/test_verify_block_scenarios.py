@@ -15,6 +15,7 @@ from helpers.random_projects import pick, project_of, table_of
 from helpers.random_tests import seeds
 from helpers.verified import TEXT
 from helpers.verified_scenarios import SETS, answer_of, bend, simulated
+from helpers.writings import PLAIN
 
 from pitplan import PlanError, gather, verify as verify_folder
 from pitplan.cli import main
@@ -25,12 +26,11 @@ from planaudit.schedules.best_ore import most_earned
 
 LIMITS = ("processing_capacity = 150\nmining_capacity = 1000", "processing_capacity = 300\nmining_capacity = 9000")
 YEARLY = TEXT.replace("discount_rate = 0.1", 'discount_rate = 0.1\ndiscounting = "mid_year"').replace(*LIMITS)
-pytestmark = pytest.mark.usefixtures("without_figures")
 RULES = ["blocks", "missing blocks", "slope error", "scenarios", "block order", "block value", "one schedule", "tables"]
 
 
 @pytest.fixture(scope="module")
-def gathered(tmp_path_factory, without_figures):
+def gathered(tmp_path_factory):
     """Three models of a hill at two sets of prices, with fixed blocks, two metals, a ramp-up and a limit of metal."""
     place = tmp_path_factory.mktemp("scheduled")
     simulated().to_csv(place / "blocks.csv", index=False)
@@ -91,7 +91,7 @@ def test_each_wrong_answer_is_found_and_not_gathered(copied, capsys, number, cha
     bend(answer_of(copied, number), **changed)
     assert found <= wrong(copied)
     before = (copied / "tables/schedules.csv").read_bytes()
-    assert main(["gather", str(copied), "--quiet"]) == 1
+    assert main(["gather", str(copied), "--quiet", "--no-figures"]) == 1
     assert "pitplan: " in capsys.readouterr().err and (copied / "tables/schedules.csv").read_bytes() == before
 
 
@@ -252,7 +252,7 @@ def test_a_mean_of_something_else_is_found(plan_folder, monkeypatch):
     monkeypatch.setattr(worker, "mean_of", lambda shared: worth_less(block_work_mean(shared)))
     folder = solved(plan_folder, pillars(RICH, POOR))
     with pytest.raises(PlanError, match="block value: the common schedule, as planned: value "):
-        gather(folder)
+        gather(folder, writing=PLAIN)
     assert not (folder / "tables/schedules.csv").exists()
 
 
@@ -264,7 +264,7 @@ def test_milling_more_than_the_mill_takes_is_found(plan_folder, monkeypatch):
     monkeypatch.setattr(tables, "best_shares", lambda problem, blocks, year, share: np.array([0, 1]) * (share + 1))
     folder = solved(plan_folder, pillars(RICH, POOR))
     with pytest.raises(PlanError, match="one schedule: sim_1|one schedule: scenario 1, sim_1"):
-        gather(folder)
+        gather(folder, writing=PLAIN)
 
 
 def test_milling_less_than_the_best_is_found(plan_folder, monkeypatch):
@@ -274,7 +274,7 @@ def test_milling_less_than_the_best_is_found(plan_folder, monkeypatch):
     )
     folder = solved(plan_folder, pillars(RICH, POOR))
     with pytest.raises(PlanError, match="one schedule: scenario 1, sim_1, year 1: feed_tonnes 99 for 100"):
-        gather(folder)
+        gather(folder, writing=PLAIN)
 
 
 def test_prices_that_are_passed_over_are_found(plan_folder, monkeypatch):
@@ -282,7 +282,7 @@ def test_prices_that_are_passed_over_are_found(plan_folder, monkeypatch):
     sets = "[[scenarios.prices]]\ncopper = 8000\n[[scenarios.prices]]\ncopper = 12_000\n"
     folder = solved(plan_folder, pillars(RICH, POOR), TWO_YEARS + sets)
     with pytest.raises(PlanError, match="block value: scenario 2, sim_1 at copper 12000: value "):
-        gather(folder)
+        gather(folder, writing=PLAIN)
 
 
 def test_amounts_in_the_middle_of_two_are_rounded_as_they_are_written(plan_folder):
@@ -291,7 +291,7 @@ def test_amounts_in_the_middle_of_two_are_rounded_as_they_are_written(plan_folde
     folder = solved(
         plan_folder, pillars(RICH, POOR), TWO_YEARS.replace("mining_cost = 2\n", "mining_cost = 2.135\ndecimals = 0\n")
     )
-    gather(folder)
+    gather(folder, writing=PLAIN)
     years = pd.read_csv(folder / "tables/common_schedule_years.csv")
     assert years[years["realisation"] == "sim_2"]["cash_flow"].tolist() == [-4 * 214, 1000 - 2 * 214]
 
@@ -334,7 +334,7 @@ def test_schedules_of_random_projects_are_right(plan_folder, seed):
         assert text.count(old) == 1
         text = text.replace(old, REFUSED.sub("", new))
     table = table_of(rng)
-    for name in ("cu_1", "cu_2", "cu_3"):
+    for name in ("cu_1", "cu_2"):
         table[name] = (table["cu"] * rng.lognormal(0, 0.7, len(table))).round(2)
     limits = "[schedule]\nyears = 5\nramp_up = [0.6, 1]\n" + pick(
         rng, "", "max_metal_per_year = { copper = 15, gold = 300 }\n"

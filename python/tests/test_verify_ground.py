@@ -14,6 +14,7 @@ from helpers.constraints import FIXED_SECTION, ores_and_fixed, with_section
 from helpers.missing_blocks import ROCK, deposit
 from helpers.scenarios import COLUMNS, UPRIGHT, pillar, prepared, solved_in_turn
 from helpers.verified import looked_at, ore_everywhere, wrong
+from helpers.writings import PLAIN
 
 import pitplan
 from pitplan import Plan, PlanError, constraints, load, verify
@@ -99,7 +100,7 @@ def test_rock_of_scenarios_that_the_project_does_not_give_is_found(plan_folder, 
     shared = prepared(path)
     solved_in_turn(shared)
     with pytest.raises(PlanError, match="missing blocks: block absent-1: tonnes 95.0 for 90.0"):
-        pitplan.gather(shared.folder)
+        pitplan.gather(shared.folder, writing=PLAIN)
 
 
 def with_absent(project, changed):
@@ -207,7 +208,7 @@ def test_points_that_make_no_triangle_demand_nothing_beside_them(plan_folder, tm
 def pits(plan_folder):
     """The folder of a pit with fixed blocks and without them."""
     project = load(plan_folder(ores_and_fixed(), with_section(FIXED_SECTION)))
-    pitplan.write_pit(project, 1.5)
+    pitplan.write_pit(project, 1.5, writing=PLAIN)
     verified = read_record(project.folder / "pit")["verified"]
     assert [line.split(":")[0] for line in verified][-3:] == ["years", "conventions", "without constraints"]
     return project.folder / "pit"
@@ -280,5 +281,5 @@ def test_a_pit_without_fixed_blocks_that_leaves_a_block_standing_is_refused(plan
     project = load(plan_folder(ores_and_fixed(), with_section(FIXED_SECTION)))
     monkeypatch.setattr(problem, "ready", partial(bent, problem.ready))
     with pytest.raises(PlanError, match="without constraints: slopes: block .*, depends on a block that is not"):
-        pitplan.write_pit(project, 1.5)
+        pitplan.write_pit(project, 1.5, writing=PLAIN)
     assert not (project.folder / "pit").exists()

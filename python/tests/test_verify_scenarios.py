@@ -9,8 +9,9 @@ import pytest
 from conftest import rows
 from helpers.random_tests import examples
 from helpers.scenarios import COLUMNS, MODELS, PRICES, UPRIGHT, hill, pillar, prepared, solved_in_turn, write_models
-from helpers.verified import TEXT, UNVERIFIED
+from helpers.verified import TEXT
 from helpers.verified_scenarios import SETS, answer_of, bend, simulated
+from helpers.writings import PLAIN, UNVERIFIED
 from hypothesis import HealthCheck, given, strategies as st
 
 import pitplan
@@ -29,7 +30,7 @@ def gathered(tmp_path_factory):
     (place / "project.toml").write_text(TEXT + '[scenarios]\ncolumns = { copper = "cu_*" }\n' + SETS)
     shared = prepared(place / "project.toml")
     solved_in_turn(shared)
-    notes = pitplan.gather(shared.folder).notes
+    notes = pitplan.gather(shared.folder, writing=PLAIN).notes
     assert not any("left out" in note for note in notes)
     return place
 
@@ -73,7 +74,7 @@ def test_what_is_right_is_told_rule_by_rule(copied, capsys):
 
 def test_a_run_may_leave_it_out_and_says_so(copied, capsys):
     (copied / "tables/probability.csv").unlink()
-    assert main(["gather", str(copied), "--quiet", "--no-verify"]) == 0
+    assert main(["gather", str(copied), "--quiet", "--no-verify", "--no-figures"]) == 0
     assert f"the results were not verified: run pitplan verify {copied}\n" in capsys.readouterr().err
     assert json.loads((copied / "gathered.json").read_text())["verified"] == []
     assert wrong(copied) == set()
@@ -108,7 +109,7 @@ def test_each_wrong_answer_is_found_and_not_gathered(copied, capsys, changed, fo
     bend(answer_of(copied, 1), **changed)
     assert found <= wrong(copied)
     before = (copied / "tables/probability.csv").read_bytes(), (copied / "gathered.json").read_bytes()
-    assert main(["gather", str(copied), "--quiet"]) == 1
+    assert main(["gather", str(copied), "--quiet", "--no-figures"]) == 1
     assert "pitplan: verification failed: " in capsys.readouterr().err
     assert before == ((copied / "tables/probability.csv").read_bytes(), (copied / "gathered.json").read_bytes())
 
@@ -117,7 +118,7 @@ def test_a_block_that_comes_in_at_no_factor_is_found(copied, capsys):
     bend(answer_of(copied, 1), places=lambda it: it + 7 * (it == 3))
     (rule,) = [rule for rule in verify(copied) if rule.name == "tables"]
     assert rule.differences[0] == "scenario 1, cu_a at copper 8000, gold 60: a block has none of the revenue factors"
-    assert main(["gather", str(copied), "--quiet"]) == 1
+    assert main(["gather", str(copied), "--quiet", "--no-figures"]) == 1
     assert "it holds other blocks or factors: remove it, and run pitplan scenarios again" in capsys.readouterr().err
 
 
@@ -127,7 +128,7 @@ def test_the_answer_of_another_scenario_is_found(copied, one, other):
     with np.load(answer_of(copied, other)) as answer:
         arrays = {**answer, "key": answer_of(copied, one).stem}
     np.savez_compressed(answer_of(copied, one), **arrays)
-    assert main(["gather", str(copied), "--quiet", "--no-verify"]) == 0
+    assert main(["gather", str(copied), "--quiet", "--no-verify", "--no-figures"]) == 0
     assert "values" in wrong(copied)
 
 
@@ -260,7 +261,7 @@ def test_rows_of_a_model_that_are_taken_in_their_own_order_are_found(plan_folder
     folder = prepared(path).folder
     solved_in_turn(prepared(path))
     with pytest.raises(PlanError, match="values: scenario 1, mixed at copper 40000: revenue factor"):
-        pitplan.gather(folder)
+        pitplan.gather(folder, writing=PLAIN)
     assert not (folder / "tables/probability.csv").exists()
 
 
@@ -273,7 +274,7 @@ def test_prices_that_are_passed_over_are_found(plan_folder, monkeypatch):
         PlanError,
         match="values: scenario 2, sim_1 at copper 12000: revenue factor 0.50: value_at_revenue_factor 1400.* for 2900",
     ):
-        pitplan.gather(shared.folder)
+        pitplan.gather(shared.folder, writing=PLAIN)
 
 
 def test_a_cost_that_is_counted_from_another_level_is_found(plan_folder, monkeypatch):
@@ -294,7 +295,7 @@ def test_a_cost_that_is_counted_from_another_level_is_found(plan_folder, monkeyp
     path = plan_folder(pd.concat([table, side]), *text)
     shared = prepared(path)
     solved_in_turn(shared)
-    pitplan.gather(shared.folder)
+    pitplan.gather(shared.folder, writing=PLAIN)
     # 30 m is the top of the three blocks that ore needs, and 50 m that of the model, from which they cost 0.5, 0.75 and 1 more a tonne.
     assert pd.read_csv(shared.folder / "tables/scenarios.csv")["value_at_revenue_factor"][1] == 4400 - 50 - 75 - 100
     monkeypatch.setattr("pitplan.economics.weighing.reference_level", lambda *_: 2)
@@ -302,7 +303,7 @@ def test_a_cost_that_is_counted_from_another_level_is_found(plan_folder, monkeyp
     shared = prepared(path)
     solved_in_turn(shared)
     with pytest.raises(PlanError, match="values: scenario 1, sim_1: revenue factor 0.50: value_at_revenue_factor "):
-        pitplan.gather(shared.folder)
+        pitplan.gather(shared.folder, writing=PLAIN)
 
 
 def test_ten_scenarios_of_more_are_looked_at_evenly(plan_folder):
@@ -333,7 +334,7 @@ def test_sets_of_prices_that_name_other_metals_are_kept_apart(plan_folder):
 def test_answers_that_were_not_gathered_are_named(plan_folder):
     shared = prepared(plan_folder(pillar(), COLUMNS, UPRIGHT))
     assert [worker.solve(str(shared.folder), number).status for number in (1, 3)] == [0, 0]
-    pitplan.gather(shared.folder, Request(partial=True))
+    pitplan.gather(shared.folder, Request(partial=True), writing=PLAIN)
     assert wrong(shared.folder) == set() and json.loads((shared.folder / "gathered.json").read_text())["answers"] == [
         1,
         3,
@@ -427,7 +428,7 @@ def test_tables_and_models_that_are_gone_are_named(copied, plan_folder):
     path = plan_folder(table, MODELS)
     write_models(path, only=model)
     solved_in_turn(prepared(path))
-    pitplan.gather(prepared(path).folder)
+    pitplan.gather(prepared(path).folder, writing=PLAIN)
     shutil.rmtree(path.parent / "realisations")
     with pytest.raises(AuditError, match="/realisations: cannot be read: No such file or directory"):
         verify(path.parent / "plan")

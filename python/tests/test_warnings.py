@@ -62,7 +62,7 @@ def test_cut_blocks_do_not_make_a_model_light(plan_folder):
 def test_warnings_come_last_and_apart(plan_folder, capsys):
     """Behind a line without words, also those of the table, which were told in the middle of the run."""
     path = plan_folder(ore().assign(cu=40.0), PROJECT)
-    assert main(["shells", str(path)]) == 0
+    assert main(["shells", str(path), "--no-figures"]) == 0
     lines = capsys.readouterr().err.split("\n")
     first = next(number for number, line in enumerate(lines) if line.startswith("WARNING"))
     assert lines[first - 1] == "" and lines[first - 2].strip()

@@ -15,6 +15,7 @@ import httpx
 import pytest
 from helpers.browser_application import OWN, PORT, client_of, ended, entered
 from helpers.pushbacks import UPRIGHT, pillars
+from helpers.writings import PLAIN, REPORTED, UNVERIFIED
 
 import pitplan
 from pitplan import PlanError
@@ -173,7 +174,7 @@ def test_hidden_files_and_those_of_no_results_are_not_given(root, client):
 def test_the_first_page_lists_projects_and_results(root, client):
     (root / "broken.toml").write_text("[table\n")
     (root / "other.toml").write_text("[tool]\nname = 1\n")
-    pitplan.write_shells(root / "hill" / "project.toml")
+    pitplan.write_shells(root / "hill" / "project.toml", writing=PLAIN)
     text = client.get("/").text
     assert "hill/project.toml" in text and "cannot be read" in text and "other.toml" not in text
     assert [it.kind for it in Workspace(root).results()] == ["Shells"] and "/result?name=hill/plan" in text
@@ -187,7 +188,7 @@ def test_a_folder_without_projects_says_how_to_make_one(tmp_path, access):
 
 
 def test_results_have_their_tables_with_units_and_pages_in_a_sandbox(root, client):
-    pitplan.write_shells(root / "hill" / "project.toml")
+    pitplan.write_shells(root / "hill" / "project.toml", writing=REPORTED)
     text = client.get("/result?name=hill/plan").text
     assert "/table?name=hill/plan/tables/shells.csv" in text and "rules of the independent verification hold" in text
     table = client.get("/table?name=hill/plan/tables/shells.csv").text
@@ -198,7 +199,7 @@ def test_results_have_their_tables_with_units_and_pages_in_a_sandbox(root, clien
 
 
 def test_results_that_were_not_verified_say_so(root, client):
-    pitplan.write_shells(root / "hill" / "project.toml", writing=pitplan.Writing(verifies=False))
+    pitplan.write_shells(root / "hill" / "project.toml", writing=UNVERIFIED)
     assert "Not verified." in client.get("/result?name=hill/plan").text
 
 

@@ -7,6 +7,7 @@ import pytest
 import tomllib
 from conftest import PROJECT, rows
 from helpers.browser_application import OWN, PORT, entered
+from helpers.writings import UNVERIFIED
 
 import pitplan
 from pitplan.config.geometry import Area
@@ -52,7 +53,7 @@ def test_an_area_that_is_drawn_is_a_file_and_a_key_and_holds_in_the_pits(path, c
     model = client.get("/blocks/model", params={"name": NAME}).json()
     (area,) = model["areas"]
     assert area["name"] == "lease" and area["exclude"] == "outside" and [40.0, 40.25] in area["rings"][0]
-    pitplan.write_shells(path, writing=pitplan.Writing(figures=False, verifies=False))
+    pitplan.write_shells(path, writing=UNVERIFIED)
     blocks = pitplan.Plan.from_project(path).blocks
     assert len(blocks) == 8 * 8 * 3
     mined = client.get("/blocks/values", params={"name": "hill/plan", "column": "revenue_factor"}).content

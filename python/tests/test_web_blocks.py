@@ -10,6 +10,7 @@ import pytest
 import tomllib
 from helpers.browser_application import OWN, PORT, ended, entered
 from helpers.pushbacks import PUSHBACKS, pillars
+from helpers.writings import UNVERIFIED
 
 import pitplan
 from pitplan.cli.parser import FORMATS
@@ -22,7 +23,6 @@ from pitplan.web.run_form import WrongForm
 from pitplan.web.security import Access
 
 NAME = "hill/project.toml"
-UNDRAWN = pitplan.Writing(figures=False, verifies=False)
 
 
 @pytest.fixture(scope="module")
@@ -34,8 +34,8 @@ def served(tmp_path_factory):
     table["zone"] = [f"Z{number % 3}" for number in range(len(table))]
     table.to_csv(root / "hill" / "blocks.csv", index=False)
     (root / "hill" / "project.toml").write_text(PUSHBACKS)
-    pitplan.write_shells(root / "hill" / "project.toml", writing=UNDRAWN)
-    pitplan.write_schedule(root / "hill" / "project.toml", root / "hill" / "plan" / "schedule", writing=UNDRAWN)
+    pitplan.write_shells(root / "hill" / "project.toml", writing=UNVERIFIED)
+    pitplan.write_schedule(root / "hill" / "project.toml", root / "hill" / "plan" / "schedule", writing=UNVERIFIED)
     return root
 
 
@@ -83,7 +83,7 @@ def test_nulls_are_drawn_as_nulls_and_not_as_zero(tmp_path, of):
     text = PUSHBACKS.replace("[table]\n", '[table]\nempty = "zero"\nnull_values = [-99]\n', 1)
     (tmp_path / "project.toml").write_text(text)
     if of == "result":
-        pitplan.write_shells(tmp_path / "project.toml", tmp_path / "plan", writing=UNDRAWN)
+        pitplan.write_shells(tmp_path / "project.toml", tmp_path / "plan", writing=UNVERIFIED)
     blocks = (
         block_data.of_project(tmp_path / "project.toml")
         if of == "project"
@@ -103,7 +103,7 @@ def test_a_result_without_its_block_model_or_without_nulls_is_shown(served, tmp_
     pillars().to_csv(tmp_path / "blocks.csv", index=False)
     text = PUSHBACKS.replace("[table]\n", '[table]\nempty = "zero"\n', 1)
     (tmp_path / "project.toml").write_text(text)
-    pitplan.write_shells(tmp_path / "project.toml", tmp_path / "plan", writing=UNDRAWN)
+    pitplan.write_shells(tmp_path / "project.toml", tmp_path / "plan", writing=UNVERIFIED)
     (tmp_path / "blocks.csv").unlink()
     assert block_data.of_results(tmp_path / "plan").nulls == {}
     monkeypatch.setattr(block_data.reader, "read", lambda project: pytest.fail("the block model is read again"))

@@ -19,6 +19,7 @@ from helpers.browser_clicks import (
     wait,
     words_of,
 )
+from helpers.writings import UNVERIFIED
 
 import pitplan
 
@@ -39,7 +40,7 @@ def server(tmp_path_factory):
     folder.mkdir()
     rows(12, 10, 6, cu=lambda i, j, k: (i * 7 + j * 5 + k * 3) % 11 / 4).to_csv(folder / "blocks.csv", index=False)
     (folder / "project.toml").write_text(TEXT)
-    pitplan.write_shells(folder / "project.toml", writing=pitplan.Writing(figures=False, verifies=False))
+    pitplan.write_shells(folder / "project.toml", writing=UNVERIFIED)
     found = Server(folder)
     found.root = folder
     yield found

@@ -6,6 +6,7 @@ import time
 import pandas as pd
 import pytest
 from helpers.pushbacks import UPRIGHT, pillars
+from helpers.writings import PLAIN
 from starlette.testclient import TestClient
 
 import pitplan
@@ -27,7 +28,7 @@ def root(tmp_path_factory):
     (folder / "project.toml").write_text(UPRIGHT)
     for name, price in (("low", 8000), ("high", 9000)):
         project = pitplan.load(folder / "project.toml", overrides=[f"metals.copper.price={price}"])
-        pitplan.write_shells(project, folder / name)
+        pitplan.write_shells(project, folder / name, writing=PLAIN)
     return folder
 
 

@@ -11,12 +11,12 @@ import pandas as pd
 import pytest
 from conftest import PROJECT, rows
 from helpers.pushbacks import PUSHBACKS, UPRIGHT, pillars, with_pushbacks
-from helpers.verified import UNVERIFIED, differing
+from helpers.verified import differing
+from helpers.writings import PLAIN, UNVERIFIED
 
 import pitplan
 from pitplan import PlanError, load, verify
 from pitplan.cli import main
-from pitplan.export import xlsx
 from pitplan.results.folder import read_record
 from pitplan.scheduling import pushback_schedule
 from pitplan.scheduling.flow import programme as programmes, scheduler
@@ -28,7 +28,7 @@ WORTHS = [2600, 1400, 600]
 
 def scheduled(plan_folder, words="", text=PUSHBACKS):
     project = load(plan_folder(pillars(), text + words))
-    return pitplan.write_schedule(project).set_index("method"), project.folder / "schedule"
+    return pitplan.write_schedule(project, writing=PLAIN).set_index("method"), project.folder / "schedule"
 
 
 def test_three_pillars_by_hand(plan_folder):
@@ -118,17 +118,17 @@ def test_limits_within_which_nothing_can_be_dug_are_refused(plan_folder, words):
         PlanError,
         match="project.toml: .schedule. years: within these limits nothing can be mined in 1 year: check processing_capacity",
     ):
-        pitplan.write_schedule(path)
+        pitplan.write_schedule(path, writing=PLAIN)
 
 
 def test_without_pushbacks_nothing_is_scheduled(plan_folder):
     with pytest.raises(PlanError, match="project.toml: .pushbacks. is missing"):
-        pitplan.write_schedule(plan_folder(pillars(), UPRIGHT))
+        pitplan.write_schedule(plan_folder(pillars(), UPRIGHT), writing=PLAIN)
 
 
 def test_the_command_line_tells_the_ways(plan_folder, capsys):
     path = plan_folder(pillars(), PUSHBACKS)
-    assert main(["schedule", str(path), "--quiet"]) == 0
+    assert main(["schedule", str(path), "--quiet", "--no-figures"]) == 0
     said = capsys.readouterr()
     lines = [line.split() for line in said.out.splitlines()]
     assert lines[0][:2] == ["method", "NPV"] and [line[:2] for line in lines[2:4]] == [
@@ -145,13 +145,13 @@ def test_the_command_line_tells_the_ways(plan_folder, capsys):
 
 def test_the_size_of_the_programme_is_told_before_it_is_solved(plan_folder, capsys):
     """Six benches and three parcels of ore, in a fifth more than the rule's three years."""
-    assert main(["schedule", str(plan_folder(pillars(), PUSHBACKS))]) == 0
+    assert main(["schedule", str(plan_folder(pillars(), PUSHBACKS)), "--no-figures"]) == 0
     said = "solving the linear programme of 4 years and 3 parcels, 36 variables .."
     assert said in capsys.readouterr().err
 
 
 @pytest.fixture(scope="module")
-def written(tmp_path_factory, without_workbooks):
+def written(tmp_path_factory):
     """A hill in three pushbacks under several limits, with the workbook."""
     place = tmp_path_factory.mktemp("scheduled")
     table = rows(
@@ -165,9 +165,7 @@ def written(tmp_path_factory, without_workbooks):
     table.to_csv(place / "blocks.csv", index=False)
     words = "[schedule]\nmining_capacity = 700\nvertical_advance_rate = 2\nramp_up = [0.5, 1]\nmax_metal_per_year = { copper = 2 }\n"
     (place / "project.toml").write_text(with_pushbacks("count = 3", PROJECT) + words)
-    with pytest.MonkeyPatch.context() as patch:
-        patch.setattr(xlsx, "write", without_workbooks)
-        pitplan.write_schedule(place / "project.toml")
+    pitplan.write_schedule(place / "project.toml", writing=pitplan.Writing(figures=False))
     return place
 
 
@@ -300,7 +298,7 @@ def test_limits_that_are_told_as_others_are_found(copied, bent):
 def test_a_lag_that_is_not_kept_is_found(plan_folder):
     """The waste of the second pillar is mined in the first year, and the ore of the first in the second."""
     path = plan_folder(pillars(), PUSHBACKS + "[schedule]\nvertical_advance_rate = 1\n")
-    pitplan.write_schedule(path)
+    pitplan.write_schedule(path, writing=PLAIN)
     path.write_text(path.read_text() + "bench_lag = 1\n")
     assert differing(path.parent / "plan" / "schedule", "schedule order")
 
@@ -407,7 +405,7 @@ def test_an_interruption_keeps_what_is_found_so_far(plan_folder, capsys, monkeyp
 
     monkeypatch.setattr(programmes, "solve", interrupted)
     path = plan_folder(pillars(), PUSHBACKS)
-    assert main(["schedule", str(path), "--quiet"]) == 130
+    assert main(["schedule", str(path), "--quiet", "--no-figures"]) == 130
     folder = path.parent / "plan" / "schedule"
     told = json.loads((folder / "schedule.json").read_text())
     assert list(told["methods"]) == ["rule"] and told["upper_bound"] is None and told["interrupted"]
@@ -420,7 +418,7 @@ def test_an_interruption_while_depths_are_improved_keeps_the_schedule(plan_folde
         raise KeyboardInterrupt
 
     monkeypatch.setattr(scheduler, "improved_depths", interrupted)
-    assert main(["schedule", str(path := plan_folder(pillars(), PUSHBACKS))]) == 130
+    assert main(["schedule", str(path := plan_folder(pillars(), PUSHBACKS)), "--no-figures"]) == 130
     told = json.loads((path.parent / "plan/schedule/schedule.json").read_text())
     assert list(told["methods"]) == ["rule", "lp"] and told["interrupted"]
     assert told["methods"]["lp"]["npv"] >= told["methods"]["rule"]["npv"]

@@ -47,9 +47,7 @@ def project_of(options: Namespace) -> Project:
 def writing_of(options: Namespace) -> Writing:
     from ..commands.writing import Writing
 
-    return Writing(
-        progress_of(options), not options.no_verify, False if getattr(options, "no_figures", False) else None
-    )
+    return Writing(progress_of(options), not options.no_verify, not getattr(options, "no_figures", False))
 
 
 def draw_block_model(model: GuessedModel, path: Path) -> None:

@@ -66,7 +66,7 @@ def write(answer: Answer, folder: Union[str, Path], writing: Optional[Writing] =
 
 
 def write_answer(answer: Answer, run: Run) -> None:
-    """Writes tables, pictures, the report and the record of an answer.
+    """Writes the tables and the record of an answer, and pictures, workbook and report if they are wanted.
 
     Raises
     ------
@@ -80,15 +80,15 @@ def write_answer(answer: Answer, run: Run) -> None:
         run.record["notes"] += answer.all_notes
     check_fixed(run.mine, shells.solution, shells.selected, progress)
     run.record.pop("solver")
-    run.record.update(answer.summary(), figures=run.writing.draws)
+    run.record.update(answer.summary(), figures=run.writing.figures)
     written = [names.TABLE, *(names.of_table(name) for name in tables if name != "blocks"), *write_records(answer, run)]
     with verifying(run):
-        if run.writing.draws:
+        if run.writing.figures:
             from .drawing import draw
 
             with progress.step("drawing"):
-                written += draw(answer, tables, stage)
-        if answer.as_schedule is not None:
+                written += draw(answer, tables, stage, run.writing.processes)
+        if answer.as_schedule is not None and run.writing.workbook:
             from . import workbook
 
             with progress.step("writing the workbook"):
@@ -96,7 +96,8 @@ def write_answer(answer: Answer, run: Run) -> None:
             written.append(names.WORKBOOK)
         found = hashed(run.project, [*mine_files.of_program(stage), *written], stage)
     finish(run.record, found, stage)
-    html.write(stage / names.REPORT, stage, run.project)
+    if run.writing.report:
+        html.write(stage / names.REPORT, stage, run.project)
 
 
 def check_fixed(mine: Mine, solution: Solution, factor: float, progress: Progress) -> None:

@@ -145,7 +145,7 @@ def write(made: Comparison, writing: Writing) -> None:
     with staged(made.folder, names.COMPARISON, names.OF_COMPARISON, (layout.TABLES, layout.FIGURES)) as stage:
         for name, table in made.tables.items():
             shown(table).to_csv(stage / name, index=False)
-        if writing.draws:
+        if writing.figures:
             with writing.progress.step("drawing"):
                 draw(made, stage)
         write_json(stage / names.COMPARISON, record_of(made) | {"files": hashes(stage, [*made.tables])})

@@ -5,6 +5,7 @@ from __future__ import annotations
 from collections.abc import Callable, Iterator
 from functools import partial
 from pathlib import Path
+from typing import Optional
 
 import pandas as pd
 
@@ -30,7 +31,7 @@ from .writing import (
 Drawing = tuple[str, Callable[[Path], object]]
 
 
-def draw(answer: Answer, tables: dict[str, pd.DataFrame], stage: Path) -> list[str]:
+def draw(answer: Answer, tables: dict[str, pd.DataFrame], stage: Path, processes: Optional[int] = None) -> list[str]:
     """Draws the pictures of shells, and those of pushbacks and schedules if there are any, at the same time.
 
     Parameters
@@ -40,6 +41,8 @@ def draw(answer: Answer, tables: dict[str, pd.DataFrame], stage: Path) -> list[s
         Its tables.
     stage : Path
         The folder of the pictures.
+    processes : int, optional
+        The most processes at a time; see `Writing`.
 
     Returns
     -------
@@ -51,7 +54,7 @@ def draw(answer: Answer, tables: dict[str, pd.DataFrame], stage: Path) -> list[s
     formats = figures.formats if figures else ()
     drawings = [*of_shells(shells, tables), *of_pushbacks(answer), *of_schedule(answer, tables["years"])]
     with also_as(formats):
-        run_all([partial(write, stage / name) for name, write in drawings])
+        run_all([partial(write, stage / name) for name, write in drawings], processes)
     return files_of({name: name for name, _ in drawings}, formats)
 
 

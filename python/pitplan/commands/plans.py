@@ -134,7 +134,7 @@ def write_shells(project: Source, folder: Optional[Place] = None, writing: Writi
     project = read(project)
     target = project.folder if folder is None else Path(folder)
     with begun(project, target, writing) as run:
-        with drawing_imported(writing.draws):
+        with drawing_imported(writing.figures):
             shells = Shells.solved(run.mine.plan, run.mine)
         write_answer(shells, run)
     return shells.table

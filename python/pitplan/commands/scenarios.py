@@ -95,7 +95,7 @@ def write_pits(shared: Shared, request: Request, writing: Writing) -> list[str]:
         notes = note_verified(shared, gathered.missing, writing, stage)
         with progress.step("writing the image"):
             notes += write_image(shared, gathered, stage)
-        if writing.draws:
+        if writing.figures:
             with progress.step("drawing"):
                 draw(shared, gathered, factor, stage)
     return [*notes, *notes_of_missing(gathered.missing)]
@@ -123,7 +123,7 @@ def write_schedules(shared: Shared, request: Request, writing: Writing) -> list[
             schedules = schedule_tables.gather(shared, request.partial)
             write_schedule_tables(schedules, schedule_tables.quantiles(schedules), shared, stage)
         notes = schedule_tables.notes(schedules, shared) + note_verified(shared, schedules.missing, writing, stage)
-        if writing.draws:
+        if writing.figures:
             with progress.step("drawing"):
                 draw_values(shared, schedules, stage)
     return [*notes, *notes_of_missing(schedules.missing)]
@@ -158,7 +158,7 @@ def note_verified(shared: Shared, missing: dict[int, str], writing: Writing, sta
     if writing.verifies:
         rules = verified(lambda: planaudit.verify_scenarios(shared.folder, stage), writing.progress)
     answered = [scenario.number for scenario in shared.scenarios if scenario.number not in missing]
-    write_json(stage / GATHERED, {"answers": answered, "verified": rules, "figures": writing.draws})
+    write_json(stage / GATHERED, {"answers": answered, "verified": rules, "figures": writing.figures})
     return [] if writing.verifies else [f"the results were not verified: run pitplan verify {shared.folder}"]
 
 

@@ -56,7 +56,8 @@ def write_schedule(
     """
     project = read(project)
     target = project.folder / "schedule" if folder is None else Path(folder)
-    xlsx.demand_library()
+    if writing.workbook:
+        xlsx.demand_library()
     if certificate:
         certificates.demand_statable(project)
     with begun(project, target, writing, nested.ending(project)) as run:
@@ -104,7 +105,8 @@ def write_block_schedule(
         If pitschedule does not prove the certificate.
     """
     load_library("a schedule by block")
-    xlsx.demand_library()
+    if writing.workbook:
+        xlsx.demand_library()
     # Its modules import the library themselves.
     from pitplan.scheduling.blocks import tables
     from pitplan.scheduling.blocks.from_plan import demand_of_blocks
@@ -117,7 +119,7 @@ def write_block_schedule(
     with begun(project, target, writing) as run:
         # First, since it refuses what is too large.
         planned = tables.collected(run.mine.plan, writing.progress)
-        with drawing_imported(writing.draws):
+        with drawing_imported(writing.figures):
             shells = Shells.solved(run.mine.plan, run.mine)
         schedule = tables.scheduled(planned, shells, writing.progress)
         if certificate:

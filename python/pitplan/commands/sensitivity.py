@@ -58,10 +58,10 @@ def write_sensitivity(
     project = read(project)
     target = project.folder / "sensitivity" if folder is None else Path(folder)
     demand_apart(project, target)
-    if rules_of(project).hill:
+    if rules_of(project).hill and writing.workbook:
         xlsx.demand_library()
     with staging.alone(target, sensitivity.CASES):
-        found = sensitivity.solve(project, target, where, writing.progress)
+        found = sensitivity.solve(project, target, where, writing.progress, processes=writing.processes)
         table = write_cases(found, target, writing)
     warn(found.plan.notes, InputWarning)
     return table
@@ -85,33 +85,35 @@ def write_cases(found: Sensitivity, folder: Path, writing: Writing) -> pd.DataFr
     figures = [names.TORNADO, names.SPIDER, *map(names.grid_of, pairs), names.HILL_FIGURE]
     removed = (*in_all_formats(figures), names.HILL, names.HILL_WORKBOOK)
     with staged(folder, RECORD, removed, layout.FOLDERS) as stage:
-        record = sensitivity.record(found, os.path.relpath(project.path, folder)) | {"figures": writing.draws}
-        write_tables(found, cases, stage)
+        record = sensitivity.record(found, os.path.relpath(project.path, folder)) | {"figures": writing.figures}
+        write_tables(found, cases, stage, writing.workbook)
         project_writer.write(found.asked, stage / project_writer.AS_RUN, folder)
         write_json(stage / RECORD, record)
         if writing.verifies:
             record["verified"] = verified(lambda: planaudit.verify_sensitivity(stage, folder), progress)
-        if writing.draws:
+        if writing.figures:
             with progress.step("drawing"):
                 draw(found, cases, stage)
         write_json(stage / RECORD, record)
     return cases
 
 
-def write_tables(found: Sensitivity, cases: pd.DataFrame, stage: Path) -> None:
+def write_tables(found: Sensitivity, cases: pd.DataFrame, stage: Path, workbook: bool) -> None:
     """Writes sensitivity.csv, and blocks.csv with the factor of each block in the pits of the project as given."""
     blocks = found.plan.blocks
     blocks["revenue_factor"] = found.answers[Case()].entry[blocks["id"].to_numpy()]
     csv_writer.write(stage / names.TABLE, blocks)
     write_csv(shown(cases), stage / TABLE, found.project)
     if rules_of(found.project).hill:
-        write_hill(found, stage)
+        write_hill(found, stage, workbook)
 
 
-def write_hill(found: Sensitivity, stage: Path) -> None:
-    """Writes hill_of_value.csv, and a workbook with the NPVs as a grid and the table."""
+def write_hill(found: Sensitivity, stage: Path, workbook: bool) -> None:
+    """Writes hill_of_value.csv, and if it is wanted a workbook with the NPVs as a grid and the table."""
     table = sensitivity.hill_table(found)
     write_csv(shown(table), stage / names.HILL, found.project)
+    if not workbook:
+        return
     one, other = rules_of(found.project).hill
     grid = sensitivity.grid(shown(table))
     corner = f"{other.parameter}, by column {one.parameter}"

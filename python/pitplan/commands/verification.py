@@ -97,11 +97,9 @@ class AuditProcess:
 
     def begin(self) -> None:
         """Lets it verify what is staged."""
-        assert self.child.stdin is not None
         # One that has ended says why in its last words.
         with suppress(OSError):
-            self.child.stdin.write("\n")
-            self.child.stdin.flush()
+            print(file=self.child.stdin, flush=True)
 
     def rules(self) -> list[Rule]:
         """Waits for its end and returns the rules.

@@ -66,10 +66,6 @@ WRITTEN |= {names.SENSITIVITY, names.SENSITIVITY_RECORD, names.TORNADO, names.SP
 WRITTEN |= {names.HILL, names.HILL_FIGURE, names.HILL_WORKBOOK}
 
 
-# Whether commands draw figures if their Writing leaves it open. The tests set it to False.
-DRAWS = True
-
-
 @dataclass(frozen=True)
 class Writing:
     """How a command writes its folder.
@@ -80,17 +76,23 @@ class Writing:
         Reports the steps; silent by default.
     verifies : bool
         Recalculate all results independently before they are kept.
-    figures : bool, optional
-        Draw figures, as by default. In any case those of an earlier run in the folder are removed, since they show other results.
+    figures : bool
+        Draw figures. In any case those of an earlier run in the folder are removed, since they show other results.
+    workbook : bool
+        Write the workbook of a schedule or of a hill of value. In any case that of an earlier run is removed.
+    report : bool
+        Write report.html. In any case that of an earlier run is removed.
+    processes : int, optional
+        The most processes at a time that draw figures or solve cases of a sensitivity; 1 uses this process alone. Default: one for each
+        processor.
     """
 
     progress: Progress = silent
     verifies: bool = True
-    figures: Optional[bool] = None
-
-    @property
-    def draws(self) -> bool:
-        return DRAWS if self.figures is None else self.figures
+    figures: bool = True
+    workbook: bool = True
+    report: bool = True
+    processes: Optional[int] = None
 
 
 def in_all_formats(figures: Iterable[str]) -> tuple[str, ...]:

@@ -335,7 +335,8 @@ def count_of(rules: PushbackRules, whole: float, project: Project) -> int:
     """Returns the number of pushbacks of a pit of this tonnage."""
     if rules.count is not None:
         return rules.count
-    assert rules.tonnes is not None
+    if rules.tonnes is None:
+        raise PlanError(f"{project.path}: [pushbacks]: found neither count nor tonnes, expected one of them")
     count = max(1, round(whole / rules.tonnes))
     if count > MOST_PUSHBACKS:
         why = f"the pit of {whole:,.0f} t would have {count:,} pushbacks of {rules.tonnes:,.0f} t, expected at most {MOST_PUSHBACKS}"

@@ -1,6 +1,7 @@
-"""Linear and integer programmes by HiGHS, which scipy has. As a program of its own it solves what `highs_process` has written in a folder:
+"""Linear and integer programmes by HiGHS, which scipy has. As a program of its own it solves what `highs_process` writes into folders: it reads the
+name of each from standard input, and answers with a line when that one is solved.
 
-    python highs.py FOLDER
+    echo FOLDER | python -P highs.py
 
 So it needs nothing else of this package, whose libraries take longer to be read than most programmes to be solved.
 """
@@ -8,6 +9,7 @@ So it needs nothing else of this package, whose libraries take longer to be read
 from __future__ import annotations
 
 import json
+import os
 import sys
 from dataclasses import dataclass
 from pathlib import Path
@@ -88,12 +90,22 @@ def optimum_of(programme: Programme, gap: float, seconds: Optional[float]) -> Op
     return Optimum(answer.x, np.inf if bound is None else -float(bound))
 
 
-def main(folder: Path) -> None:
+def solve(folder: Path) -> None:
+    """Solves the programme in a folder, and writes its optimum there. Raises as `optimum_of` does."""
     found = optimum_of(Programme.load(folder), **json.loads((folder / EFFORT).read_text(encoding="ascii")))
     unknowns = np.zeros(0) if found.unknowns is None else found.unknowns
     prices = np.zeros(0) if found.prices is None else found.prices
     np.savez(folder / OPTIMUM, unknowns=unknowns, bound=found.bound, prices=prices)
 
 
+def main() -> None:
+    # What HiGHS itself prints on standard output would be read as an answer.
+    with os.fdopen(os.dup(1), "w") as answers:
+        os.dup2(2, 1)
+        for line in sys.stdin:
+            solve(Path(line.removesuffix("\n")))
+            print("solved", file=answers, flush=True)
+
+
 if __name__ == "__main__":
-    main(Path(sys.argv[1]))
+    main()

@@ -218,16 +218,11 @@ def set_key(data: Data, key: str, value: Any) -> None:
 
 def change_entry(entries: list[Data], inner: list[str], value: Any) -> None:
     """Changes a key of a named entry; without a key the entry as a whole, which is added at the end if it is new."""
-    place = next((k for k, it in enumerate(entries) if str(it.get(NAME)) == inner[0]), None)
+    place = next((k for k, it in enumerate(entries) if str(it.get(NAME)) == inner[0]), len(entries))
     if len(inner) > 1:
-        assert place is not None
         set_key(entries[place], inner[1], value)
-    elif place is None:
-        entries.append(copy.deepcopy(value))
-    elif value is None:
-        del entries[place]
     else:
-        entries[place] = copy.deepcopy(value)
+        entries[place : place + 1] = [] if value is None else [copy.deepcopy(value)]
 
 
 def text_of(value: Any) -> str:

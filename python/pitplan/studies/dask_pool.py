@@ -6,13 +6,13 @@ another; if the program was killed, the task is repeated.
 
 from __future__ import annotations
 
-import os
 from dataclasses import dataclass
 from importlib import import_module
 from pathlib import Path
 from typing import Any, Iterator, Optional
 
 from pitplan.core.libraries import load, release
+from pitplan.core.processes import cores
 from pitplan.core.progress import Progress
 from pitplan.errors import PlanError
 from pitplan.studies.scenarios import worker
@@ -43,7 +43,7 @@ class Where:
     address : str
         `local`, or the address of a scheduler, such as tcp://host:8786.
     workers : int, optional
-        The number of processes of `local`. Default: one for each processor.
+        The number of processes of `local`; 0 solves in a thread of this one. Default: one for each processor.
     """
 
     address: str
@@ -51,7 +51,7 @@ class Where:
 
     @property
     def processes(self) -> int:
-        return self.workers or len(os.sched_getaffinity(0))
+        return self.workers or cores()
 
 
 def task(folder: str, number: int) -> worker.Outcome:
@@ -84,6 +84,8 @@ def run(where: Where, folder: Path, scenarios: list[Scenario], progress: Progres
 
 def client_of(distributed: Any, where: Where) -> Any:
     load("dask", "python3-dask", "scenarios over Dask").config.set({"distributed.scheduler.allowed-failures": DEATHS})
+    if where.address == "local" and where.workers == 0:
+        return distributed.Client(processes=False, n_workers=1, threads_per_worker=1, dashboard_address=None)
     if where.address == "local":
         cluster = {"n_workers": where.processes, "threads_per_worker": 1, "host": LOOPBACK}
         # By default the dashboard is an HTTP server on all addresses of the machine.

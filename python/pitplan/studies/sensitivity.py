@@ -9,7 +9,7 @@ from decimal import Decimal
 from functools import partial
 from itertools import product
 from pathlib import Path
-from typing import Any, Callable, Union
+from typing import Any, Callable, Optional, Union
 
 import numpy as np
 import pandas as pd
@@ -207,7 +207,8 @@ def of_period(period: Period, more: float) -> Period:
 def haulage(project: Project, by: Decimal, metal: str) -> Project:
     """Changes the haulage costs of ore and waste."""
     rules = project.haulage
-    assert rules is not None
+    if rules is None:
+        raise PlanError(f"{project.path}: [sensitivity] parameters: haulage: expected a section [haulage]")
     cost = OreAndWaste(rules.cost.ore * by, rules.cost.waste * by)
     return replace(project, haulage=replace(rules, cost=cost))
 
@@ -299,6 +300,13 @@ class Found:
     domains: list[dict[str, Any]]
     skin: Skin | None = None
 
+    @property
+    def base_skin(self) -> Skin:
+        """The skin of the base case. Raises PlanError if its result has none."""
+        if self.skin is None:
+            raise PlanError("the base case has no skin: remove the folder cases, and run pitplan sensitivity again")
+        return self.skin
+
 
 @dataclass(frozen=True)
 class Sensitivity:
@@ -367,20 +375,32 @@ def demand_whole(plan: Plan) -> None:
 
 
 def answer_all(
-    missing: dict[Case, Path], asked: SensitivityInput, where: dask_pool.Where | None, progress: Progress = silent
+    missing: dict[Case, Path],
+    asked: SensitivityInput,
+    where: dask_pool.Where | None,
+    progress: Progress = silent,
+    *,
+    processes: Optional[int] = None,
 ) -> None:
-    """Solves these cases, as many at the same time as there are processors or where Dask solves, and writes each result to its path."""
+    """Solves these cases in processes of this machine or where Dask solves, and writes each result to its path."""
     if where is not None and missing:
         over_dask(missing, asked, where, progress)
         return
     tasks = [partial(answer, case, asked, path) for case, path in missing.items()]
     labels = [case.label for case in missing]
     began = time.perf_counter()
-    for count, number in enumerate(each_done(tasks), 1):
+    for count, number in enumerate(each_done(tasks, processes), 1):
         progress.say(f"{count} of {len(missing)}: {labels[number]}, after {time.perf_counter() - began:.1f} s")
 
 
-def solve(project: Project, folder: Path, where: dask_pool.Where | None, progress: Progress = silent) -> Sensitivity:
+def solve(
+    project: Project,
+    folder: Path,
+    where: dask_pool.Where | None,
+    progress: Progress = silent,
+    *,
+    processes: Optional[int] = None,
+) -> Sensitivity:
     """Solves the cases that have no result in the folder yet, and writes each result when it is found.
 
     Parameters
@@ -389,8 +409,10 @@ def solve(project: Project, folder: Path, where: dask_pool.Where | None, progres
     folder : Path
         The output folder; results are in its folder cases.
     where : Where, optional
-        Where Dask solves. Default: processes of this machine, one for each processor.
+        Where Dask solves. Default: processes of this machine.
     progress : Progress
+    processes : int, optional
+        The most processes of this machine at a time. Default: one for each processor.
 
     Raises
     ------
@@ -425,7 +447,9 @@ def solve(project: Project, folder: Path, where: dask_pool.Where | None, progres
     if not paths[Case()].is_file():
         answer(Case(), asked, paths[Case()])
     asked = replace(asked, as_given=read(paths[Case()], plan.grid.count))
-    answer_all({case: path for case, path in paths.items() if not path.is_file()}, asked, where, progress)
+    answer_all(
+        {case: path for case, path in paths.items() if not path.is_file()}, asked, where, progress, processes=processes
+    )
     return Sensitivity(
         asked.project,
         plan,
@@ -466,8 +490,7 @@ def find(case: Case, asked: SensitivityInput) -> Found:
     kept = entry if asked.as_given is None else asked.as_given.entry
     earned = of_last(as_pits(plan, kept).table)
     row |= {f"kept_{name}": np.nan if case.moves_slopes else earned[name] for name in KEPT if name in earned}
-    skin = of_pit(plan, rules.skin) if asked.as_given is None else asked.as_given.skin
-    assert skin is not None
+    skin = of_pit(plan, rules.skin) if asked.as_given is None else asked.as_given.base_skin
     row[SKIN_WORTH] = np.nan if case.moves_slopes else shells.cells.worth[skin.cells].sum()
     return Found(
         row, entry, [pattern.as_json() for pattern in plan.domains.patterns], skin if asked.as_given is None else None
@@ -638,8 +661,7 @@ def recorded(found: Sensitivity, case: Case) -> dict[str, Any]:
 
 def skin_of(found: Sensitivity) -> dict[str, Any]:
     """Returns the skin of the base case's pit: revenue factor of the inner shell, tonnes, their share of the pit's, and cash flow."""
-    skin, row = found.answers[Case()].skin, found.answers[Case()].row
-    assert skin is not None
+    skin, row = found.answers[Case()].base_skin, found.answers[Case()].row
     tonnes = float(found.plan.values.tonnes[skin.cells].sum())
     return {
         "revenue_factor": skin.factor,

@@ -7,6 +7,7 @@ from dataclasses import replace
 import numpy as np
 import pandas as pd
 
+from planaudit.errors import demanded
 from planaudit.ground import topography
 from planaudit.ground.slopes import Run, cone, runs
 from planaudit.inputs.answer import NOTHING, UNMINED, Answer
@@ -21,8 +22,7 @@ HAIR = 1e-9
 def verify(answer: Answer) -> Rule:
     """Verifies that no row outside the grid pays at the largest revenue factor or is a must-mine block, and that no cone of a mined block
     reaches one."""
-    rows = answer.beyond
-    assert rows is not None
+    rows: pd.DataFrame = demanded(answer.beyond, "rows outside the grid")
     factor = max(*answer.factors, BASE_PRICE)
     differences, count = [], 0
     for way in answer.project.by_process:
@@ -63,9 +63,9 @@ def rock_of(part: Answer, numbers: np.ndarray) -> np.ndarray:
 
 def beyond_sides(answer: Answer) -> tuple[int, int, int, int]:
     """Returns how many rows of the model lie south and north of the grid, and how many columns west and east of it."""
-    assert answer.beyond is not None
     columns, (_, rows, width) = answer.project.table, answer.shape
-    east, north = np.rint(steps_of(answer.beyond[[columns["x"], columns["y"]]].to_numpy(), answer.record["grid"])).T
+    beyond: pd.DataFrame = demanded(answer.beyond, "rows outside the grid")
+    east, north = np.rint(steps_of(beyond[[columns["x"], columns["y"]]].to_numpy(), answer.record["grid"])).T
     far = (-north.min(), north.max() - rows + 1, -east.min(), east.max() - width + 1)
     south, up, west, right = (max(0, int(steps)) for steps in far)
     return south, up, west, right

@@ -7,6 +7,7 @@ from typing import Any
 import numpy as np
 import pandas as pd
 
+from planaudit.errors import demanded
 from planaudit.inputs.answer import Answer
 from planaudit.inputs.project import Project
 from planaudit.inputs.reblocking import divided, together
@@ -20,8 +21,8 @@ HAIR = 1e-6
 
 def verify(answer: Answer) -> Rule:
     """Verifies positions of blocks, and that each holds its rows: tonnes, grades, rock type, domain, and constraints."""
-    parts, said = answer.parts, answer.rows
-    assert parts is not None
+    parts: pd.DataFrame = demanded(answer.parts, "the rows of blocks")
+    said = answer.rows
     expected = divided(together(parts, answer.project, answer.record["grid"]), answer.project, answer.record["grid"])[
         0
     ].reset_index(drop=True)
@@ -51,7 +52,6 @@ def verify(answer: Answer) -> Rule:
 def unlike_grid(parts: pd.DataFrame, project: Project, grid: dict[str, Any]) -> list[str]:
     """Returns differences of block size and edges from the project."""
     columns, rules, found = project.table, project.table["reblock"], []
-    assert rules is not None
     if rules["counts"] is None and rules["size"] is None:
         return unlike_parents(parts, project, grid)
     levels, axes = grid["shape"][0], [columns["x"], columns["y"], columns["z"]]
@@ -74,7 +74,6 @@ def unlike_grid(parts: pd.DataFrame, project: Project, grid: dict[str, Any]) -> 
             ):
                 found.append(f"{name}: blocks of {size:.10g} m are no {rules['counts'][k]} of the table's")
         else:
-            assert rules["size"] is not None and rules["corner"] is not None
             corner = (
                 (steps_of(np.array([rules["corner"]]), grid)[0] * grid["size"] + first)[k]
                 if grid.get("azimuth")

@@ -25,15 +25,15 @@ def original_of(answer: Answer) -> Optional[Section]:
 
 def verify_cuts(answer: Answer) -> list[Rule]:
     """Verifies the tonnes that an as-mined surface, or otherwise a topography, leaves; no rule if the project has neither."""
-    if answer.project.constraints and answer.project.constraints["as_mined"]:
-        return [verify(answer)]
+    rules = answer.project.constraints
+    if rules and rules["as_mined"]:
+        return [verify(answer, rules)]
     return [topography.verify(answer)] if answer.project.table["topography"] else []
 
 
-def verify(answer: Answer) -> Rule:
+def verify(answer: Answer, rules: Section) -> Rule:
     """Verifies the tonnes of blocks in sampled columns."""
-    original, rules = original_of(answer), answer.project.constraints
-    assert rules is not None and rules["as_mined"] is not None
+    original = original_of(answer)
     if original is None:
         return verify_by_centres(answer, rules["as_mined"])
     before, after = answer.rows[UNCUT].to_numpy(), answer.tonnes
@@ -79,7 +79,6 @@ def shares(answer: Answer, original: Section, mined: Section, exactly: bool) -> 
 
 def surely_mined(answer: Answer, rules: Section) -> np.ndarray:
     """Returns whether so much of each block is mined that it is a must-mine block in spite of the sampling error, shape (rows,)."""
-    assert rules["as_mined"] is not None
     original, rock = original_of(answer), answer.rows[UNCUT].to_numpy() > 0
     if original is None:
         return np.asarray(surface.above(answer, rules["as_mined"]) & rock)

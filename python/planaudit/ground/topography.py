@@ -120,9 +120,7 @@ def volume_above(polygon: list[Corner], level: float) -> float:
 
 def verify(answer: Answer) -> Rule:
     """Verifies that blocks of sampled columns have the tonnes below the topography."""
-    file = answer.project.table["topography"]
-    assert file is not None
-    ground = Ground.of(answer, file)
+    ground = Ground.of(answer, answer.project.table["topography"])
     level, row, column = answer.cells
     places, place = np.unique(np.stack([row, column], axis=1), axis=0, return_inverse=True)
     up, before, after = answer.shape[0] - 1 - level, answer.rows[UNCUT].to_numpy(), answer.tonnes

@@ -289,8 +289,9 @@ def text_of(file: Path, table: Section) -> Iterator[io.TextIOWrapper]:
 
 
 def of_windows(error: UnicodeError) -> tuple[str, int]:
-    """Reads bytes that are no UTF-8 as Windows-1252."""
-    assert isinstance(error, UnicodeDecodeError)
+    """Reads bytes that are no UTF-8 as Windows-1252. Raises the error of a text that cannot be encoded."""
+    if not isinstance(error, UnicodeDecodeError):
+        raise error
     return str(error.object[error.start : error.end], "cp1252", "replace"), error.end
 
 
@@ -355,10 +356,10 @@ def with_tonnes(frame: pd.DataFrame, project: Project) -> pd.DataFrame:
             *share,
         ]
         frame[table["tonnes"]] = product(factors, rules.rock_percent[1] if rules.rock_percent else 1, TONNES_PLACES)
-    for metal in project.metals if rules.ore_percent else ():
-        assert rules.ore_percent is not None
+    if rules.ore_percent:
         ore = frame[rules.ore_percent[0]].to_numpy()
-        frame[metal["column"]] = product([frame[metal["column"]].to_numpy(), ore], rules.ore_percent[1], GRADE_PLACES)
+        for name in [metal["column"] for metal in project.metals]:
+            frame[name] = product([frame[name].to_numpy(), ore], rules.ore_percent[1], GRADE_PLACES)
     return frame
 
 

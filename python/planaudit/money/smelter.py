@@ -23,7 +23,6 @@ def to_twelve(value: Fraction) -> Decimal:
 
 def grade(metal: Section) -> Fraction:
     """Returns the metal in a dry tonne of concentrate, in tonnes or grams."""
-    assert metal["smelter"] is not None and metal["smelter"]["concentrate_grade"] is not None
     return Fraction(metal["smelter"]["concentrate_grade"]) * Fraction(GRADE_UNITS[metal["unit"]])
 
 
@@ -101,7 +100,6 @@ def penalty_exactly(metal: Section, quantity: Decimal, contents: list[Decimal]) 
     """Returns the penalties of a block with a recovered quantity, and the content of each penalised element in its undiluted ore."""
     found, terms = Decimal(0), metal["smelter"]
     for number, content in enumerate(contents if terms and quantity > 0 else ()):
-        assert terms is not None
         taken = content * terms["penalties"][number]["recovery"]
         for limit, rate in steps_of(terms, number):
             found += max(taken - quantity * to_twelve(Fraction(limit) * Fraction(dry_tonnes(metal))), Decimal(0)) * rate
@@ -118,7 +116,6 @@ def penalties_of(metal: Section, quantity: np.ndarray, rows: pd.DataFrame, undil
     terms, found = metal["smelter"], np.zeros(len(rows))
     some = np.flatnonzero(quantity > 0)
     for number, penalty in enumerate(terms["penalties"] if terms else ()):
-        assert terms is not None
         content = rows[penalty["column"]].to_numpy(dtype=float)[some] * undiluted[some]
         concentrate = quantity[some] * float(dry_tonnes(metal))
         of_concentrate = content * float(penalty["recovery"]) / concentrate

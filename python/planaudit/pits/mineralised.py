@@ -47,9 +47,10 @@ def pays_in(part: Answer, factor: float) -> np.ndarray:
     gain = factor * revenue - cost
     found = gain > 0
     near = np.flatnonzero((revenue > 0) & (np.abs(gain) <= UNITS * unit * max(factor, 1.0) + REL * revenue))
-    exactly = money.Exactly.of(part) if len(near) else None
+    if not len(near):
+        return found
+    exactly = money.Exactly.of(part)
     for row in near.tolist():
-        assert exactly is not None
         _, earned, spent = exactly.amounts(row)
         found[row] = per_mille(factor) * earned > PER_MILLE * spent
     return found

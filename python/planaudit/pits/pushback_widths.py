@@ -8,10 +8,12 @@ import numpy as np
 import pandas as pd
 
 from planaudit.blocks import constraints
+from planaudit.errors import demanded
 from planaudit.ground import slopes
 from planaudit.inputs.answer import NOTHING, Answer
 from planaudit.rules import TOLD, Rule, rule
 
+PUSHBACKS = "tables/pushbacks.csv"
 # Rows and columns of blocks.
 Rectangle = tuple[int, int]
 # Tolerance of metres, which are written to a thousandth.
@@ -20,11 +22,11 @@ LAST_PLACE = 0.6e-3
 
 def verify(answer: Answer) -> Rule:
     """Verifies that the minimum widths are met, and that `pieces` and `min_width` of each pushback are right."""
-    assert answer.pushbacks is not None
     cube, room = cube_of(answer), room_of(answer)
     differences: list[str] = []
+    table: pd.DataFrame = demanded(answer.pushbacks, PUSHBACKS)
     count = 0
-    for number, said in answer.pushbacks.iterrows():
+    for number, said in table.iterrows():
         narrow, more = too_narrow(answer, cube, room, int(number))
         differences, count = differences + narrow, count + more
         shape = unlike_shape(answer, cube == number, room, said)

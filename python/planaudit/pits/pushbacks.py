@@ -3,8 +3,10 @@
 from __future__ import annotations
 
 import numpy as np
+import pandas as pd
 
 from planaudit.blocks import constraints
+from planaudit.errors import demanded
 from planaudit.ground import slopes
 from planaudit.inputs.answer import Answer
 from planaudit.pits import mineralised, pushback_widths, sums
@@ -40,19 +42,23 @@ def of_pushbacks(of_shells: Rule) -> Rule:
 
 def by_pushback(answer: Answer) -> Answer:
     """Returns the results with pushback numbers in place of revenue factors, so that rules of shells apply."""
-    assert answer.pushbacks is not None
-    said = answer.said.assign(revenue_factor=answer.said["pushback"])
-    return answer.of_same_blocks(said, factors=tuple(float(number) for number in answer.pushbacks.index))
+    said, numbers = answer.said.assign(revenue_factor=answer.said["pushback"]), table_of(answer).index
+    return answer.of_same_blocks(said, factors=tuple(float(number) for number in numbers))
+
+
+def table_of(answer: Answer) -> pd.DataFrame:
+    """Returns pushbacks.csv by number. Raises AuditError without it."""
+    table: pd.DataFrame = demanded(answer.pushbacks, pushback_widths.PUSHBACKS)
+    return table
 
 
 def verify_places(answer: Answer) -> Rule:
     """Verifies that pushbacks are numbered from 1, one per shell, and that each block has the pushback of the first shell that holds it."""
-    assert answer.pushbacks is not None
-    numbers, factors = answer.pushbacks.index.tolist(), sorted(answer.factors)
-    differences = []
-    if numbers != list(range(1, len(factors) + 1)) or answer.pushbacks["revenue_factor"].tolist() != factors:
+    table, factors = table_of(answer), sorted(answer.factors)
+    numbers, differences = table.index.tolist(), []
+    if numbers != list(range(1, len(factors) + 1)) or table["revenue_factor"].tolist() != factors:
         differences.append(
-            f"pushbacks {numbers} of revenue factors {factor_texts(answer.pushbacks['revenue_factor'])} for the shells {factor_texts(factors)}"
+            f"pushbacks {numbers} of revenue factors {factor_texts(table['revenue_factor'])} for the shells {factor_texts(factors)}"
         )
     differences += unlike_rules(answer, factors)
     first, said = answer.said["revenue_factor"].to_numpy(), answer.said["pushback"].to_numpy()
@@ -93,16 +99,15 @@ def unlike_rules(answer: Answer, factors: list[float]) -> list[str]:
 
 def verify_sums(answer: Answer) -> Rule:
     """Verifies blocks, tonnes, grades, ratios, metal and cash flow of each pushback."""
-    assert answer.pushbacks is not None
-    differences: list[str] = []
-    pushback, count = answer.said["pushback"].to_numpy(), len(answer.pushbacks)
+    table, differences = table_of(answer), list[str]()
+    pushback, count = answer.said["pushback"].to_numpy(), len(table)
     group = np.where((pushback > 0) & (pushback <= count), pushback - 1, count)
     whole, more = sums.added(answer, group, count), np.bincount(group, answer.worths - answer.earned, count + 1)
     until = whole[sums.CASH].cumsum()
-    for number, said in zip(answer.pushbacks.index.tolist(), answer.pushbacks.to_dict("records")):
+    for number, said in zip(table.index.tolist(), table.to_dict("records")):
         place = min(max(int(number), 1), count) - 1
         lost = float(answer.worths[sums.within(answer, said["revenue_factor"])].sum() - until[place])
-        is_last = number == answer.pushbacks.index[-1]
+        is_last = number == table.index[-1]
         due = {"deferred_value": 0.0 if is_last else lost, "value_lost_to_width": lost if is_last else 0.0}
         if answer.project.pushbacks and answer.project.pushbacks["mining_cost_added"]:
             due["mining_cost_added"] = float(more[place])

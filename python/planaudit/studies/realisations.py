@@ -13,7 +13,7 @@ from typing import Any, Iterator, Optional
 import numpy as np
 import pandas as pd
 
-from planaudit.errors import AuditError
+from planaudit.errors import AuditError, demanded
 from planaudit.inputs import block_table
 from planaudit.inputs.kept_arrays import read_arrays
 from planaudit.inputs.matching import beside, read_blocks, rows_of
@@ -233,8 +233,7 @@ def read(folder: Path, written: Path) -> Simulated:
 
 
 def asked(project: Project) -> Section:
-    assert project.scenarios is not None
-    return project.scenarios
+    return demanded(project.scenarios, "[scenarios]")
 
 
 def models_of(project: Project) -> list[Model]:

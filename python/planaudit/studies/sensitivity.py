@@ -15,7 +15,7 @@ import numpy as np
 import pandas as pd
 
 from planaudit.blocks import constraints, missing_blocks
-from planaudit.errors import AuditError
+from planaudit.errors import AuditError, demanded
 from planaudit.ground import depletion, slopes
 from planaudit.inputs.answer import Answer
 from planaudit.inputs.kept_arrays import read_arrays
@@ -207,16 +207,16 @@ class Told:
     def outside_skin(self) -> Rule:
         """Verifies that the base case's pit without its skin is a shell with all must-mine blocks and at most the other share of the tonnes."""
         given, record, tonnes = self.cases[0], self.ground.record["skin"], self.ground.tonnes
-        assert given.skin is not None
-        shell = self.mined(np.where(given.skin, 0, given.entry), self.ground.project, given.domains)
+        skin = demanded(given.skin, "the skin of the base case")
+        shell = self.mined(np.where(skin, 0, given.entry), self.ground.project, given.domains)
         differences = [
             *slopes.verify(shell).differences,
             *(constraints.verify(shell).differences if record["revenue_factor"] else ()),
         ]
         ids = self.ground.said["id"].to_numpy()
-        if (given.skin & (given.entry == 0)).any():
+        if (skin & (given.entry == 0)).any():
             differences.append("a block of the skin is not in the pit")
-        whole, part = (float(tonnes[inside[ids]].sum()) for inside in (given.entry > 0, given.skin))
+        whole, part = (float(tonnes[inside[ids]].sum()) for inside in (given.entry > 0, skin))
         if abs(part - record["tonnes"]) > 1e-6 * whole or part < float(share_of(self.text)) * whole * (1 - 1e-9):
             differences.append(
                 f"the skin has {part:,.0f} t of {whole:,.0f}, and sensitivity.json says {record['tonnes']:,.0f}"
@@ -251,11 +251,12 @@ class Told:
     def priced(self, case: Case, project: Project) -> dict[str, Answer]:
         """Returns the pit of a case and, unless the slopes change, that of the base case and its skin, with costs and revenue at the parameters of
         the case."""
-        base = self.cases[0]
-        assert base.skin is not None
-        entries = {CASE: case.entry}
+        base, entries = self.cases[0], {CASE: case.entry}
         if not any(name == "slopes" or name.startswith("slopes.") for name, _ in (*case.changes, *case.settings)):
-            entries |= {KEPT_PIT: base.entry, SKIN: np.where(base.skin, self.factor, 0)}
+            entries |= {
+                KEPT_PIT: base.entry,
+                SKIN: np.where(demanded(base.skin, "the skin of the base case"), self.factor, 0),
+            }
         every = valued(self.mined(np.maximum.reduce([*entries.values()]), project, case.domains))
         return {name: within(every, entry) for name, entry in entries.items()}
 

@@ -7,7 +7,7 @@ from pitplan import load, verify
 
 from .processes import WITH
 from .pushbacks import UPRIGHT, pillars
-from .verified import UNVERIFIED
+from .writings import UNVERIFIED
 
 # The mill takes the ore of one pillar a year, and the shovels a pillar.
 YEARLY = UPRIGHT.replace(

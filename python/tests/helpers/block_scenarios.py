@@ -1,6 +1,7 @@
 """Scenarios that are scheduled by block, solved one after the other."""
 
 from conftest import rows
+from helpers.writings import PLAIN
 
 import pitplan
 from pitplan import load
@@ -32,5 +33,5 @@ def prepared(path):
 def solved_in_turn(shared):
     outcomes = [worker.solve(str(shared.folder), job.number) for job in shared.missing()]
     assert [outcome.why for outcome in outcomes] == [""] * len(outcomes)
-    pitplan.gather(shared.folder)
+    pitplan.gather(shared.folder, writing=PLAIN)
     return shared.folder

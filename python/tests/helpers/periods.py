@@ -3,7 +3,8 @@
 import pandas as pd
 from conftest import PROJECT, rows
 from helpers.processes import deposit
-from helpers.verified import UNVERIFIED, wrong
+from helpers.verified import wrong
+from helpers.writings import PLAIN, UNVERIFIED
 
 import pitplan
 
@@ -25,17 +26,17 @@ def entries(*texts):
 
 def solved(path):
     """The row of the pit at the base price, and its years in the best case."""
-    shells = pitplan.write_shells(path).set_index("revenue_factor").loc[1.0]
+    shells = pitplan.write_shells(path, writing=PLAIN).set_index("revenue_factor").loc[1.0]
     years = pd.read_csv(path.parent / "plan" / "tables/years.csv")
     is_shown = (years["case"] == "best") & (years["revenue_factor"] == 1.0)
     return shells, years[is_shown].set_index("period" if "period" in years else "year")
 
 
-def schedule_of(plan_folder, *texts, more=""):
+def schedule_of(plan_folder, *texts, more="", writing=UNVERIFIED):
     """Schedules a project with periods, and demands that its folder is right; gives the folder."""
     plain = PROJECT.replace("mining_cost = 2\n", "mining_cost = 0.3\n")
     plain = plain.replace("capacity = 100\n", "capacity = 400\nmining_capacity = 2000\n")
     path = plan_folder(deposit(), plain + SCHEDULE + more + entries(*texts))
-    pitplan.write_schedule(path, folder=path.parent / "plan", writing=UNVERIFIED)
+    pitplan.write_schedule(path, folder=path.parent / "plan", writing=writing)
     assert wrong(path.parent / "plan") == set()
     return path.parent / "plan"

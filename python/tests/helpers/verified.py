@@ -4,8 +4,9 @@ import json
 import os
 
 from conftest import PROJECT, rows
+from helpers.writings import UNVERIFIED
 
-from pitplan import Writing, verify, write_schedule
+from pitplan import verify, write_schedule
 from pitplan.commands.answers import write_tables
 from pitplan.core.layout import FOLDERS, SOLVER
 from pitplan.solver import mine_files
@@ -13,8 +14,6 @@ from planaudit.folders import checks_of
 from planaudit.inputs import answer as answers
 from planaudit.rules import rules_of
 
-# For runs whose folder the test verifies itself: the same rules need not run twice.
-UNVERIFIED = Writing(verifies=False)
 TEXT = (
     PROJECT.replace(
         "mining_cost = 2\n", "mining_cost = { R = 2, S = 2.5 }\nmining_cost_per_bench = 0.25\ndecimals = 2\n"

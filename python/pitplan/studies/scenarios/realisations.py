@@ -149,7 +149,8 @@ def models(base: Base) -> Iterator[Realisation]:
 def model_files(project: Project) -> list[Path]:
     """Returns the tables of realisations, by name. Raises PlanError if none exists, or two have one name."""
     folder = scenarios_of(project).folder
-    assert folder is not None
+    if folder is None:
+        raise PlanError(f"{project.path}: [scenarios]: found neither columns nor realisations, expected one of them")
     found = sorted([*folder.glob("*.csv"), *folder.glob("*.csv.gz")])
     if not found:
         raise PlanError(f"{folder}: has no realisation: expected a .csv or .csv.gz file for each")

@@ -36,7 +36,7 @@ class Request:
     where : str
         `local`, the address of a Dask scheduler, `slurm` or `parallel`.
     workers : int, optional
-        The number of processes of `local`. Default: one for each processor.
+        The number of processes of `local`; 0 solves in a thread of this one. Default: one for each processor.
     revenue_factor : float, optional
         The shell whose probabilities are drawn. Default: the project's selected one, otherwise 1.0.
     partial : bool

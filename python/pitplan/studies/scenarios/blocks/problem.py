@@ -9,8 +9,9 @@ value there, and takes a tenth of its tonnes from the mill; by its mean grade it
 from __future__ import annotations
 
 from dataclasses import dataclass, replace
+from functools import reduce
 from pathlib import Path
-from typing import Any, Optional
+from typing import Any
 
 import numpy as np
 import pandas as pd
@@ -170,18 +171,15 @@ def spread(laid: Laid, folder: Path, progress: Progress) -> tuple[ScenarioBlocks
         minable = Minable.of_plan(plan, BlockAmounts.of_plan(plan, ()).greatest_cash(plan.project) > 0)
     asked = periods_of(project, project.schedule or ScheduleRules())
     shared, pits = shared_of(laid, folder), list[dict[str, float]]()
-    total: Optional[BlockAmounts] = None
 
-    def note_pit(amounts: BlockAmounts) -> None:
+    def note_pit(amounts: BlockAmounts) -> BlockAmounts:
         if asked is None:
             pits.append(amounts.held(minable.pit(amounts, project)))
+        return amounts
 
     with progress.step(f"computing block values of {count:,} scenarios"):
-        for scenario in laid.scenarios:
-            amounts = amounts_at_best(plan_of(shared, scenario), minable.cells)
-            note_pit(amounts)
-            total = amounts if total is None else added(total, amounts)
-    assert total is not None
+        each = (note_pit(amounts_at_best(plan_of(shared, it), minable.cells)) for it in laid.scenarios)
+        total = reduce(added, each)
     flows, excess = ({name: it / count for name, it in of.items()} for of in (total.flows, total.excess))
     mean = replace(total, flows=flows, excess=excess)
     note_pit(mean)
