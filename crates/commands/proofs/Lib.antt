@@ -15,6 +15,9 @@ pub mod ReplaySpends
 pub mod OneCheck
 pub mod OneReplay
 pub mod OneDepositFault
+pub mod OneBudget
+pub mod CutShort
+pub mod ExampleRuns
 mod Calling
 mod Reading
 mod Writing

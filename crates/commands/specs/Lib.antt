@@ -11,6 +11,8 @@ pub mod Run
 pub mod Deposit
 pub mod ShellsRun
 pub mod Uniqueness
+pub mod CutShort
+pub mod ExampleRuns
 pub mod Pits
 pub mod Faults
 pub mod Place

@@ -1,5 +1,5 @@
 -- Two runs over the same texts end alike: what they write is the same, whatever their readers and writers, modes and workers.
-use Rattle.std.specs.Prelude.{◌≡◌, ◌≢◌, ◌⊎◌, ℕ, ◌++◌, Bool, true, List}
+use Rattle.std.specs.Prelude.{◌≡◌, ◌≢◌, ◌⊎◌, ℕ, ◌++◌, Bool, true, List, Some}
 use Rattle.minelib_reader.specs.Device.{Progress}
 use Rattle.faults.specs.Refused.{no_memory}
 use Rattle.faults.specs.declared.fault.Fault.{Fault}
@@ -16,8 +16,11 @@ use Rattle.commands.specs.Certified.{IsCertified}
 use Rattle.commands.specs.Check.{AnswersText, IsChecked, RefusesCheck}
 use Rattle.commands.specs.Journaled.{AtAnyEnd, AtBudget, IsJournaled}
 use Rattle.commands.specs.Replay.{ReportsReplay, RefusesJournal, RefusesReplay}
+use Rattle.commands.specs.Run.{HoldsOfSearched}
 use Rattle.pit_model.specs.Replay.{IsComplete}
 use Rattle.solver.specs.declared.mode.Mode.{Mode}
+use Rattle.solver.specs.declared.mode.Mode.TheVariants.{Single}
+use Rattle.solver.specs.Modes.{EndsWithin, RunsOut}
 use Rattle.commands.specs.declared.status.Status.{Status}
 use Rattle.commands.specs.declared.status.Status.TheVariants.{Done}
 
@@ -67,6 +70,14 @@ NeverFaulty files other =
     (direction : Direction) (before after : Progress) (status : Status) (fault : Fault)
     → ReadAlike files other → IsDone direction files before after status → RefusesMine fault.refusal fault other
     → IsUnread fault.refusal
+
+-- on one thread, where a run of `solve` ends within its budget, none over the same texts toward the same direction uses that budget up
+abbrev pub SpendsOneWay : (files other : Files) → Type 0
+SpendsOneWay files other =
+    (direction : Direction) (budget count : ℕ) → ReadAlike files other
+    → HoldsOfSearched direction files (EndsWithin (Single (Some budget)))
+    → HoldsOfSearched direction other (λ searched. RunsOut (Single (Some budget)) searched count)
+    → ⊥
 
 -- two runs over the same texts that their first fault refuses name the same fault: its text is the same
 abbrev pub FaultsOnce : (files other : Files) → Type 0

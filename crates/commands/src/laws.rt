@@ -1,8 +1,10 @@
-//! Laws: two runs over the same texts end alike. Each is a function whose contract is the law, for any readers; its body is empty,
-//! or calls a law of a crate below.
+//! Laws: two runs over the same texts end alike, and examples of writers and faults. Each is a function whose contract is the law,
+//! for any readers; its body is empty, or calls a law of a crate below.
 ghost use Rattle.commands.specs.declared.mine.MineFiles.{MineFiles};
 ghost use Rattle.commands.specs.Solve.{files_of, given_by};
-ghost use Rattle.commands.specs.Uniqueness.{SolvesOnce, NeverFaulty, FaultsOnce, NestsOnce, AnswerIsOne, ChecksOnce, CheckFaultsOnce, PassesCheck, PassesReplay, ReplayFaultsOnce, ReplaysOnce, ShellFaultsOnce, SpendsReplay, TakesReplay};
+ghost use Rattle.commands.specs.CutShort.{CutsAnswer, CutsPit, CutsReplay, CutsShells};
+ghost use Rattle.commands.specs.ExampleRuns.{FilesThatFail, WritersOfChoice};
+ghost use Rattle.commands.specs.Uniqueness.{SolvesOnce, NeverFaulty, FaultsOnce, NestsOnce, AnswerIsOne, ChecksOnce, CheckFaultsOnce, PassesCheck, PassesReplay, ReplayFaultsOnce, ReplaysOnce, ShellFaultsOnce, SpendsOneWay, SpendsReplay, TakesReplay};
 
 use minelib_reader::{InBytes, blocks_law};
 
@@ -46,6 +48,21 @@ pub fn texts_have_one_fault<
     G: InBytes,
 >()
     ensures { (files files_end : MineFiles M P F) (other other_end : MineFiles N Q G) → FaultsOnce
+        (files_of M.InBytes P.InBytes F.InBytes files files_end)
+        (files_of N.InBytes Q.InBytes G.InBytes other other_end) }
+{}
+
+/// If a run of `solve` on one thread ends within its budget, no such run over the same texts, with the same budget and in the same
+/// direction, uses it up.
+pub fn solve_spends_one_way<
+    M: InBytes,
+    P: InBytes,
+    F: InBytes,
+    N: InBytes,
+    Q: InBytes,
+    G: InBytes,
+>()
+    ensures { (files files_end : MineFiles M P F) (other other_end : MineFiles N Q G) → SpendsOneWay
         (files_of M.InBytes P.InBytes F.InBytes files files_end)
         (files_of N.InBytes Q.InBytes G.InBytes other other_end) }
 {}
@@ -191,4 +208,47 @@ pub fn solve_passes_replay<
         (files_of M.InBytes P.InBytes F.InBytes files files_end)
         (files_of N.InBytes Q.InBytes G.InBytes other other_end)
         (given_by J.InBytes journal journal_end) }
+{}
+
+/// A run whose write failed wrote a beginning of the text that a done run of the same command over the same texts writes, and its
+/// writer failed once.
+pub fn cut_texts_begin_whole_ones<
+    M: InBytes,
+    P: InBytes,
+    F: InBytes,
+    N: InBytes,
+    Q: InBytes,
+    G: InBytes,
+    L: InBytes,
+    K: InBytes,
+>()
+    ensures solve { (files files_end : MineFiles M P F) (other other_end : MineFiles N Q G) → CutsPit
+        (files_of M.InBytes P.InBytes F.InBytes files files_end)
+        (files_of N.InBytes Q.InBytes G.InBytes other other_end) }
+    ensures shells { (blocks blocks_end : M) (prec prec_end : P) (other_blocks other_blocks_end : N) (other_prec other_prec_end : Q) → CutsShells
+        (given_by M.InBytes blocks blocks_end)
+        (given_by P.InBytes prec prec_end)
+        (given_by N.InBytes other_blocks other_blocks_end)
+        (given_by Q.InBytes other_prec other_prec_end) }
+    ensures check { (files files_end : MineFiles M P F) (other other_end : MineFiles N Q G) (certificate certificate_end : L) (other_certificate other_certificate_end : K) → CutsAnswer
+        (files_of M.InBytes P.InBytes F.InBytes files files_end)
+        (files_of N.InBytes Q.InBytes G.InBytes other other_end)
+        (given_by L.InBytes certificate certificate_end)
+        (given_by K.InBytes other_certificate other_certificate_end) }
+    ensures replay { (files files_end : MineFiles M P F) (other other_end : MineFiles N Q G) (journal journal_end : L) (other_journal other_journal_end : K) → CutsReplay
+        (files_of M.InBytes P.InBytes F.InBytes files files_end)
+        (files_of N.InBytes Q.InBytes G.InBytes other other_end)
+        (given_by L.InBytes journal journal_end)
+        (given_by K.InBytes other_journal other_journal_end) }
+{}
+
+/// A clause about a writer that a run may have or not holds of a writer that is there, asks nothing of one that is missing, and lets
+/// none come or go.
+pub fn writers_of_choice()
+    ensures { WritersOfChoice }
+{}
+
+/// What is reported of a model that could not be opened and of an output that could not be created, and the exit status.
+pub fn files_that_fail()
+    ensures { FilesThatFail }
 {}
