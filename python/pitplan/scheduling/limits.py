@@ -2,15 +2,15 @@
 
 from __future__ import annotations
 
-from collections.abc import Iterator
+from collections.abc import Callable, Iterator
 from dataclasses import dataclass, replace
 from typing import Optional
 
 import numpy as np
 from numpy.typing import NDArray
 
-from pitplan.config.material import FeedGrade
-from pitplan.config.periods import Period
+from pitplan.config.material import FeedGrade, NamedLimit
+from pitplan.config.periods import Calendar, Period
 from pitplan.config.project import Project
 from pitplan.config.schedule import FEED, TOTAL, ScheduleRules
 from pitplan.config.table import CLASS, DOMAIN, ROCK_TYPE
@@ -55,42 +55,37 @@ def all_limits_of(project: Project, rules: ScheduleRules) -> Limits:
     least |= {f"{SUM}{it.name}": it.min for it in rules.limits if it.min}
     least = {name: amount for name, amount in least.items() if amount > 0 or name in of_years}
     least = dict.fromkeys(of_years, 0.0) | least
+    rooms = {it.name: np.inf if it.capacity is None else it.capacity for it in rules.stockpiles}
     return replace(
         limits,
         most=most,
         least=least,
         least_by_year=of_years,
-        stock_by_year=stock_of(project, rules),
-        dumped_by_year=dumped_of(project),
+        stock_by_year=by_period(calendar, lambda it: it.stockpiles, rooms),
+        dumped_by_year=by_period(calendar, lambda it: it.dumps, {it.name: np.inf for it in project.dumps}),
     )
 
 
-def dumped_of(project: Project) -> dict[str, tuple[tuple[float, float], ...]]:
-    """Returns, by the name of a dump that `[[periods]]` limits, the least and the most tonnes per year that it takes in each period."""
-    calendar, found = project.shells.calendar, {}
-    for it in project.dumps:
-        of_periods = [{limit.name: limit for limit in period.dumps}.get(it.name) for period in calendar.listed]
-        if any(of_periods):
-            found[it.name] = tuple(
-                (0.0, np.inf) if limit is None else (limit.min or 0.0, np.inf if limit.max is None else limit.max)
-                for limit in of_periods
-            )
-    return found
+def by_period(
+    calendar: Calendar, limits: Callable[[Period], tuple[NamedLimit, ...]], most: dict[str, float]
+) -> dict[str, tuple[tuple[float, float], ...]]:
+    """Returns, by the name of a stockpile or dump that `[[periods]]` limits, the least and the most in each period.
 
-
-def stock_of(project: Project, rules: ScheduleRules) -> dict[str, tuple[tuple[float, float], ...]]:
-    """Returns, by the name of a stockpile that `[[periods]]` limits, the least and the most that lies there at the end of each period."""
-    calendar, found = project.shells.calendar, {}
-    for it in rules.stockpiles:
-        of_periods = [{limit.name: limit for limit in period.stockpiles}.get(it.name) for period in calendar.listed]
+    Parameters
+    ----------
+    calendar : Calendar
+    limits : callable
+        The limits of a period.
+    most : dict of str to float
+        By name the most in a period without a maximum.
+    """
+    found = {}
+    for name, otherwise in most.items():
+        of_periods = [next((it for it in limits(period) if it.name == name), None) for period in calendar.listed]
         if any(of_periods):
-            most = np.inf if it.capacity is None else it.capacity
-            found[it.name] = tuple(
-                (
-                    0.0 if limit is None or limit.min is None else limit.min,
-                    most if limit is None or limit.max is None else limit.max,
-                )
-                for limit in of_periods
+            found[name] = tuple(
+                (0.0, otherwise) if it is None else (it.min or 0.0, otherwise if it.max is None else it.max)
+                for it in of_periods
             )
     return found
 
