@@ -1,12 +1,19 @@
 """The capacity of a stockpile is kept if waste costs something elsewhere, or if something must lie there."""
 
+import numpy as np
 import pandas as pd
 import pytest
+from helpers.benches import benches_of, problem_of
 from helpers.six_blocks import POOR, six_blocks
 from helpers.verified import wrong
 from helpers.writings import UNVERIFIED
 
 import pitplan
+from pitplan.config.material import Stockpile
+from pitplan.scheduling.bench_sequencing import Limits
+from pitplan.scheduling.flow.bound import Lagrangian
+from pitplan.scheduling.flow.material import Ore
+from pitplan.scheduling.flow.model import FlowModel, OpeningOre
 
 PILE = '[[schedule.stockpiles]]\nname = "s"\nreclaim_cost = 1\ncapacity = 500\n'
 DUMP = '[[dumps]]\nname = "d"\ncost = 0.5\n'
@@ -37,3 +44,15 @@ def test_a_stockpile_with_a_minimum_keeps_its_capacity(tmp_path):
     limited = "[[periods]]\nstockpiles = { s = { min = 300, max = 500 } }\n"
     _, closing = scheduled(tmp_path, PILE + limited)
     assert all(300 - 1e-6 <= it <= 500 + 1e-6 for it in closing)
+
+
+def test_no_process_frees_a_stockpile_of_ore_that_it_does_not_take():
+    """A tonne on the stockpile costs 2 a year. The mill, at 100 a tonne, loses; the other process takes none of the ore, so it stays to the end."""
+    whole, nothing = np.array([[100.0]]), np.zeros(1, dtype=np.int64)
+    amounts = {"feed_tonnes": np.vstack([whole, 0 * whole]), "feed_tonnes_mill": np.vstack([whole, 0 * whole])}
+    ore = Ore(nothing, nothing + 1, np.array([[1000.0], [0.0]]), amounts)
+    problem = problem_of(benches_of((1, 0, 100, 0, 0)), Limits({"feed_tonnes_mill": 50.0}), rate=0.0)
+    model = FlowModel(problem, ore, 3, (Stockpile(1.0, capacity=100.0),), OpeningOre(ore, nothing))
+    prices = {("stockpile_stockpile", "max"): np.full(3, 2.0), ("feed_tonnes_mill", "max"): np.full(3, 100.0)}
+    relaxation = Lagrangian(model, prices)
+    assert relaxation.waiting(0)[0].tolist() == [-600, -400, -200] and relaxation.of_opening == 0

@@ -80,7 +80,7 @@ class Lagrangian:
         model, ore = self.model, self.model.reclaims[number]
         stockpile = model.stockpiles[number]
         gains = ore.gains(model.problem.money, model.years) * model.discounts
-        later = self.priced(ore.amounts, gains).max(axis=0, initial=-np.inf)
+        later = taken(ore, self.priced(ore.amounts, gains)).max(axis=0, initial=-np.inf)
         # A tonne pays rent in each year at whose end it lies there.
         lies = ore.feed[:, None] * self.rent(stockpile.name)
         found = -lies
@@ -141,7 +141,7 @@ class Lagrangian:
     def of_opening(self) -> float:
         """What the lots that lie on stockpiles at the start earn at most. A lot that is reclaimed frees the capacity of its stockpile from then on."""
         model, lots = self.model, self.model.opening
-        earned = self.priced(lots.ore.amounts, model.opening_gains * model.discounts)
+        earned = taken(lots.ore, self.priced(lots.ore.amounts, model.opening_gains * model.discounts))
         for number, it in enumerate(model.stockpiles):
             rent = self.rent(it.name)[::-1].cumsum()[::-1]
             earned = earned + lots.on(number)[:, None] * rent
@@ -152,6 +152,11 @@ class Lagrangian:
         """The bound. To mine nothing earns nothing, unless a minimum forbids it."""
         found = self.of_limits + self.of_running + self.of_benches + self.of_opening
         return found if self.model.asks_least else max(found, 0.0)
+
+
+def taken(ore: Ore, earned: NDArray[np.float64]) -> NDArray[np.float64]:
+    """Returns what units earn in each process, shape (processes, units, years); -inf in a process that does not take them."""
+    return np.where(ore.of(FEED)[:, :, None] > 0, earned, -np.inf)
 
 
 def upper_bound(model: FlowModel, blocks: Ore, prices: Prices) -> float:
