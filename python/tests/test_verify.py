@@ -12,7 +12,7 @@ import pytest
 from conftest import PROJECT, rows
 from helpers.random_tests import examples
 from helpers.verified import TEXT, deposit, looked_at, ore_everywhere, wrong
-from helpers.writings import PLAIN, UNVERIFIED
+from helpers.writings import PLAIN, REPORTED, UNVERIFIED
 from hypothesis import HealthCheck, given, strategies as st
 
 import pitplan
@@ -38,7 +38,7 @@ def answered(tmp_path_factory):
     deposit().to_csv(place / "blocks.csv", index=False)
     (place / "project.toml").write_text(TEXT)
     project = load(place / "project.toml")
-    pitplan.write_shells(project, writing=PLAIN)
+    pitplan.write_shells(project, writing=REPORTED)
     return place, read_record(project.folder)
 
 

@@ -334,7 +334,7 @@ def test_schedules_of_random_projects_are_right(plan_folder, seed):
         assert text.count(old) == 1
         text = text.replace(old, REFUSED.sub("", new))
     table = table_of(rng)
-    for name in ("cu_1", "cu_2"):
+    for name in ("cu_1", "cu_2", "cu_3"):
         table[name] = (table["cu"] * rng.lognormal(0, 0.7, len(table))).round(2)
     limits = "[schedule]\nyears = 5\nramp_up = [0.6, 1]\n" + pick(
         rng, "", "max_metal_per_year = { copper = 15, gold = 300 }\n"
