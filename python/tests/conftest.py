@@ -162,7 +162,7 @@ def highs_apart(monkeypatch):
 
 @pytest.fixture
 def with_blank_figures():
-    """Each figure is a white image: for tests of which files there are."""
+    """Commands write each figure as a white image, for tests that list files."""
     with blank_figures():
         yield
 

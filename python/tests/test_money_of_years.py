@@ -221,7 +221,7 @@ def one_bench(capacity, fixed, gains, stockpiles=()):
 
 
 def test_a_year_in_which_little_is_fed_costs_its_whole():
-    """6 t of 10 gain 60 in the first year, of which 30 remain; the rest gains 40 in the second, of which 10 remain."""
+    """The first year feeds 6 t of 10 and earns 60 - 30; the second feeds the rest and earns 40 - 30."""
     flows, bound = scheduler.best_schedule(one_bench([6.0], 30.0, [100.0]), Effort())
     assert flows.value == pytest.approx(40) and bound == pytest.approx(40)
 

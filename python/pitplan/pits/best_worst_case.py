@@ -422,10 +422,12 @@ def cases_of(settings: ShellRules) -> tuple[str, ...]:
 
 def sequences(case: str, benches: Benches, settings: ShellRules) -> Iterator[np.ndarray]:
     """Yields the pieces of each shell, one after the other, for the worst and the specified case: shape (pieces, columns)."""
-    if case == SPECIFIED and settings.specified is not None:
-        yield from specified_pieces(benches, settings.specified)
-    else:
+    if case == WORST:
         yield from np.cumsum(benches.columns, axis=0)
+    elif settings.specified is None:
+        raise PlanError(f"[shells] specified: is missing, and the case {case} needs it")
+    else:
+        yield from specified_pieces(benches, settings.specified)
 
 
 def specified_pieces(benches: Benches, rules: SpecifiedCase) -> Iterator[np.ndarray]:

@@ -36,7 +36,7 @@ class Between:
     most: Optional[float] = None
 
     def times(self, length: float) -> "Between":
-        """The same of a period of so many years."""
+        """Returns the yearly limits for a period of `length` years."""
         return Between(*(None if it is None else it * length for it in (self.least, self.most)))
 
     @property
