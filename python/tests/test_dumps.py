@@ -8,6 +8,7 @@ import openpyxl
 import pandas as pd
 import pytest
 from conftest import PROJECT, rows
+from helpers.benches import yearly_limits
 from helpers.dumps import BOTH, CASH, FAR, NEAR, THREE_YEARS, of_rocks, present
 from helpers.flows import OfWholeBenches, Statement, mine_of, mines, model_of, processes, stockpiles
 from helpers.pushbacks import PUSHBACKS, UPRIGHT, pillars, with_pushbacks
@@ -19,12 +20,13 @@ from scipy.optimize import Bounds, LinearConstraint, milp
 
 import pitplan
 from pitplan import PlanError, load
-from pitplan.config.material import Dump
+from pitplan.config.material import Dump, NamedLimit
+from pitplan.config.periods import Calendar, Period
 from pitplan.report import assumptions
-from pitplan.scheduling.bench_sequencing import Limits
 from pitplan.scheduling.flow import scheduler
 from pitplan.scheduling.flow.bound import Lagrangian, upper_bound
 from pitplan.scheduling.flow.programme import FlowProgramme
+from pitplan.scheduling.limits import of_places
 from pitplan.studies.scenarios.blocks.problem import demand_apt
 
 
@@ -207,9 +209,9 @@ def with_dumps(model, given):
     names = (*benches.names, "rock_set_0", "rock_set_1")
     benches = replace(benches, names=names, amounts=np.column_stack([benches.amounts, tonnes]))
     ore = replace(ore, amounts=ore.amounts | {"rock_set_0": ore.of("feed_tonnes"), "rock_set_1": 0 * ore.gain})
-    by_year = {f"dump{number}": ((0.0, most),) for number, (_, _, most, _) in enumerate(given)}
-    limits = replace(model.problem.limits, dumped_by_year=by_year)
-    problem = replace(model.problem, benches=benches, limits=limits)
+    yearly = tuple(NamedLimit(f"dump{number}", max=most) for number, (_, _, most, _) in enumerate(given))
+    places = of_places(Calendar((Period(dumps=yearly),)), model.stockpiles, (*dumps, LAST))
+    problem = replace(model.problem, benches=benches, limits=replace(model.problem.limits, places=places))
     return replace(model, problem=problem, ore=ore, dumps=(*dumps, LAST), accepted=accepted)
 
 
@@ -282,7 +284,7 @@ def optimum_of(model, given, whole):
 def test_random_optima_and_bounds(pits, several, lag, piles, given_dumps):
     """The optimum is that of the programme above, the schedule is at most the best one of whole benches, and the bound at least; neither falls by
     another dump, or rises by a dearer one."""
-    plain = model_of(mine_of(pits, lag), several, Limits({"feed_tonnes": 70.0, "total_tonnes": 150.0}), 3, piles)
+    plain = model_of(mine_of(pits, lag), several, yearly_limits({"feed_tonnes": 70.0, "total_tonnes": 150.0}), 3, piles)
     model = with_dumps(plain, given_dumps)
     slack = 1e-5 * max(1.0, np.abs(plain.benches.amounts).sum() + np.abs(plain.ore.gain).sum())
     optimum = FlowProgramme(model).solved()

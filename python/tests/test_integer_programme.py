@@ -8,7 +8,7 @@ import numpy as np
 import pandas as pd
 import pytest
 from conftest import rows
-from helpers.benches import THREE, benches_of, demand_minable, problem_of, random_benches, without_flows
+from helpers.benches import THREE, benches_of, demand_minable, problem_of, random_benches, without_flows, yearly_limits
 from helpers.programmes import integer_optimum, limits, small
 from helpers.pushbacks import PUSHBACKS, pillars, with_pushbacks
 from helpers.random_tests import examples
@@ -21,7 +21,6 @@ from pitplan import PlanError, load, verify
 from pitplan.config.schedule import Effort
 from pitplan.results.folder import read_record
 from pitplan.scheduling import highs, highs_process
-from pitplan.scheduling.bench_sequencing import Limits
 from pitplan.scheduling.flow import scheduler
 
 
@@ -49,18 +48,18 @@ def test_it_is_the_best_schedule_of_all(pit, limits, lag):
     ],
 )
 def test_what_keeps_to_the_rules_by_hand(shares, is_kept):
-    problem = problem_of(benches_of(*THREE), Limits({"feed_tonnes": 100, "total_tonnes": 200}))
+    problem = problem_of(benches_of(*THREE), yearly_limits({"feed_tonnes": 100, "total_tonnes": 200}))
     assert scheduler.keeps(without_flows(problem, 2), np.array(shares, dtype=float)) == is_kept
 
 
 def test_a_pushback_that_sinks_too_fast_does_not_keep_to_the_rules():
-    problem = problem_of(benches_of(*THREE), Limits({"feed_tonnes": 1000}, vertical_advance_rate=1.5))
+    problem = problem_of(benches_of(*THREE), yearly_limits({"feed_tonnes": 1000}, rate=1.5))
     assert scheduler.keeps(without_flows(problem, 2), np.array([[1, 0], [0.5, 0.5], [1, 0]]))
     assert not scheduler.keeps(without_flows(problem, 2), np.array([[1, 0], [0.6, 0.4], [1, 0]]))
 
 
 def test_an_integer_programme_is_the_same_in_a_process_of_its_own(highs_apart):
-    problem = problem_of(benches_of(*THREE), Limits({"feed_tonnes": 100, "total_tonnes": 200}))
+    problem = problem_of(benches_of(*THREE), yearly_limits({"feed_tonnes": 100, "total_tonnes": 200}))
     flows, bound = scheduler.best_schedule(without_flows(problem, 3), Effort(0.0, 60.0))
     assert bound == pytest.approx(800 / 1.1 + 500 / 1.21) == flows.value
 
@@ -68,7 +67,7 @@ def test_an_integer_programme_is_the_same_in_a_process_of_its_own(highs_apart):
 def test_pushbacks_sink_each_by_itself():
     """Of three pushbacks each digs its one bench in the same year."""
     benches = benches_of(*((pushback, 0, 100, 100, 500) for pushback in (1, 2, 3)))
-    problem = problem_of(benches, Limits({"feed_tonnes": 1000}, vertical_advance_rate=1.5))
+    problem = problem_of(benches, yearly_limits({"feed_tonnes": 1000}, rate=1.5))
     assert scheduler.keeps(without_flows(problem, 2), np.ones((3, 1)))
 
 
@@ -87,7 +86,7 @@ def test_a_programme_that_goes_on_when_its_time_is_up_is_ended(highs_apart, monk
     monkeypatch.setattr(highs_process.highs, "__file__", str(tmp_path / "highs.py"))
     monkeypatch.setattr(scheduler, "LATE", 0.5)
     began = time.monotonic()
-    problem = problem_of(benches_of(*THREE), Limits({"feed_tonnes": 100, "total_tonnes": 200}))
+    problem = problem_of(benches_of(*THREE), yearly_limits({"feed_tonnes": 100, "total_tonnes": 200}))
     assert scheduler.best_schedule(without_flows(problem, 3), Effort(0.0, 0.25)) == (None, np.inf)
     assert 1.0 <= time.monotonic() - began < 20
 

@@ -3,7 +3,7 @@
 import numpy as np
 import pytest
 from conftest import rows
-from helpers.benches import benches_of, problem_of
+from helpers.benches import benches_of, problem_of, yearly_limits
 from helpers.pushbacks import PUSHBACKS, wrong
 from helpers.writings import PLAIN
 from scipy.sparse import csr_matrix
@@ -12,7 +12,6 @@ import pitplan
 from pitplan import load
 from pitplan.config.periods import Calendar, Period
 from pitplan.scheduling import highs_process
-from pitplan.scheduling.bench_sequencing import Limits
 from pitplan.scheduling.flow import programme
 from pitplan.scheduling.flow.material import Ore
 from pitplan.scheduling.flow.model import FlowModel
@@ -42,7 +41,7 @@ def test_ore_goes_nowhere_in_other_years():
     """A bench of ore that pays best in year 1, and may be processed in years 2 and 3 alone: it is mined in year 2."""
     benches = benches_of((1, 0, 100, 0, -100))
     ore = Ore(np.array([0]), np.array([1]), np.array([[500.0]]), {"feed_tonnes": np.array([[100.0]])})
-    model = FlowModel(problem_of(benches, Limits({"feed_tonnes": 1e3, "total_tonnes": 1e3})), ore, 3)
+    model = FlowModel(problem_of(benches, yearly_limits({"feed_tonnes": 1e3, "total_tonnes": 1e3})), ore, 3)
     assert FlowProgramme(model).solved().value == pytest.approx(400 / 1.1)
     near = np.array([[False, True, True]])
     found = FlowProgramme(model, near=near).solved()

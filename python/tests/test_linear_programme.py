@@ -19,6 +19,7 @@ from helpers.benches import (
     problem_of,
     random_benches,
     without_flows,
+    yearly_limits,
 )
 from helpers.programmes import integer_optimum, limits, pace, small, statement
 from helpers.random_tests import examples
@@ -27,7 +28,7 @@ from scipy.sparse import csr_matrix
 
 from pitplan import PlanError
 from pitplan.scheduling import highs, highs_process
-from pitplan.scheduling.bench_sequencing import Limits, by_rule
+from pitplan.scheduling.bench_sequencing import by_rule
 from pitplan.scheduling.flow import scheduler
 from pitplan.scheduling.flow.flows import none_of
 from pitplan.scheduling.flow.programme import FlowProgramme
@@ -41,7 +42,7 @@ def solved(benches, limits, years):
 def test_three_benches_by_hand():
     """Shovels take two benches a year and the mill one. The waste is dug with the rich ore under it, and then the poor ore."""
     benches = benches_of(*THREE)
-    optimum, shares = solved(benches, Limits({"feed_tonnes": 100, "total_tonnes": 200}), 3)
+    optimum, shares = solved(benches, yearly_limits({"feed_tonnes": 100, "total_tonnes": 200}), 3)
     assert optimum.value == pytest.approx(800 / 1.1 + 500 / 1.21) and optimum.cash == pytest.approx([800, 500, 0])
     assert shares.tolist() == [[1, 0], [1, 0], [0, 1]]
 
@@ -53,11 +54,11 @@ def test_the_bound_digs_parts_of_benches_together():
     and a half, half of each ore may come in the first year, and for these the bound digs half of the waste, where a schedule digs it whole.
     """
     benches = benches_of((1, 0, 200, 0, -200), (1, 1, 100, 100, 900), (2, 0, 100, 100, 100))
-    optimum, shares = solved(benches, Limits({"feed_tonnes": 1e6, "total_tonnes": 200}), 2)
+    optimum, shares = solved(benches, yearly_limits({"feed_tonnes": 1e6, "total_tonnes": 200}), 2)
     assert optimum.value == pytest.approx(-200 / 1.1 + 1000 / 1.21) and shares.tolist() == [[1, 0], [0, 1], [0, 1]]
-    optimum, shares = solved(benches, Limits({"feed_tonnes": 1e6, "total_tonnes": 250}), 2)
+    optimum, shares = solved(benches, yearly_limits({"feed_tonnes": 1e6, "total_tonnes": 250}), 2)
     assert optimum.value == pytest.approx(400 / 1.1 + 400 / 1.21)
-    assert problem_of(benches, Limits({})).value(shares) == pytest.approx((450 - 200) / 1.1 + 550 / 1.21)
+    assert problem_of(benches, yearly_limits({})).value(shares) == pytest.approx((450 - 200) / 1.1 + 550 / 1.21)
 
 
 def test_what_does_not_pay_is_left():
@@ -65,17 +66,17 @@ def test_what_does_not_pay_is_left():
     its waste in the bound too. Where it takes one and a half, the bound digs a half of both in the first year, and the rest in the second.
     """
     benches = benches_of((1, 0, 100, 0, -100), (1, 1, 100, 100, 105))
-    optimum, shares = solved(benches, Limits({"feed_tonnes": 100, "total_tonnes": 100}), 3)
+    optimum, shares = solved(benches, yearly_limits({"feed_tonnes": 100, "total_tonnes": 100}), 3)
     assert optimum.value == pytest.approx(0, abs=1e-6) and shares.shape == (2, 0)
-    optimum, shares = solved(benches, Limits({"feed_tonnes": 100, "total_tonnes": 150}), 3)
+    optimum, shares = solved(benches, yearly_limits({"feed_tonnes": 100, "total_tonnes": 150}), 3)
     assert optimum.value == pytest.approx(2.5 / 1.1 + 2.5 / 1.21) and shares.tolist() == [[1, 0], [0.5, 0.5]]
-    optimum, shares = solved(benches, Limits({"feed_tonnes": 100}), 3)
+    optimum, shares = solved(benches, yearly_limits({"feed_tonnes": 100}), 3)
     assert optimum.value == pytest.approx(5 / 1.1) and shares.tolist() == [[1], [1]]
 
 
 def test_a_mill_that_stands_still_in_all_years():
     """Nothing is dug, since waste alone costs."""
-    optimum, shares = solved(benches_of(*THREE), Limits({"feed_tonnes": 100}, (0.0, 0.0, 1.0)), 2)
+    optimum, shares = solved(benches_of(*THREE), yearly_limits({"feed_tonnes": 100}, (0.0, 0.0, 1.0)), 2)
     assert optimum.value == pytest.approx(0) and shares.shape == (3, 0)
 
 
@@ -124,7 +125,7 @@ def test_orders_have_what_the_optimum_digs_by_its_last_year():
 
 
 def test_solved_in_a_process_of_its_own_the_same(highs_apart):
-    benches, limits = benches_of(*THREE), Limits({"feed_tonnes": 100, "total_tonnes": 200})
+    benches, limits = benches_of(*THREE), yearly_limits({"feed_tonnes": 100, "total_tonnes": 200})
     assert optimum_of(problem_of(benches, limits), 3).value == pytest.approx(800 / 1.1 + 500 / 1.21)
 
 
@@ -134,7 +135,7 @@ def test_a_process_is_kept_for_the_next_programme(highs_apart, monkeypatch):
     monkeypatch.setattr(
         highs_process.subprocess, "Popen", lambda *given, **more: begun.append(popen(*given, **more)) or begun[-1]
     )
-    benches, limits = benches_of(*THREE), Limits({"feed_tonnes": 100, "total_tonnes": 200})
+    benches, limits = benches_of(*THREE), yearly_limits({"feed_tonnes": 100, "total_tonnes": 200})
     programme = FlowProgramme(without_flows(problem_of(benches, limits), 3)).programme
     first, second = (highs_process.solve(programme).bound for _ in range(2))
     assert first == second and len(begun) == 1 and begun[0].poll() is None
@@ -156,7 +157,7 @@ def test_an_interruption_ends_a_process_of_its_own(highs_apart, monkeypatch):
     monkeypatch.setattr(highs_process.subprocess, "Popen", sleep)
     started = time.monotonic()
     with pytest.raises(KeyboardInterrupt):
-        optimum_of(problem_of(benches_of(*THREE), Limits({"feed_tonnes": 100})), 3)
+        optimum_of(problem_of(benches_of(*THREE), yearly_limits({"feed_tonnes": 100})), 3)
     assert time.monotonic() - started < 30 and begun[0].wait(5) != 0
 
 
@@ -168,7 +169,7 @@ def test_a_process_that_is_late_is_ended(highs_apart, monkeypatch):
         return begun[0]
 
     monkeypatch.setattr(highs_process.subprocess, "Popen", sleep)
-    model = without_flows(problem_of(benches_of(*THREE), Limits({"feed_tonnes": 100})), 3)
+    model = without_flows(problem_of(benches_of(*THREE), yearly_limits({"feed_tonnes": 100})), 3)
     programme = FlowProgramme(model).programme
     found = highs_process.solve(programme, patience=0.3)
     assert found.unknowns is None and found.bound == np.inf and begun[0].wait(5) != 0

@@ -4,7 +4,7 @@ from dataclasses import replace
 
 import numpy as np
 import pytest
-from helpers.benches import demand_minable
+from helpers.benches import demand_minable, yearly_limits
 from helpers.flow_cases import blended, lying, slack_of, two_benches
 from helpers.flows import (
     blending,
@@ -22,12 +22,14 @@ from helpers.random_tests import examples
 from hypothesis import given, strategies as st
 
 from pitplan import PlanError
+from pitplan.config.material import NamedLimit
+from pitplan.config.periods import Calendar, Period
 from pitplan.economics.cutoff_grades import edges_of
-from pitplan.scheduling.bench_sequencing import Limits
 from pitplan.scheduling.flow import scheduler
 from pitplan.scheduling.flow.bound import Lagrangian, upper_bound
 from pitplan.scheduling.flow.material import Material, Ore, by_choice
 from pitplan.scheduling.flow.programme import FlowProgramme
+from pitplan.scheduling.limits import of_places
 
 
 def test_bins_are_even_by_tonnes_as_far_as_values_let_them():
@@ -50,7 +52,7 @@ def test_bins_are_even_by_tonnes_as_far_as_values_let_them():
     ],
 )
 def test_two_benches_by_hand(cost, years, value, reclaimed):
-    model = two_benches(Limits({"feed_tonnes": 100}, vertical_advance_rate=1.0), years, cost)
+    model = two_benches(yearly_limits({"feed_tonnes": 100}, rate=1.0), years, cost)
     optimum = FlowProgramme(model).solved()
     flows = scheduler.from_optimum(model, optimum)
     assert optimum.value == pytest.approx(value) and flows.mined[:, :2].tolist() == [[1, 0], [0, 1]]
@@ -67,12 +69,12 @@ def test_two_benches_by_hand(cost, years, value, reclaimed):
 
 def test_a_limit_on_metal_is_one_on_feed():
     """A tonne of copper a year at most: all ore holds a hundredth, so 100 t a year, although the mill takes 300."""
-    model = two_benches(Limits({"feed_tonnes": 300, "recovered_copper": 1}, vertical_advance_rate=1.0), 2)
+    model = two_benches(yearly_limits({"feed_tonnes": 300, "recovered_copper": 1}, rate=1.0), 2)
     assert FlowProgramme(model).solved().value == pytest.approx(800 / 1.1 + 900 / 1.21)
 
 
 def test_a_mill_that_stands_still_in_all_years():
-    model = two_benches(Limits({"feed_tonnes": 100}, (0.0, 0.0, 1.0)), 2, 0.5)
+    model = two_benches(yearly_limits({"feed_tonnes": 100}, (0.0, 0.0, 1.0)), 2, 0.5)
     optimum = FlowProgramme(model).solved()
     assert optimum.value == pytest.approx(0) and scheduler.from_optimum(model, optimum).mined.shape == (2, 0)
 
@@ -119,7 +121,7 @@ def test_what_lies_on_a_stockpile_at_the_start_is_blended_by_hand(gain, excess, 
 
 def test_two_limits_that_no_flow_meets_are_an_error():
     """A feed of 150 t a year of a bench that holds 100."""
-    model = two_benches(Limits({"feed_tonnes": 200}, least={"feed_tonnes": 150.0}, vertical_advance_rate=1.0), 2)
+    model = two_benches(yearly_limits({"feed_tonnes": 200}, least={"feed_tonnes": 150.0}, rate=1.0), 2)
     with pytest.raises(PlanError, match="infeasible"):
         FlowProgramme(model).solved()
 
@@ -144,7 +146,7 @@ def test_ore_that_is_never_reclaimed_does_not_fill_a_stockpile():
     """20 t of waste over 50 t that gain 12 and 50 t that gain nothing, and a stockpile for 15 t. A programme may place more there than it counts, since that
     costs nothing."""
     mine = mine_of([(0, [(20, [], 0)]), (0, [(20, [(50, 12), (50, 0)], 0)])], 0)
-    limits = Limits({"feed_tonnes": 40.0, "total_tonnes": 70.0}, (1.0,), 0.7)
+    limits = yearly_limits({"feed_tonnes": 40.0, "total_tonnes": 70.0}, (1.0,), 0.7)
     model = model_of(mine, [(1.0, 25.0), (1.0, 25.0)], limits, 4, [(0.0, 0.0, 15.0, 1.0, 12.0)])
     flows = scheduler.from_optimum(model, FlowProgramme(model).solved())
     demand_kept(flows)
@@ -231,12 +233,12 @@ def test_more_freedom_never_lowers_the_optimum(pits, limits, several, piles, mor
         rooms = tuple(
             replace(it, capacity=it.capacity and it.capacity - 12.0 * bool(it.opening)) for it in wide.stockpiles
         )
-        narrow = replace(wide, lots=None, stockpiles=rooms)
+        narrow = with_rooms(replace(wide, lots=None, stockpiles=rooms))
     elif more == "room":
         # What lies there at the start fits, and from the second year on a tonne must lie there.
-        narrow = with_rooms(wide, {it.name: ((0.0, 13.0), (1.0, 14.0)) for it in wide.stockpiles if it.opening})
+        narrow = with_rooms(wide, rooms_of(wide.stockpiles))
     else:
-        least = {name: 0.8 * most for name, most in limits_of(wide).most.items()}
+        least = {name: replace(it, amount=0.8 * it.amount) for name, it in limits_of(wide).most.items()}
         narrow = replace(wide, problem=replace(wide.problem, limits=replace(limits_of(wide), most=least)))
     found = [FlowProgramme(it).solved() for it in (narrow, wide)]
     slack = slack_of(wide)
@@ -267,17 +269,26 @@ def limits_of(model):
     return model.problem.limits
 
 
-def with_rooms(model, rooms):
-    return replace(model, problem=replace(model.problem, limits=replace(limits_of(model), stock_by_year=rooms)))
+def with_rooms(model, calendar=Calendar()):
+    """The model with the limits of its stockpiles in these periods."""
+    limits = replace(limits_of(model), places=of_places(calendar, model.stockpiles))
+    return replace(model, problem=replace(model.problem, limits=limits))
+
+
+def rooms_of(stockpiles):
+    """Up to 13 t, and from the second year on 1 to 14 t, on each stockpile with something at the start."""
+    names = [it.name for it in stockpiles if it.opening]
+    first, later = (tuple(NamedLimit(it, *sides) for it in names) for sides in ((0.0, 13.0), (1.0, 14.0)))
+    return Calendar((Period(stockpiles=first), Period(stockpiles=later)))
 
 
 def test_the_bound_of_a_stockpile_that_must_hold_a_tonne_by_hand():
     """12 t lie there and gain 4 each in the first year. From the second on a tonne must lie there: a tenth of the bench, which costs 1, has one
     of ore that gains nothing."""
     bench = [(0, [(20, [(10, 0)], 1)])]
-    rules = Limits({"feed_tonnes": 40.0, "total_tonnes": 70.0}, vertical_advance_rate=0.7)
+    rules = yearly_limits({"feed_tonnes": 40.0, "total_tonnes": 70.0}, rate=0.7)
     wide = model_of(mine_of(bench, 0), [(1.0, 25.0), (1.0, 25.0)], rules, 4, [(0.0, 0.0, None, 1.0, 12.0)])
-    narrow = with_rooms(wide, {it.name: ((0.0, 13.0), (1.0, 14.0)) for it in wide.stockpiles})
+    narrow = with_rooms(wide, rooms_of(wide.stockpiles))
     optimum = FlowProgramme(narrow).solved()
     value = 48 / 1.1 - 0.1 / 1.21
     assert optimum.value == pytest.approx(value) == linear_optimum(narrow)

@@ -5,6 +5,7 @@ import pandas as pd
 import pytest
 from conftest import PROJECT
 from helpers import block_commands as blocks
+from helpers.benches import yearly_limits
 from helpers.flows import (
     complete_optimum,
     linear_optimum,
@@ -24,7 +25,6 @@ from hypothesis import given, strategies as st
 
 import pitplan
 from pitplan import Plan, PlanError
-from pitplan.scheduling.bench_sequencing import Limits
 from pitplan.scheduling.flow import scheduler
 from pitplan.scheduling.flow.bound import Lagrangian, upper_bound
 from pitplan.scheduling.flow.programme import FlowProgramme
@@ -172,7 +172,7 @@ def test_a_higher_factor_never_raises_optimum_and_bound(plan_folder):
 def test_random_optima_and_bounds(pits, several, lag, piles, factors):
     """The optimum is that of a programme that the tests state, bound and schedule lie around that of whole benches, and dearer mining raises
     neither optimum nor bound."""
-    plain = model_of(mine_of(pits, lag), several, Limits({"feed_tonnes": 70.0, "total_tonnes": 150.0}), 3, piles)
+    plain = model_of(mine_of(pits, lag), several, yearly_limits({"feed_tonnes": 70.0, "total_tonnes": 150.0}), 3, piles)
     model, dearer = with_mining_costs(plain, factors), with_mining_costs(
         plain, [factors[0], *(1.4 * it for it in factors[1:])]
     )

@@ -8,7 +8,7 @@ import numpy as np
 import pandas as pd
 import pytest
 from conftest import PROJECT, rows
-from helpers.benches import made_of, optimum_of, problem_of, random_benches, without_flows
+from helpers.benches import made_of, optimum_of, problem_of, random_benches, without_flows, yearly_limits
 from helpers.programmes import limits, small
 from helpers.random_tests import examples
 from helpers.writings import PLAIN, UNVERIFIED
@@ -22,7 +22,7 @@ from pitplan.config.schedule import Effort
 from pitplan.economics import period_costs
 from pitplan.economics.period_costs import YearlyMoney
 from pitplan.pushbacks.bench_table import PushbackBenches
-from pitplan.scheduling.bench_sequencing import Limits, Problem, by_rule
+from pitplan.scheduling.bench_sequencing import Problem, by_rule
 from pitplan.scheduling.flow import scheduler
 from pitplan.scheduling.flow.bound import upper_bound
 from pitplan.scheduling.flow.flows import none_of
@@ -142,7 +142,7 @@ def two_benches(money):
     benches = PushbackBenches(np.array([1, 1]), np.array([0, 1]), NAMES, amounts)
     return Problem(
         benches,
-        Limits({"feed_tonnes": 10}),
+        yearly_limits({"feed_tonnes": 10}),
         SimpleNamespace(discount_rate=0.0, discounting="end_of_year", calendar=Calendar()),
         money,
     )
@@ -217,7 +217,7 @@ def one_bench(capacity, fixed, gains, stockpiles=()):
     feed = {name: np.where(np.arange(len(gains)) == number, 10.0, 0.0)[:, None] for number, name in enumerate(names)}
     amounts = {"feed_tonnes": np.full((len(gains), 1), 10.0)} | feed
     ore = Ore(np.zeros(1, dtype=np.int64), np.ones(1, dtype=np.int64), np.array(gains, dtype=float)[:, None], amounts)
-    return FlowModel(Problem(benches, Limits(most), settings, YearlyMoney((fixed,))), ore, 2, stockpiles)
+    return FlowModel(Problem(benches, yearly_limits(most), settings, YearlyMoney((fixed,))), ore, 2, stockpiles)
 
 
 def test_a_year_in_which_little_is_fed_costs_its_whole():

@@ -6,6 +6,7 @@ import pandas as pd
 import pytest
 from conftest import PROJECT
 from helpers import block_commands as blocks
+from helpers.benches import yearly_limits
 from helpers.flows import (
     complete_optimum,
     linear_optimum,
@@ -25,7 +26,6 @@ from hypothesis import given, strategies as st
 
 import pitplan
 from pitplan import PlanError
-from pitplan.scheduling.bench_sequencing import Limits
 from pitplan.scheduling.flow import scheduler
 from pitplan.scheduling.flow.bound import upper_bound
 from pitplan.scheduling.flow.programme import FlowProgramme
@@ -195,7 +195,7 @@ factors = st.lists(st.sampled_from([0.5, 1.0, 1.7, 3.0]), min_size=2, max_size=3
 def test_random_optima_and_bounds(pits, several, lag, piles, processing, selling):
     """The optimum is that of a programme that the tests state, bound and schedule lie around that of whole benches, and dearer milling and selling raise
     neither optimum nor bound."""
-    plain = model_of(mine_of(pits, lag), several, Limits({"feed_tonnes": 70.0, "total_tonnes": 150.0}), 3, piles)
+    plain = model_of(mine_of(pits, lag), several, yearly_limits({"feed_tonnes": 70.0, "total_tonnes": 150.0}), 3, piles)
     costs = processing, selling
     model, dearer = (
         with_costs_of_ore(plain, *([it[0], *(by * other for other in it[1:])] for it in costs)) for by in (1, 1.4)

@@ -3,12 +3,11 @@ it."""
 
 import numpy as np
 import pytest
-from helpers.benches import benches_of, problem_of, without_flows
+from helpers.benches import benches_of, problem_of, without_flows, yearly_limits
 from helpers.programmes import integer_optimum, pace
 from helpers.random_tests import examples
 from hypothesis import given, strategies as st
 
-from pitplan.scheduling.bench_sequencing import Limits
 from pitplan.scheduling.flow.model import kept_behind, pace_rows
 from pitplan.scheduling.flow.programme import FlowProgramme
 from planaudit.schedules.pushback_bounds import steps_of
@@ -102,7 +101,7 @@ def test_no_schedule_of_whole_benches_is_cut_off(first, second, rock, rate):
     """The integer optimum, which the tests state without these rows, stays at most the optimum with them; and that falls by no more than it may."""
     rows = [(1, k, tonnes, 0, cash) for k, (tonnes, cash) in enumerate(first)]
     rows += [(2, k, tonnes, 0, cash) for k, (tonnes, cash) in enumerate(second)]
-    benches, limits = benches_of(*rows, lag=0), Limits({"total_tonnes": rock}, vertical_advance_rate=rate)
+    benches, limits = benches_of(*rows, lag=0), yearly_limits({"total_tonnes": rock}, rate=rate)
     model = without_flows(problem_of(benches, limits), 4)
     paced, free = (FlowProgramme(model, paced=is_paced).solved().value for is_paced in (True, False))
     best = max(0.0, integer_optimum(benches, limits, 4))
@@ -114,8 +113,8 @@ def test_half_of_a_pushback_is_no_longer_mined_down_to_its_ore():
     """Ore of 300 under two benches of waste of 100 each, a bench a year. Without the rows a third of all three comes in the third year; with them the
     ore comes in it whole. In two years nothing is earned."""
     benches = benches_of((1, 0, 100, 0, -10), (1, 1, 100, 0, -10), (1, 2, 100, 0, 300))
-    limits = Limits({}, vertical_advance_rate=1.5)
+    limits = yearly_limits({}, rate=1.5)
     model = without_flows(problem_of(benches, limits), 2)
     assert FlowProgramme(model).solved().value == pytest.approx(-15 / 1.1 + (-5 + 300) / 1.21)
-    slow = without_flows(problem_of(benches, Limits({}, vertical_advance_rate=1.0)), 3)
+    slow = without_flows(problem_of(benches, yearly_limits({}, rate=1.0)), 3)
     assert FlowProgramme(slow).solved().value == pytest.approx(-10 / 1.1 - 10 / 1.21 + 300 / 1.331)

@@ -10,6 +10,7 @@ import pytest
 import tomllib
 from conftest import PROJECT, plan_in
 from helpers import block_commands as blocks
+from helpers.benches import yearly_limits
 from helpers.periods import column, entries, periods, schedule_of, solved
 from helpers.pushbacks import pillars
 from helpers.verified import wrong
@@ -21,7 +22,6 @@ from pitplan.config.periods import Calendar, Period
 from pitplan.config.shells import ShellRules
 from pitplan.pits.best_worst_case import discounts_of, year_discounts
 from pitplan.results.pit_states import Shape
-from pitplan.scheduling.bench_sequencing import Limits
 
 
 def test_half_years_by_hand(plan_folder):
@@ -92,11 +92,10 @@ def test_lengths_and_ends_by_hand():
     assert [calendar.within(years) for years in (1, 3, 4, 6, 12)] == [4, 6, None, 7, 9]
     assert [calendar.time(place) for place in (0, 0.5, 4.5, 6.5)] == [0, 0.125, 1.5, 4.5]
     assert [calendar.span(count) for count in (1, 4)] == [0.25, 1] and isinstance(calendar.span(4), int)
-    limits = Limits({"feed_tonnes": 100}, vertical_advance_rate=8, least={"feed_tonnes": 40}, calendar=calendar)
-    assert (
-        limits.of_years(7)[:, 0].tolist() == [25, 25, 25, 25, 100, 100, 300] and limits.greatest("feed_tonnes") == 300
-    )
-    assert limits.least_of_years(7)["feed_tonnes"].tolist() == [10, 10, 10, 10, 40, 40, 120]
+    limits = yearly_limits({"feed_tonnes": 100}, rate=8, least={"feed_tonnes": 40}, calendar=calendar)
+    feed = limits.most["feed_tonnes"]
+    assert limits.of_years(7)[:, 0].tolist() == [25, 25, 25, 25, 100, 100, 300] and feed.greatest == 300
+    assert limits.least["feed_tonnes"].of_years(7).tolist() == [10, 10, 10, 10, 40, 40, 120]
     assert limits.sinking(7).tolist() == [2, 2, 2, 2, 8, 8, 24]
 
 

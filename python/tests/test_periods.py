@@ -4,11 +4,13 @@ from dataclasses import replace
 from decimal import Decimal
 from functools import partial
 
+import numpy as np
 import pandas as pd
 import pytest
 import tomllib
 from conftest import PROJECT, rows
 from helpers import block_commands as blocks
+from helpers.benches import yearly_limits
 from helpers.periods import column, periods, schedule_of, solved
 from helpers.processes import WITH, deposit
 from helpers.pushbacks import pillars
@@ -18,7 +20,7 @@ from helpers.writings import PLAIN, UNVERIFIED
 import pitplan
 from pitplan import PlanError
 from pitplan.config.periods import Calendar, Period
-from pitplan.scheduling.bench_sequencing import Limits
+from pitplan.scheduling.limits import MAX, MIN
 from pitplan.studies.sensitivity import varied
 
 
@@ -145,17 +147,19 @@ def test_periods_that_are_passed_over_are_found(scheduled):
 
 
 def test_limits_of_years_by_hand():
-    limits = Limits(
+    limits = yearly_limits(
         {"feed_tonnes": 100, "total_tonnes": 300},
         (0.5, 1.0),
-        most_by_year={"feed_tonnes": (10, 20)},
         least={"feed_tonnes": 0.0},
-        least_by_year={"feed_tonnes": (0, 5)},
+        by_year={("feed_tonnes", MAX): (10, 20), ("feed_tonnes", MIN): (0, 5)},
     )
     assert limits.of_years(3).tolist() == [[10, 300], [20, 300], [20, 300]]
-    assert limits.least_of_years(3)["feed_tonnes"].tolist() == [0, 5, 5]
-    assert (limits.greatest("feed_tonnes"), limits.greatest("total_tonnes")) == (20, 300)
-    assert replace(limits, most_by_year={}).of_years(2)[:, 0].tolist() == [50, 100]
+    feed, rock = limits.most["feed_tonnes"], limits.most["total_tonnes"]
+    assert limits.least["feed_tonnes"].of_years(3).tolist() == [0, 5, 5]
+    assert (feed.greatest, rock.greatest) == (20, 300)
+    assert replace(feed, by_period=()).of_years(2).tolist() == [50, 100]
+    assert feed.within(np.array([True, False, True])).of_years(3).tolist() == [10, np.inf, 20]
+    assert limits.least["feed_tonnes"].within(np.array([True, False, True])).of_years(3).tolist() == [0, 0, 5]
 
 
 def test_values_of_years_by_hand():

@@ -7,6 +7,7 @@ import numpy as np
 import pandas as pd
 import pytest
 from conftest import PROJECT, plan_in
+from helpers.benches import yearly_limits
 from helpers.flow_cases import slack_of
 from helpers.flows import mine_of, mines, model_of, processes, stockpiles
 from helpers.processes import WITH, deposit
@@ -17,9 +18,8 @@ from helpers.writings import UNVERIFIED
 from hypothesis import given, strategies as st
 
 import pitplan
-from pitplan.scheduling.bench_sequencing import Limits
 from pitplan.scheduling.flow.programme import FlowProgramme
-from pitplan.scheduling.limits import RUNNING, whole_price
+from pitplan.scheduling.limits import MAX, RUNNING, Limit, whole_price
 
 
 def scheduled(path):
@@ -86,22 +86,22 @@ def value_of(model):
 @examples(8)
 def test_a_tonne_more_of_a_capacity_earns_its_price(pits, several, lag, piles):
     """The optimum with a tonne more in a year exceeds the optimum by no more than the price, and with a tonne less it is lower by no less."""
-    model = model_of(mine_of(pits, lag), several, Limits({"total_tonnes": 120.0}), 3, piles)
+    model = model_of(mine_of(pits, lag), several, yearly_limits({"total_tonnes": 120.0}), 3, piles)
     optimum, slack = FlowProgramme(model).solved(), slack_of(model)
     for number, (_, capacity) in enumerate(several):
         name, limits = f"feed_tonnes_{number}", model.problem.limits
         prices = whole_price(optimum.prices, name, 3)
         for year, price in enumerate(prices):
             for step in (1.0, -1.0):
-                by_year = {name: tuple(capacity + step * (it == year) for it in range(3))}
-                other = replace(limits, most_by_year=by_year)
+                by_year = tuple(capacity + step * (it == year) for it in range(3))
+                other = replace(limits, most=limits.most | {name: Limit(name, MAX, capacity, by_year)})
                 found = value_of(replace(model, problem=replace(model.problem, limits=other)))
                 assert found <= optimum.value + step * price + slack
 
 
 def test_the_price_holds_if_years_have_costs():
     """Years of 30 run in full; a hundredth of a tonne more or less of each process changes the optimum by its price, or by one of two prices next to it."""
-    model = model_of(mine_of(MINE, 0), [(1.0, 40.0), (0.6, 30.0)], Limits({"total_tonnes": 150.0}), 3)
+    model = model_of(mine_of(MINE, 0), [(1.0, 40.0), (0.6, 30.0)], yearly_limits({"total_tonnes": 150.0}), 3)
     model = replace(model, problem=replace(model.problem, money=replace(model.problem.money, fixed_cost=(30.0,))))
     optimum, limits, step = FlowProgramme(model).solved(), model.problem.limits, 0.01
     assert optimum.running == pytest.approx(np.ones(3))
@@ -111,7 +111,8 @@ def test_the_price_holds_if_years_have_costs():
         for year, price in enumerate(whole_price(optimum.prices, name, 3)):
             found = []
             for by in (step, -step):
-                other = replace(limits, most_by_year={name: tuple(capacity + by * (it == year) for it in range(3))})
+                by_year = tuple(capacity + by * (it == year) for it in range(3))
+                other = replace(limits, most=limits.most | {name: Limit(name, MAX, capacity, by_year)})
                 found.append(
                     (value_of(replace(model, problem=replace(model.problem, limits=other))) - optimum.value) / by
                 )

@@ -6,6 +6,7 @@ import shutil
 import numpy as np
 import pytest
 from conftest import rows
+from helpers.benches import yearly_limits
 from helpers.block_commands import wrong
 from helpers.flow_cases import blended, lying, slack_of, two_benches
 from helpers.flows import complete_optimum, mine_of, mines, model_of, processes, stockpiles
@@ -19,7 +20,6 @@ import pitplan
 from pitplan import PlanError, ProgramError, load
 from pitplan.cli import main
 from pitplan.core import paths
-from pitplan.scheduling.bench_sequencing import Limits
 from pitplan.scheduling.certificate import checked, write
 from pitplan.scheduling.flow import scheduler
 from pitplan.scheduling.flow.certificate import FlowCertificate
@@ -55,7 +55,7 @@ HALVES = 850 / 1.1 + 850 / 1.21
 )
 def test_two_benches_and_a_stockpile_by_hand(tmp_path, cost, years, value, bound):
     """Half of each bench has 100 t of rich ore, which gain 1,000, and costs 150 to mine."""
-    model = two_benches(Limits({"feed_tonnes": 100}, vertical_advance_rate=1.0), years, cost)
+    model = two_benches(yearly_limits({"feed_tonnes": 100}, rate=1.0), years, cost)
     flows, found = proved(model, tmp_path)
     assert flows.value == pytest.approx(value)
     assert found.value == pytest.approx(value, rel=ROUNDED) and found.bound == pytest.approx(bound, rel=ROUNDED)
@@ -86,7 +86,7 @@ def test_what_lies_on_a_stockpile_at_the_start_by_hand(tmp_path):
 )
 def test_the_note_says_whether_blocks_are_mined_whole(tmp_path, tonnes, said):
     """The upper bench has 200 t, of which a year takes all or half."""
-    limits = Limits({"feed_tonnes": 300, "total_tonnes": tonnes})
+    limits = yearly_limits({"feed_tonnes": 300, "total_tonnes": tonnes})
     _, found = proved(two_benches(limits, 3), tmp_path)
     assert f"{found.bound:,.2f}. {said}" in found.note
 

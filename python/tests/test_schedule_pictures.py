@@ -9,7 +9,7 @@ import matplotlib
 import numpy as np
 import pandas as pd
 import pytest
-from helpers.benches import THREE, benches_of, problem_of, without_flows
+from helpers.benches import THREE, benches_of, problem_of, without_flows, yearly_limits
 from matplotlib.colors import to_rgb
 from matplotlib.figure import Figure
 
@@ -21,7 +21,6 @@ from pitplan.figures import palette, schedule as schedule_figures
 from pitplan.report import viewer3d
 from pitplan.results.folder import Folder, read_folder
 from pitplan.scheduling import pushback_schedule
-from pitplan.scheduling.bench_sequencing import Limits
 from pitplan.scheduling.flow.flows import none_of
 from pitplan.scheduling.flow.programme import FlowOptimum
 
@@ -31,7 +30,7 @@ METAL = Metal(name="copper", column="cu", unit="percent", price=8000, recovery=0
 @pytest.fixture
 def schedule():
     """Three benches under a mill that begins at a half: by rule in three years, and by the programme the same in other shares."""
-    problem = problem_of(benches_of(*THREE), Limits({"feed_tonnes": 100, "total_tonnes": 200}, (0.5, 1.0)))
+    problem = problem_of(benches_of(*THREE), yearly_limits({"feed_tonnes": 100, "total_tonnes": 200}, (0.5, 1.0)))
     shares = {
         "rule": np.array([[1, 0, 0], [0.5, 0.5, 0], [0, 0.5, 0.5]]),
         "lp": np.array([[1, 0, 0], [0.25, 0.75, 0], [0, 0.25, 0.75]]),

@@ -3,14 +3,13 @@
 import numpy as np
 import pandas as pd
 import pytest
-from helpers.benches import benches_of, problem_of
+from helpers.benches import benches_of, problem_of, yearly_limits
 from helpers.six_blocks import POOR, six_blocks
 from helpers.verified import wrong
 from helpers.writings import UNVERIFIED
 
 import pitplan
 from pitplan.config.material import Stockpile
-from pitplan.scheduling.bench_sequencing import Limits
 from pitplan.scheduling.flow.bound import Lagrangian
 from pitplan.scheduling.flow.material import Ore
 from pitplan.scheduling.flow.model import FlowModel, OpeningOre
@@ -51,7 +50,7 @@ def test_no_process_frees_a_stockpile_of_ore_that_it_does_not_take():
     whole, nothing = np.array([[100.0]]), np.zeros(1, dtype=np.int64)
     amounts = {"feed_tonnes": np.vstack([whole, 0 * whole]), "feed_tonnes_mill": np.vstack([whole, 0 * whole])}
     ore = Ore(nothing, nothing + 1, np.array([[1000.0], [0.0]]), amounts)
-    problem = problem_of(benches_of((1, 0, 100, 0, 0)), Limits({"feed_tonnes_mill": 50.0}), rate=0.0)
+    problem = problem_of(benches_of((1, 0, 100, 0, 0)), yearly_limits({"feed_tonnes_mill": 50.0}), rate=0.0)
     model = FlowModel(problem, ore, 3, (Stockpile(1.0, capacity=100.0),), OpeningOre(ore, nothing))
     prices = {("stockpile_stockpile", "max"): np.full(3, 2.0), ("feed_tonnes_mill", "max"): np.full(3, 100.0)}
     relaxation = Lagrangian(model, prices)

@@ -503,8 +503,9 @@ def draw_limits(ax: Axes, schedule: PushbackSchedule, count: int, unit: tuple[fl
     mill = "processing capacity (all processes)" if len(limits.parts("feed_tonnes")) > 1 else "processing capacity"
     for name, label, colour in (("feed_tonnes", mill, MILL), ("total_tonnes", "mining capacity", SHOVELS)):
         if limits.parts(name):
-            most = limits.sum_of_years(name, max(count, 1)) / size
-            label = f"{label}: {in_words(limits.sums_per_year(name), size)} {sign}t a year"
+            most = np.sum([it.of_years(max(count, 1)) for it in limits.parts(name)], axis=0) / size
+            per_year = tuple(map(sum, zip(*(it.by_period or (it.amount,) for it in limits.parts(name)))))
+            label = f"{label}: {in_words(per_year, size)} {sign}t a year"
             draw_limit(ax, most, colour, label)
 
 
@@ -585,7 +586,7 @@ def plot(made: BlockSchedule, axes: Any) -> list[Axes]:
 
 def draw_bars(ax: Axes, made: BlockSchedule, size: float) -> None:
     """Draws the in-situ tonnes of each year by process, and waste by dump; a text if nothing is mined."""
-    years, calendar = made.years, made.planned.limits.calendar
+    years, calendar = made.years, made.planned.plan.project.shells.calendar
     ax.set_xlabel(label_of(calendar, len(years)))
     if years.empty:
         ax.text(0.5, 0.5, "nothing is mined", transform=ax.transAxes, ha="center", va="center")
@@ -616,9 +617,9 @@ def plot_block_tonnes(made: BlockSchedule, ax: Axes) -> None:
     draw_bars(ax, made, size)
     capacities = (("feed_tonnes", "processing capacity", MILL), ("total_tonnes", "mining capacity", SHOVELS))
     for name, label, colour in capacities:
-        per_year = sum(limits.most[it] for it in limits.parts(name))
+        per_year = sum(it.amount for it in limits.parts(name))
         if limits.parts(name) and per_year <= FAR_ABOVE * top:
-            most = limits.sum_of_years(name, max(len(years), 1)) / size
+            most = np.sum([it.of_years(max(len(years), 1)) for it in limits.parts(name)], axis=0) / size
             draw_limit(ax, most, colour, f"{label}: {round(per_year / size, 3):,.12g} {sign}t a year")
             top = max(top, most.max() * size)
     ax.set_ylim(0, 1.2 * MARGIN * top / size)
@@ -631,7 +632,7 @@ def plot_value(made: BlockSchedule, ax: Axes) -> None:
     currency = made.planned.plan.project.economics.currency
     size, unit = money_unit(max(float(np.abs(earned).max()), made.found.bound), currency)
     marks = {"color": palette.ORE, "marker": "o", "markersize": 3, "linewidth": 1.4}
-    ends = np.append(0.0, made.planned.limits.calendar.ends(len(earned) - 1))
+    ends = np.append(0.0, made.planned.plan.project.shells.calendar.ends(len(earned) - 1))
     ax.plot(ends, earned / size, label=f"schedule: {earned[-1] / size:,.2f}", **marks)
     bound = made.found.bound / size
     label = f"upper bound, any schedule by block: {bound:,.2f}"

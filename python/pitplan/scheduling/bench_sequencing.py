@@ -2,135 +2,20 @@
 
 from __future__ import annotations
 
-from dataclasses import dataclass, field
+from dataclasses import dataclass
 from typing import Optional
 
 import numpy as np
 
 from pitplan.config.economics import MOST_YEARS
-from pitplan.config.periods import Calendar
-from pitplan.config.project import Project
-from pitplan.config.schedule import ScheduleRules
 from pitplan.config.shells import ShellRules
 from pitplan.core.tolerances import MISSED_LIMIT, SUM_ERROR
 from pitplan.economics.period_costs import PLAIN, YearlyMoney
 from pitplan.errors import PlanError
 from pitplan.pits.best_worst_case import year_discounts
-from pitplan.pushbacks.bench_table import CASH, ORE, ROCK, PushbackBenches
+from pitplan.pushbacks.bench_table import CASH, ROCK, PushbackBenches
 
-
-@dataclass(frozen=True)
-class Limits:
-    """What a year, or another period, may hold.
-
-    most          by name the most of an amount per year; of ore once the mill runs in full
-    ramp_up       shares of the tonnes of mill and processes in the first years; the last one stays
-    vertical_advance_rate  the most benches by which a pushback sinks in a year; infinite where there is no limit
-    least         by name the least of an amount, likewise
-    most_by_year, least_by_year  by name the limits per year of periods that differ, from the first; the last one continues
-    calendar      the lengths of the periods, by which limits per year are multiplied
-    stock_by_year by stockpile the least and the most that lies there at the end of periods that differ, likewise
-    dumped_by_year  by dump the least and the most that it takes per year of periods that differ, likewise
-    """
-
-    most: dict[str, float]
-    ramp_up: tuple[float, ...] = (1.0,)
-    vertical_advance_rate: float = np.inf
-    least: dict[str, float] = field(default_factory=dict)
-    most_by_year: dict[str, tuple[float, ...]] = field(default_factory=dict)
-    least_by_year: dict[str, tuple[float, ...]] = field(default_factory=dict)
-    calendar: Calendar = Calendar()
-    stock_by_year: dict[str, tuple[tuple[float, float], ...]] = field(default_factory=dict)
-    dumped_by_year: dict[str, tuple[tuple[float, float], ...]] = field(default_factory=dict)
-
-    def dumped(self, name: str, count: int) -> tuple[np.ndarray, np.ndarray]:
-        """The least and the most tonnes that a dump takes in each year, infinite without a limit, each of shape (count,)."""
-        by_year = np.array(self.dumped_by_year.get(name, ((0.0, np.inf),)))
-        least, most = by_year[np.minimum(np.arange(count), len(by_year) - 1)].T * self.calendar.lengths(count)
-        return least, most
-
-    def of_year(self, number: int) -> np.ndarray:
-        """The limited amounts of a year, numbered from 1."""
-        return np.array([self.most_of(name, number) for name in self.most], dtype=float)
-
-    def least_of_years(self, count: int) -> dict[str, np.ndarray]:
-        """By name the least amounts of years, from the first."""
-        return {name: np.array([self.least_of(name, year) for year in range(1, count + 1)]) for name in self.least}
-
-    def most_of(self, name: str, number: int) -> float:
-        """The most of an amount in a year, numbered from 1."""
-        by_year = self.most_by_year.get(name)
-        of_year = by_year[min(number, len(by_year)) - 1] if by_year else self.most[name] * self.share(name, number)
-        return of_year * self.calendar.length(number)
-
-    def least_of(self, name: str, number: int) -> float:
-        """The least of an amount in a year, numbered from 1."""
-        by_year = self.least_by_year.get(name)
-        of_year = by_year[min(number, len(by_year)) - 1] if by_year else self.least[name] * self.share(name, number)
-        return of_year * self.calendar.length(number)
-
-    def sinking(self, count: int) -> np.ndarray:
-        """The most benches by which a pushback sinks in each period, shape (count,)."""
-        return np.asarray(self.vertical_advance_rate * self.calendar.lengths(count))
-
-    def greatest(self, name: str) -> float:
-        """The most of an amount in any year."""
-        listed = max(1, len(self.calendar.listed), len(self.ramp_up), len(self.most_by_year.get(name, ())))
-        return max(self.most_of(name, number) for number in range(1, listed + 1))
-
-    def share(self, name: str, number: int) -> float:
-        """The share of an amount's limit that a year has."""
-        return self.ramp_up[min(number, len(self.ramp_up)) - 1] if name.startswith(ORE) else 1.0
-
-    def of_years(self, count: int) -> np.ndarray:
-        """An array of years, from the first, and limited amounts."""
-        return np.stack([self.of_year(number) for number in range(1, count + 1)])
-
-    def parts(self, name: str) -> list[str]:
-        """The limits whose sum limits an amount: its own, or of the feed of several processes that of each; none without a limit."""
-        return [name] if name in self.most else [it for it in self.most if it.startswith(f"{name}_")]
-
-    def sum_of_years(self, name: str, count: int) -> np.ndarray:
-        """The most of an amount in years, from the first, by the sum of its parts."""
-        return np.sum([[self.most_of(it, year) for year in range(1, count + 1)] for it in self.parts(name)], axis=0)
-
-    def sums_per_year(self, name: str) -> tuple[float, ...]:
-        """The most of an amount per year in periods that differ, from the first, without ramp-up, by the sum of its parts."""
-        return tuple(map(sum, zip(*(self.most_by_year.get(it, (self.most[it],)) for it in self.parts(name)))))
-
-    def amounts(self, benches: PushbackBenches) -> np.ndarray:
-        """What each bench takes of each limit: an array of benches and limited amounts."""
-        return np.array([benches.of(name) for name in self.most]).reshape(len(self.most), len(benches)).T
-
-
-def limits_of(project: Project, rules: ScheduleRules) -> Limits:
-    """The limits of `[schedule]`, and of `[shells]` where it gives none."""
-    rock = rules.mining_capacity or project.shells.mining_capacity
-    most = {f"{ORE}_{process.name}": process.capacity for process in project.processes}
-    most = most or {ORE: rules.processing_capacity or project.shells.processing_capacity}
-    most |= {} if rock is None else {ROCK: rock}
-    most |= {f"recovered_{name}": amount for name, amount in rules.max_metal_per_year.items()}
-    rate = np.inf if rules.vertical_advance_rate is None else rules.vertical_advance_rate
-    return Limits(
-        most,
-        rules.ramp_up,
-        rate,
-        most_by_year=capacities_by_year(project, most),
-        calendar=project.shells.calendar,
-    )
-
-
-def capacities_by_year(project: Project, most: dict[str, float]) -> dict[str, tuple[float, ...]]:
-    """The capacities that `[[periods]]` sets, by the names of limits."""
-    calendar, found = project.shells.calendar, {}
-    if calendar.has(lambda it: it.mining_capacity is not None):
-        found[ROCK] = calendar.by_year(lambda it: it.mining_capacity, most[ROCK])
-    if calendar.has(lambda it: it.processing_capacity is not None):
-        found[ORE] = calendar.by_year(lambda it: it.processing_capacity, most[ORE])
-    if calendar.has(lambda it: it.capacity):
-        by_process = project.shells.capacities_by_year
-        found |= {f"{ORE}_{name}": amounts for name, amounts in zip(project.shells.names, zip(*by_process))}
-    return found
+from .limits import Limits
 
 
 @dataclass(frozen=True)

@@ -241,8 +241,8 @@ def demand_statable(project: Project, by_block: bool = False) -> None:
 
 
 @dataclass(frozen=True)
-class LimitOfYears:
-    """A limit as planners state it.
+class StatedLimit:
+    """A limit as planners state it, with what blocks use of it.
 
     Attributes
     ----------
@@ -250,33 +250,20 @@ class LimitOfYears:
     most : array, shape (periods,)
         Infinite where there is no limit.
     price : array, shape (periods,)
-    """
-
-    name: str
-    most: NDArray[np.float64]
-    price: NDArray[np.float64]
-
-    @property
-    def capacity(self) -> NDArray[np.float64]:
-        """The limit in millionths, infinite without one, shape (periods,)."""
-        return np.rint(self.most * UNIT)
-
-
-@dataclass(frozen=True)
-class StatedLimit:
-    """A limit with what blocks use of it.
-
-    Attributes
-    ----------
-    limit : LimitOfYears
     terms : tuple of Term
     is_loose : bool
         Whether rounded shares may use more: of a minimum, with turned signs, and of a dump.
     """
 
-    limit: LimitOfYears
+    name: str
+    most: NDArray[np.float64]
+    price: NDArray[np.float64]
     terms: tuple[Term, ...]
     is_loose: bool = False
+
+    def capacity(self, without: float) -> NDArray[np.float64]:
+        """Returns the limit in millionths, and another amount in periods without one, shape (periods,)."""
+        return np.where(np.isfinite(self.most), np.rint(self.most * UNIT), without)
 
     def row(self, shares: Shares) -> CertificateLimit:
         """Returns the limit of the texts. A loose capacity is not below what the schedule uses by more than rounding.
@@ -286,27 +273,24 @@ class StatedLimit:
         PlanError
             If the schedule uses more, or if a capacity or a price is out of range.
         """
-        limit, terms = self.limit, self.terms
-        used, price = usage(terms, shares, len(limit.most)), np.maximum(limit.price, 0)
-        loose = slack(terms, shares, len(limit.most)) + 1 if self.is_loose else 0.0
-        greatest = sum(int(np.maximum(term.amounts, 0).sum()) for term in terms)
-        capacity = np.where(np.isfinite(limit.most), limit.capacity, greatest)
+        used, price = usage(self.terms, shares, len(self.most)), np.maximum(self.price, 0)
+        loose = slack(self.terms, shares, len(self.most)) + 1.0 if self.is_loose else np.zeros(len(self.most))
+        capacity = self.capacity(sum(int(np.maximum(term.amounts, 0).sum()) for term in self.terms))
         if (used > capacity + loose).any():
             place = int((used - capacity).argmax())
-            why = f"{limit.name} uses {used[place] / UNIT:.10g} of {capacity[place] / UNIT:.10g} in year {place + 1}"
+            why = f"{self.name} uses {used[place] / UNIT:.10g} of {capacity[place] / UNIT:.10g} in year {place + 1}"
             raise PlanError(f"{WHOLE}: {why}")
         if (np.abs(capacity) > MOST_CAPACITY).any() or (price * UNIT > MOST_PRICE).any():
-            raise PlanError(f"{WHOLE}: a limit or a price of {limit.name} is out of range")
-        capacity = np.maximum(capacity.astype(np.int64), used)
-        return CertificateLimit(tuple(terms), capacity, np.rint(price * UNIT).astype(np.int64))
+            raise PlanError(f"{WHOLE}: a limit or a price of {self.name} is out of range")
+        whole = np.maximum(capacity.astype(np.int64), used)
+        return CertificateLimit(self.terms, whole, np.rint(price * UNIT).astype(np.int64))
 
     def kept(self, shares: Shares) -> Shares:
         """Returns shares that use less of the limit in each year in which they exceed it: a millionth of each block goes to waste, of those that use most
         first."""
         if self.is_loose:
             return shares
-        most = np.where(np.isfinite(self.limit.most), self.limit.capacity, np.inf)
-        over = usage(self.terms, shares, len(most)) - most
+        over = usage(self.terms, shares, len(self.most)) - self.capacity(np.inf)
         for period in np.flatnonzero(over > 0).tolist():
             saved = self.saved(shares, period)
             some = np.flatnonzero((saved > 0) & (shares.share > 0) & (shares.destination != WASTE))

@@ -33,7 +33,7 @@ from pitplan.pushbacks.nested import Pushbacks
 from pitplan.scheduling import inventory
 from pitplan.scheduling.cash_flow.lines import Operation
 from pitplan.scheduling.cash_flow.tables import Finance, operations, pushback_finances
-from pitplan.scheduling.flow.material import Material, by_choice, by_value, names_of, of_pushbacks, with_grades
+from pitplan.scheduling.flow.material import Material, by_choice, by_value, names_of, of_pushbacks
 from pitplan.scheduling.flow.opening import balance_at_start
 from pitplan.scheduling.flow.tables import cutoffs
 
@@ -48,7 +48,7 @@ from .flow.model import FlowModel
 from .flow.opening import OpeningLots
 from .flow.programme import FlowOptimum, FlowProgramme
 from .flow.tables import stockpile_table
-from .limits import Prices, all_limits_of, periods_of
+from .limits import Prices, limits_of, periods_of, with_grades
 from .methods import LP, MILP, NAMES, RULE, notes_of_gap
 from .schedule import Schedule
 
@@ -289,8 +289,7 @@ class PushbackSchedule(Schedule):
     @property
     def record(self) -> dict[str, Any]:
         """What schedule.json has: of each method NPV, years, unmined tonnes and cut-offs; the bounds; and the limits."""
-        limits = self.problem.limits
-        most = self.milp_upper_bound
+        rules, most = rules_of(self.plan.project), self.milp_upper_bound
         return {
             "revenue_factor": self.factor,
             "methods": {method: self.record_of(method) for method in self.flows},
@@ -301,10 +300,9 @@ class PushbackSchedule(Schedule):
             "shown": self.shown,
             "lead": self.lead,
             "lag": self.benches.lag,
-            "limits": limits.most,
-            **({"least": limits.least} if limits.least else {}),
-            "ramp_up": list(limits.ramp_up),
-            "vertical_advance_rate": None if math.isinf(limits.vertical_advance_rate) else limits.vertical_advance_rate,
+            **self.problem.limits.record,
+            "ramp_up": list(rules.ramp_up),
+            "vertical_advance_rate": rules.vertical_advance_rate,
             "bins": {name or MILL: edges.tolist() for name, edges in self.material.edges.items()},
             "stockpiles": [it.name for it in self.model.stockpiles],
             **({"dumps": [it.name for it in self.model.dumps]} if self.model.dumps else {}),
@@ -523,7 +521,7 @@ def make(pushbacks: Pushbacks, progress: Optional[Progress] = None) -> PushbackS
     progress = progress or pushbacks.plan.progress
     project, rules = pushbacks.plan.project, rules_of(pushbacks.plan.project)
     material = of_pushbacks(pushbacks, rules)
-    limits = with_grades(all_limits_of(project, rules), project)
+    limits = with_grades(limits_of(project, rules), project)
     problem = Problem(material.benches, limits, project.shells, period_costs.of_project(project))
     most, count = periods_of(project, rules), len(material.benches)
     lots = opening.of_plan(pushbacks.plan, rules)

@@ -12,6 +12,7 @@ from pitplan.scheduling.flow import scheduler
 from pitplan.scheduling.flow.material import Ore
 from pitplan.scheduling.flow.model import FlowModel
 from pitplan.scheduling.flow.programme import FlowProgramme
+from pitplan.scheduling.limits import MAX, MIN, Limit, Limits
 
 # By so much of it a limit may be missed.
 TOLERATED = 1e-8
@@ -21,6 +22,37 @@ NAMES = ("total_tonnes", "feed_tonnes", "recovered_copper", "cash_flow")
 def problem_of(benches, limits, rate=0.1, discounting="end_of_year"):
     settings = SimpleNamespace(discount_rate=rate, discounting=discounting, calendar=Calendar())
     return Problem(benches, limits, settings)
+
+
+def yearly_limits(most, ramp_up=(1.0,), rate=np.inf, *, least=None, by_year=None, places=None, calendar=Calendar()):
+    """Limits per year by name, those of feed with a ramp-up; `by_year` has by name and side the amounts of years that differ."""
+    by_year = by_year or {}
+
+    def limit(name, side, amount):
+        shares = ramp_up if name.startswith("feed") else (1.0,)
+        return Limit(name, side, amount, tuple(by_year.get((name, side), ())), shares, calendar)
+
+    return Limits(
+        {name: limit(name, MAX, amount) for name, amount in most.items()},
+        {name: limit(name, MIN, amount) for name, amount in (least or {}).items()},
+        limit("vertical_advance_", MAX, rate) if np.isfinite(rate) else None,
+        places or {},
+    )
+
+
+def amounts_of(limits):
+    """The maxima per year by name."""
+    return {name: it.amount for name, it in limits.most.items()}
+
+
+def ramp_of(limits):
+    """The ramp-up of the feed."""
+    return next((it.ramp_up for name, it in limits.most.items() if name.startswith("feed")), (1.0,))
+
+
+def rate_of(limits):
+    """The most benches by which a pushback sinks in a year, infinite without a limit."""
+    return np.inf if limits.advance is None else limits.advance.amount
 
 
 def without_flows(problem, years):
@@ -64,15 +96,12 @@ def demand_minable(benches, limits, shares):
     done = shares.cumsum(axis=1)
     assert (shares >= 0).all() and (done <= 1 + 1e-9).all()
     for year in range(shares.shape[1]):
-        ramp = limits.ramp_up[min(year, len(limits.ramp_up) - 1)]
-        for name, most in limits.most.items():
+        ramp = ramp_of(limits)[min(year, len(ramp_of(limits)) - 1)]
+        for name, most in amounts_of(limits).items():
             allowed = most * (ramp if name == "feed_tonnes" else 1)
             assert benches.of(name) @ shares[:, year] <= allowed * (1 + TOLERATED) + 1e-9
         for pushback in set(benches.pushback.tolist()):
-            assert (
-                shares[benches.pushback == pushback, year].sum()
-                <= limits.vertical_advance_rate * (1 + TOLERATED) + 1e-9
-            )
+            assert shares[benches.pushback == pushback, year].sum() <= rate_of(limits) * (1 + TOLERATED) + 1e-9
         for bench in np.flatnonzero(shares[:, year]):
             for other in range(len(benches)):
                 above = (

@@ -5,11 +5,12 @@ from dataclasses import replace
 import numpy as np
 
 from pitplan.config.material import Stockpile
-from pitplan.scheduling.bench_sequencing import Limits
+from pitplan.config.periods import Calendar
 from pitplan.scheduling.flow.material import Ore
 from pitplan.scheduling.flow.model import FlowModel, OpeningOre
+from pitplan.scheduling.limits import of_places
 
-from .benches import benches_of, problem_of
+from .benches import benches_of, problem_of, yearly_limits
 
 
 def two_benches(limits, years, cost=None):
@@ -27,7 +28,7 @@ def blended(cost):
     excess = 100 * (np.array([[180.0, 60]]) - 100)
     amounts = {"feed_tonnes": np.array([[100.0, 100]]), "grade_as_max": excess}
     ore = Ore(np.array([0, 1]), np.array([2, 1]), np.array([[1000.0, 10_000]]), amounts)
-    limits = Limits({"feed_tonnes": 150, "total_tonnes": 100, "grade_as_max": 0.0})
+    limits = yearly_limits({"feed_tonnes": 150, "total_tonnes": 100, "grade_as_max": 0.0})
     return FlowModel(problem_of(benches, limits), ore, 2, () if cost is None else (Stockpile(cost),))
 
 
@@ -40,8 +41,10 @@ def lying(gain, excess, capacity=None):
         np.array([[60.0 * (gain - 1.0)]]),
         {"feed_tonnes": np.array([[60.0]]), "grade_as_max": np.array([[60.0 * excess]])},
     )
-    pile = Stockpile(1.0, capacity=capacity)
-    return replace(model, lots=OpeningOre(ore, np.zeros(1, dtype=np.int64)), stockpiles=(pile,))
+    piles = (Stockpile(1.0, capacity=capacity),)
+    limits = replace(model.problem.limits, places=of_places(Calendar(), piles))
+    lots = OpeningOre(ore, np.zeros(1, dtype=np.int64))
+    return replace(model, problem=replace(model.problem, limits=limits), lots=lots, stockpiles=piles)
 
 
 def slack_of(model):

@@ -5,15 +5,16 @@ from dataclasses import replace
 from typing import Optional
 
 import numpy as np
-from helpers.benches import benches_of, problem_of
+from helpers.benches import amounts_of, benches_of, problem_of, ramp_of, rate_of
 from hypothesis import strategies as st
 from scipy.optimize import Bounds, LinearConstraint, linprog, milp
 
 from pitplan.config.material import Opening, Stockpile
+from pitplan.config.periods import Calendar
 from pitplan.economics.period_costs import MINING_COST, PROCESSING_COST, SELLING_COST, YearlyMoney
-from pitplan.scheduling.bench_sequencing import Limits
 from pitplan.scheduling.flow.material import Ore, joined
 from pitplan.scheduling.flow.model import FlowModel, OpeningOre
+from pitplan.scheduling.limits import MAX, MIN, Limit, Limits, of_places
 
 # Tonnes of a parcel, and what it gains in the first process.
 parcel = st.tuples(st.sampled_from([10, 50]), st.integers(0, 400))
@@ -59,7 +60,7 @@ def blending(model, a_tonne, by_year):
         of_lots = {BLEND: first * lots.ore.feed * OF_LOTS}
         lots = replace(lots, ore=replace(lots.ore, amounts=lots.ore.amounts | of_lots))
     limits = model.problem.limits
-    limits = replace(limits, most=limits.most | {BLEND: 0.0}, most_by_year=limits.most_by_year | {BLEND: by_year})
+    limits = replace(limits, most=limits.most | {BLEND: Limit(BLEND, MAX, 0.0, by_year)})
     return replace(model, ore=ore, lots=lots, problem=replace(model.problem, limits=limits))
 
 
@@ -115,15 +116,16 @@ def model_of(mine, processes, limits, years, stockpiles=(), favour=3):
         of_one = np.zeros((len(processes), len(tonnes)))
         of_one[number] = tonnes
         amounts[f"feed_tonnes_{number}"] = of_one
-        most[f"feed_tonnes_{number}"] = capacity
+        name = f"feed_tonnes_{number}"
+        most[name] = Limit(name, MAX, capacity, ramp_up=ramp_of(limits))
     gains = np.stack(
         [gain * factor + favour * number * (place[:, 1] == 2) for number, (factor, _) in enumerate(processes)]
     )
     accepted = np.array([np.ones(len(place)), place[:, 1] == 2], dtype=bool)[: len(stockpiles)]
     ore = Ore(place[:, 0], place[:, 1], gains, amounts, accepted)
-    limits = Limits(most, limits.ramp_up, limits.vertical_advance_rate)
-    problem = replace(problem_of(benches, limits), money=PRICED)
     piles = stockpiles_of(stockpiles)
+    limits = Limits(most, advance=limits.advance, places=of_places(Calendar(), piles))
+    problem = replace(problem_of(benches, limits), money=PRICED)
     return FlowModel(problem, ore, years, piles, lots_of(piles, len(processes)))
 
 
@@ -222,9 +224,8 @@ class Statement:
     def state(self) -> None:
         model, ore = self.model, self.model.ore
         limits, years, benches = model.problem.limits, range(model.years), model.benches
-        ramp = [limits.ramp_up[min(year, len(limits.ramp_up) - 1)] for year in years]
         for year in years:
-            for name, most in limits.most.items():
+            for name, limit in limits.most.items():
                 terms = {self.mined(b, year): model.mined(name)[b] for b in range(len(benches))}
                 for process in range(ore.processes):
                     for unit in range(len(ore)):
@@ -240,15 +241,14 @@ class Statement:
                             BLEND: OF_LOTS * (process == 0),
                         }
                         terms[self.opened(pile, process, year)] = a_tonne.get(name, 0.0) * self.lay(pile, process)
-                by_year = limits.most_by_year.get(name)
-                most = most * (ramp[year] if name.startswith("feed") else 1.0)
-                most = by_year[min(year, len(by_year) - 1)] if by_year else most
+                by_year = limit.by_period or [limit.amount * share for share in limit.ramp_up]
+                most = by_year[min(year, len(by_year) - 1)]
                 if most < np.inf:
                     self.add(most, terms)
-            if np.isfinite(limits.vertical_advance_rate):
+            if np.isfinite(rate_of(limits)):
                 for pushback in set(benches.pushback.tolist()):
                     some = np.flatnonzero(benches.pushback == pushback)
-                    self.add(limits.vertical_advance_rate, {self.mined(b, year): 1.0 for b in some})
+                    self.add(rate_of(limits), {self.mined(b, year): 1.0 for b in some})
             for unit, bench in enumerate(ore.bench.tolist()):
                 sent = {self.fed(process, unit, year): 1.0 for process in range(ore.processes)}
                 sent |= {self.stocked(pile, unit, year): 1.0 for pile in range(len(model.stockpiles))}
@@ -277,14 +277,16 @@ class Statement:
 
     def room(self, pile: int, year: int) -> tuple[float, Optional[float]]:
         """The least and the most that may lie on a stockpile at the end of a year."""
-        rules = self.model.stockpiles[pile]
-        by_year = self.model.problem.limits.stock_by_year.get(rules.name, ((0.0, rules.capacity),))
-        return by_year[min(year, len(by_year) - 1)]
+        places, name = self.model.problem.limits.places, f"stockpile_{self.model.stockpiles[pile].name}"
+        sides = (places.get((name, side)) for side in (MIN, MAX))
+        by_year = ((it.by_period or (it.amount,)) if it else None for it in sides)
+        least, most = (it and it[min(year, len(it) - 1)] for it in by_year)
+        return least or 0.0, most
 
     def state_order(self) -> None:
         model = self.model
         limits, benches = model.problem.limits, model.benches
-        rock = limits.most.get("total_tonnes", np.inf)
+        rock = amounts_of(limits).get("total_tonnes", np.inf)
         self.state_pace() if self.paced else None
         for bench, others in enumerate(self.before()):
             for year in range(model.years):
@@ -298,16 +300,16 @@ class Statement:
                 ]
                 if np.isfinite(rock):
                     self.add(max(0.0, (rock * (year + 1) - own[others].sum()) / own[bench]), done)
-                if np.isfinite(limits.vertical_advance_rate):
-                    self.add(max(0.0, limits.vertical_advance_rate * (year + 1) - len(above)), done)
+                if np.isfinite(rate_of(limits)):
+                    self.add(max(0.0, rate_of(limits) * (year + 1) - len(above)), done)
 
     def state_pace(self) -> None:
         """In a pushback, whose benches are mined one after the other, a share x of a bench by a year follows the same share of a bench above, some
         years before: from there to here lies as much as the limits of mining allow in between, for x = 0 and for x = 1.
         """
         limits, benches = self.model.problem.limits, self.model.benches
-        rates = [(np.ones(len(benches)), limits.vertical_advance_rate)]
-        rates.append((benches.of("total_tonnes"), limits.most.get("total_tonnes", np.inf)))
+        rates = [(np.ones(len(benches)), rate_of(limits))]
+        rates.append((benches.of("total_tonnes"), amounts_of(limits).get("total_tonnes", np.inf)))
         for takes, rate in [it for it in rates if np.isfinite(it[1])]:
             for low, high in ((low, high) for low in range(len(benches)) for high in range(low)):
                 if benches.pushback[low] != benches.pushback[high]:

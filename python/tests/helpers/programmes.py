@@ -1,10 +1,9 @@
 """The programme of a schedule by pushback, stated a second time, and its integer optimum by scipy."""
 
 import numpy as np
+from helpers.benches import amounts_of, ramp_of, rate_of, yearly_limits
 from hypothesis import strategies as st
 from scipy.optimize import Bounds, LinearConstraint, milp
-
-from pitplan.scheduling.bench_sequencing import Limits
 
 from .benches import amounts
 
@@ -35,9 +34,9 @@ def statement(benches, limits, years):
         for bench in range(count)
         for year in range(years)
     }
-    ramp_up = [limits.ramp_up[min(year, len(limits.ramp_up) - 1)] for year in range(years)]
+    ramp_up = [ramp_of(limits)[min(year, len(ramp_of(limits)) - 1)] for year in range(years)]
     most = [
-        {name: amount * (ramp if name == "feed_tonnes" else 1) for name, amount in limits.most.items()}
+        {name: amount * (ramp if name == "feed_tonnes" else 1) for name, amount in amounts_of(limits).items()}
         for ramp in ramp_up
     ]
     rows = [({(bench, year): 1.0 for year in range(years)}, 1.0) for bench in range(count)]
@@ -46,11 +45,11 @@ def statement(benches, limits, years):
             ({(bench, year): benches.of(name)[bench] for bench in range(count)}, most[year][name])
             for name in limits.most
         ]
-        for pushback in set(benches.pushback.tolist()) if np.isfinite(limits.vertical_advance_rate) else ():
+        for pushback in set(benches.pushback.tolist()) if np.isfinite(rate_of(limits)) else ():
             rows.append(
                 (
                     {(bench, year): 1.0 for bench in range(count) if benches.pushback[bench] == pushback},
-                    limits.vertical_advance_rate,
+                    rate_of(limits),
                 )
             )
         for bench in range(count):
@@ -67,12 +66,12 @@ def statement(benches, limits, years):
                 rows.append(
                     ({(bench, t): 1.0 for t in range(year + 1)}, max(0.0, room / own) if own else float(room >= 0))
                 )
-            if np.isfinite(limits.vertical_advance_rate):
+            if np.isfinite(rate_of(limits)):
                 above = sum(benches.pushback[other] == benches.pushback[bench] for other in before[bench])
                 rows.append(
                     (
                         {(bench, t): 1.0 for t in range(year + 1)},
-                        max(0.0, limits.vertical_advance_rate * (year + 1) - above),
+                        max(0.0, rate_of(limits) * (year + 1) - above),
                     )
                 )
     return gain, rows, before
@@ -88,10 +87,10 @@ def pace(benches, limits, years):
             continue
         takes = {name: benches.of(name) for name in limits.most} | {"benches": np.ones(len(benches))}
         for first, last in ((first, last) for last in range(years) for first in range(max(0, last - 3), last)):
-            ramp_up = [limits.ramp_up[min(year, len(limits.ramp_up) - 1)] for year in range(first + 1, last + 1)]
-            most = {name: amount * (last - first) for name, amount in limits.most.items()}
-            most |= {"benches": limits.vertical_advance_rate * (last - first)}
-            most |= {"feed_tonnes": limits.most["feed_tonnes"] * sum(ramp_up)} if "feed_tonnes" in most else {}
+            ramp_up = [ramp_of(limits)[min(year, len(ramp_of(limits)) - 1)] for year in range(first + 1, last + 1)]
+            most = {name: amount * (last - first) for name, amount in amounts_of(limits).items()}
+            most |= {"benches": rate_of(limits) * (last - first)}
+            most |= {"feed_tonnes": amounts_of(limits)["feed_tonnes"] * sum(ramp_up)} if "feed_tonnes" in most else {}
             if any(
                 takes[name][high] > 0
                 and min(takes[name][high:low].sum(), takes[name][high + 1 : low + 1].sum()) >= amount - 1e-9
@@ -136,7 +135,7 @@ def integer_optimum(benches, limits, years):
 
 small = st.lists(st.tuples(st.integers(0, 1), st.lists(amounts, min_size=1, max_size=3)), min_size=1, max_size=2)
 limits = st.builds(
-    lambda ore, rock, sinking, ramp_up: Limits({"feed_tonnes": ore, "total_tonnes": rock}, ramp_up, sinking),
+    lambda ore, rock, sinking, ramp_up: yearly_limits({"feed_tonnes": ore, "total_tonnes": rock}, ramp_up, sinking),
     st.sampled_from([40.0, 110.0]),
     st.sampled_from([70.0, 200.0, 1e6]),
     st.sampled_from([0.7, 1.5, np.inf]),

@@ -20,9 +20,21 @@ from pitplan.pits import ore_kinds
 from pitplan.pits.best_worst_case import year_discounts
 from pitplan.plan import MILLION, Plan
 from pitplan.pushbacks.bench_table import CASH, ORE, ROCK
-from pitplan.scheduling.bench_sequencing import Limits, costs_of_years
+from pitplan.scheduling.bench_sequencing import costs_of_years
 from pitplan.scheduling.flow.material import content_of
-from pitplan.scheduling.limits import DUMP, DUMPED, GRADE, SUM, GradeLimit, all_limits_of, grade_limits, periods_of
+from pitplan.scheduling.limits import (
+    DUMP,
+    DUMPED,
+    GRADE,
+    MAX,
+    MIN,
+    SUM,
+    GradeLimit,
+    Limits,
+    grade_limits,
+    limits_of,
+    periods_of,
+)
 from pitplan.slopes import closure
 from pitplan.slopes.domains import ABSENT, slices
 
@@ -237,20 +249,18 @@ class BlockAmounts:
 
     def limits(self, project: Project, years: int) -> tuple[BlockLimit, ...]:
         """Returns the limits of years: maxima, minimums, and head grades."""
-        limits, flows = all_limits_of(project, project.schedule or ScheduleRules()), self.flows
-        above = [BlockLimit(name, flows[name], most) for name, most in zip(limits.most, limits.of_years(years).T)]
+        limits, flows = limits_of(project, project.schedule or ScheduleRules()), self.flows
+        of_dumps = [it for it in limits.places.values() if it.name in flows and it.in_years(years).any()]
+        maxima = [*limits.most.values(), *(it for it in of_dumps if it.side == MAX)]
+        above = [BlockLimit(it.name, flows[it.name], it.of_years(years)) for it in maxima]
         # What yields nothing there is not sent to a process for the sake of a least amount.
         below = [
-            minimum(name, np.where(self.pays | (flows[name][:, :1] > 0), flows[name], 0.0), least)
-            for name, least in limits.least_of_years(years).items()
+            minimum(name, np.where(self.pays | (flows[name][:, :1] > 0), flows[name], 0.0), it.of_years(years))
+            for name, it in limits.least.items()
         ]
-        for name in [f"{DUMP}{it.name}" for it in project.dumps]:
-            least, most = limits.dumped(name.removeprefix(DUMP), years)
-            above += [BlockLimit(name, flows[name], most)] if np.isfinite(most).any() else []
-            below += [minimum(name, flows[name], least)] if least.any() else []
+        below += [minimum(it.name, flows[it.name], it.of_years(years)) for it in of_dumps if it.side == MIN]
         graded = [
-            BlockLimit(it.name, self.excess[it.name], np.where(it.in_years(years), 0.0, np.inf), signed=True)
-            for it in grade_limits(project)
+            BlockLimit(it.name, self.excess[it.name], it.of_years(years), signed=True) for it in grade_limits(project)
         ]
         return (*above, *below, *graded)
 
@@ -301,9 +311,10 @@ class Minable:
         if count:
             of_each = np.repeat(self.must_mine[:, None], amounts.destinations, axis=1).astype(float)
             found.append(TotalLimit(f"{count:,} must-mine blocks", of_each, float(count)))
-        for it in project.dumps:
-            if it.capacity is not None:
-                found.append(TotalLimit(f"{DUMPED}{it.name}", amounts.flows[f"{DUMP}{it.name}"], most=it.capacity))
+        for limit in limits_of(project, project.schedule or ScheduleRules()).places.values():
+            if limit.name.startswith(DUMPED):
+                taken = amounts.flows[f"{DUMP}{limit.name.removeprefix(DUMPED)}"]
+                found.append(TotalLimit(limit.name, taken, most=limit.amount))
         return tuple(found)
 
     def problem(self, amounts: BlockAmounts, project: Project, years: int) -> BlockProblem:
@@ -354,7 +365,7 @@ class PlannedBlocks:
     @property
     def limits(self) -> Limits:
         """The limits of a year, by the names of amounts."""
-        return all_limits_of(self.plan.project, self.plan.project.schedule or ScheduleRules())
+        return limits_of(self.plan.project, self.plan.project.schedule or ScheduleRules())
 
     def with_barren_waste(self, schedule: Assignment) -> Assignment:
         """Returns the schedule with blocks as waste that would go to a process where they yield nothing, and in dumps that accept them.
@@ -415,10 +426,10 @@ def taken(plan: Plan, cells: NDArray[np.int64], pays: NDArray[np.bool_]) -> NDAr
 
 def demand_small(plan: Plan, cells: NDArray[np.int64]) -> None:
     """Raises PlanError where a cell holds more material than a year may: it is mined in one year, so it never could be."""
-    limits = all_limits_of(plan.project, plan.project.schedule or ScheduleRules())
+    limits = limits_of(plan.project, plan.project.schedule or ScheduleRules())
     if ROCK not in limits.most:
         return
-    held, most = plan.values.tonnes[cells], limits.greatest(ROCK)
+    held, most = plan.values.tonnes[cells], limits.most[ROCK].greatest
     if (held > most * (1 + SUM_ERROR)).any():
         row = int(held.argmax())
         block = f"{plan.source}: {plan.called(int(cells[row]))} holds {held[row]:,.10g} of {ROCK}, and a year takes at most {most:,.10g}"
@@ -437,9 +448,8 @@ def cells_of(plan: Plan, wanted: NDArray[np.bool_]) -> NDArray[np.int64]:
 def owing(plan: Plan, amounts: BlockAmounts) -> NDArray[np.bool_]:
     """The cells that a limit may require: those that add to an amount that has a least, and those that bring a head grade nearer to its limit.
     Raises PlanError where of a model that is too large some were left out."""
-    limits = all_limits_of(plan.project, plan.project.schedule or ScheduleRules())
-    of_dumps = limits.dumped_by_year.items()
-    least = [*limits.least, *(f"{DUMP}{name}" for name, by_year in of_dumps if any(low > 0 for low, _ in by_year))]
+    limits = limits_of(plan.project, plan.project.schedule or ScheduleRules())
+    least = [*limits.least, *(name for name, side in limits.places if side == MIN)]
     found = np.zeros(plan.grid.count, dtype=bool)
     for name in least:
         found |= (amounts.flows[name] > 0).any(axis=1)
@@ -518,7 +528,7 @@ def years_of(pits: Sequence[dict[str, float]], project: Project) -> int:
         What each pit holds, by name.
     project : Project
     """
-    limits = all_limits_of(project, project.schedule or ScheduleRules())
+    limits = limits_of(project, project.schedule or ScheduleRules())
     most = limits.of_years(MOST_YEARS).cumsum(axis=0)
     taken = max(
         1 + int(np.searchsorted(done, pit[name] * (1 - SUM_ERROR)))

@@ -33,7 +33,6 @@ from pitplan.scheduling.certificate import (
     UNIT,
     WHOLE,
     Certificate,
-    LimitOfYears,
     Predecessors,
     Shares,
     StatedLimit,
@@ -46,7 +45,7 @@ from pitplan.scheduling.certificate import (
 )
 from pitplan.scheduling.flow.material import column_of
 from pitplan.scheduling.flow.tables import LimitUse, dump_table, feed_table, grades_of, limit_table, use_of_grade
-from pitplan.scheduling.limits import DUMP, DUMPED
+from pitplan.scheduling.limits import DUMP, DUMPED, MAX, MIN, Limit, shown
 from pitplan.scheduling.methods import BLOCK, notes_of_gap
 from pitplan.scheduling.schedule import Schedule
 
@@ -301,18 +300,17 @@ class BlockSchedule(Schedule):
     def record(self) -> dict[str, Any]:
         """What block_schedule.json says: value and bound, the gap between these as a share of the bound, the years that there were, the
         limits, how the bound was found, and the solver."""
-        found, limits = self.found, self.planned.limits
+        found, project = self.found, self.planned.plan.project
         value, bound = round(found.value, 3), round(found.bound, 3)
         return {
             "npv": value,
             "upper_bound": bound,
             "gap": round(gap_of(value, bound), 9),
             "years": self.time(self.planned.problem.years),
-            **({} if limits.calendar.is_yearly else {"periods": self.planned.problem.years}),
-            "limits": limits.most,
-            **({"least": limits.least} if limits.least else {}),
+            **({} if project.shells.calendar.is_yearly else {"periods": self.planned.problem.years}),
+            **self.planned.limits.record,
             **({"feed": self.feed_limits} if self.planned.grades else {}),
-            "ramp_up": list(limits.ramp_up),
+            "ramp_up": list((project.schedule or ScheduleRules()).ramp_up),
             "blocks": found.blocks,
             "nodes": found.nodes,
             "rounds": [
@@ -371,31 +369,24 @@ def scheduled(planned: PlannedBlocks, shells: Shells, progress: Progress = silen
 def uses_of_limits(blocks: BlockSchedule) -> Iterator[LimitUse]:
     """Yields the uses of amounts, head grades, and what dumps take and hold."""
     planned, count, schedule = blocks.planned, blocks.count, blocks.found.schedule
-    limits, project, nothing = planned.limits, planned.plan.project, np.full(count, np.nan)
-    operation, least = BlockOperation(blocks), limits.least_of_years(count)
-    most = dict(zip(limits.most, limits.of_years(max(count, 1))[:count].T))
+    limits, operation = planned.limits, BlockOperation(blocks)
 
-    def by_year(name: str) -> NDArray[np.float64]:
-        return operation.by_year((planned.amounts.flows[name] * schedule.share).sum(axis=1))
+    def use(name: str, amount: str, least: Optional[Limit], most: Optional[Limit]) -> LimitUse:
+        used = operation.by_year((planned.amounts.flows[amount] * schedule.share).sum(axis=1))
+        used = used.cumsum() if name.startswith(DUMPED) else used
+        return LimitUse(name, used, shown(least, count), shown(most, count), blocks.shadow_price(name)[:count])
 
-    for name in dict.fromkeys([*limits.most, *limits.least]):
-        price = blocks.shadow_price(name)[:count]
-        yield LimitUse(name, by_year(name), least.get(name, nothing), most.get(name, nothing), price)
-    for shown, sides in grades_of(project).items():
-        grade = next(it for it in planned.grades if sides[0].name in it.limits)
-        feed = operation.fed(grade.feed, sides[0].process)
-        head = grade.of_years(planned.cells, schedule, planned.problem.years)[:count]
-        yield use_of_grade(sides, head, feed, lambda it: blocks.shadow_price(it)[:count])
-    for it in project.dumps:
-        name, placed = f"{DUMP}{it.name}", by_year(f"{DUMP}{it.name}")
-        low, high = (values[:count] for values in limits.dumped(it.name, max(count, 1)))
-        if any(limit.name == name for limit in planned.problem.limits):
-            least_of_dump = low if low.any() else nothing
-            most_of_dump = np.where(np.isfinite(high), high, nothing)
-            yield LimitUse(name, placed, least_of_dump, most_of_dump, blocks.shadow_price(name)[:count])
-        if it.capacity is not None:
-            name, room = f"{DUMPED}{it.name}", np.full(count, float(it.capacity))
-            yield LimitUse(name, placed.cumsum(), nothing, room, blocks.shadow_price(name)[:count])
+    for name in limits.names:
+        yield use(name, name, limits.least.get(name), limits.most.get(name))
+    for grade, sides in grades_of(planned.plan.project).items():
+        head = next(it for it in planned.grades if sides[0].name in it.limits)
+        feed = operation.fed(head.feed, sides[0].process)
+        of_years = head.of_years(planned.cells, schedule, planned.problem.years)[:count]
+        yield use_of_grade(sides, of_years, feed, lambda it: blocks.shadow_price(it)[:count])
+    places = {key: it for key, it in limits.places.items() if it.in_years(planned.problem.years).any()}
+    for name in dict.fromkeys(name for name, _ in places):
+        amount = f"{DUMP}{name.removeprefix(DUMP).removeprefix(DUMPED)}"
+        yield use(name, amount, places.get((name, MIN)), places.get((name, MAX)))
 
 
 def flows_to(blocks: BlockSchedule, number: int) -> pd.DataFrame:
@@ -517,7 +508,7 @@ def stated(limit: BlockLimit, prices: NDArray[np.float64]) -> list[StatedLimit]:
         terms = used_terms(millionths(sign * limit.amounts, down=True))
         # Waste that one dump takes goes to no other.
         is_loose = side == "min" or limit.name.startswith(DUMP)
-        found.append(StatedLimit(LimitOfYears(limit.name, sign * bound, sign * prices), terms, is_loose))
+        found.append(StatedLimit(limit.name, sign * bound, sign * prices, terms, is_loose))
     return found
 
 
@@ -530,7 +521,7 @@ def stated_total(total: TotalLimit, prices: NDArray[np.float64]) -> StatedLimit:
     most = np.where(last | (side == "max"), sign * bound, 0.0)
     amounts = used_terms(millionths(sign * total.amounts, down=True))
     terms = tuple(replace(term, lag=lag) for term in amounts for lag in range(len(prices)))
-    return StatedLimit(LimitOfYears(name, most, sign * prices * last), terms, is_loose=True)
+    return StatedLimit(name, most, sign * prices * last, terms, is_loose=True)
 
 
 def used_terms(amounts: NDArray[np.int64]) -> tuple[Term, ...]:

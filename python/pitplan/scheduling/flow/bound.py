@@ -97,7 +97,7 @@ class Lagrangian:
     def earned(self) -> NDArray[np.float64]:
         """What each bench earns with its ore, less the prices of what it uses, by the year in which it is mined, shape (benches, years)."""
         model, benches = self.model, self.model.benches
-        amounts = {name: model.mined(name) for name in model.limits}
+        amounts = {name: model.mined(name) for name in model.problem.limits.names}
         amounts |= {
             f"{ADVANCE}{number}": (benches.pushback == number).astype(float) for number in np.unique(benches.pushback)
         }

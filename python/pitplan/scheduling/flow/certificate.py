@@ -20,7 +20,6 @@ from pitplan.core.tolerances import MILLIONTHS_ERROR, SOLVER_SHARE
 from pitplan.scheduling.certificate import (
     UNIT,
     Certificate,
-    LimitOfYears,
     Predecessors,
     Shares,
     StatedLimit,
@@ -29,7 +28,7 @@ from pitplan.scheduling.certificate import (
     money_unit,
     rows_of,
 )
-from pitplan.scheduling.limits import ADVANCE, MAX, MIN, STOCK, Prices
+from pitplan.scheduling.limits import ADVANCE, MIN, STOCK, Prices
 
 from .bound import Lagrangian
 from .flows import Flows
@@ -153,7 +152,7 @@ class CertifiedShares:
         model, years = self.flows.model, self.flows.years
         benches, limits = model.benches, model.of_mining
         found = [(model.mined(name), of_years) for name, of_years in zip(limits.most, limits.of_years(years).T)]
-        if np.isfinite(limits.vertical_advance_rate):
+        if limits.advance is not None:
             sunk = [(benches.pushback == number).astype(float) for number in np.unique(benches.pushback)]
             found += [(it, limits.sinking(years)) for it in sunk]
         return [
@@ -369,18 +368,8 @@ class FlowCertificate:
     @cached_property
     def amounts(self) -> dict[tuple[str, str], NDArray[np.float64]]:
         """The limits by name and side, each of shape (years,)."""
-        model, found = self.model, dict[tuple[str, str], NDArray[np.float64]]()
-        limits = model.problem.limits
-        found |= {(name, MAX): most for name, most in zip(limits.most, limits.of_years(model.years).T)}
-        found |= {(name, MIN): least for name, least in limits.least_of_years(model.years).items()}
-        if np.isfinite(limits.vertical_advance_rate):
-            sinking = limits.sinking(model.years)
-            found |= {(f"{ADVANCE}{number}", MAX): sinking for number in np.unique(model.benches.pushback)}
-        for number, (it, (least, most)) in enumerate(zip(model.stockpiles, model.rooms)):
-            lay = model.opening.on(number).sum()
-            found |= {(f"{STOCK}{it.name}", MAX): most - lay} if np.isfinite(most).any() else {}
-            found |= {(f"{STOCK}{it.name}", MIN): least - lay} if least.any() else {}
-        return found
+        model = self.model
+        return {(it.name, it.side): it.of_years(model.years) - model.lay(it.name) for it in model.limits}
 
     def stated(self, name: str, side: str) -> StatedLimit:
         """Returns a limit with what blocks use of it, a minimum with turned signs. Amounts are rounded down, so that no schedule of the project exceeds a
@@ -392,13 +381,12 @@ class FlowCertificate:
             if amounts.any()
         ]
         price = self.prices.get((name, side), np.zeros(self.model.years)) / self.unit
-        limit = LimitOfYears(name, sign * self.amounts[name, side], price)
-        return StatedLimit(limit, tuple(terms), side == MIN)
+        return StatedLimit(name, sign * self.amounts[name, side], price, tuple(terms), side == MIN)
 
     def uses(self, name: str) -> Iterator[tuple[int, NDArray[np.float64], int]]:
         """Yields destination, amounts of blocks, and lag of what they add to a limit."""
         if name.startswith(STOCK):
-            yield from self.lying([it.name for it in self.model.stockpiles].index(name.removeprefix(STOCK)))
+            yield from self.lying(self.model.places[name])
         elif name.startswith(ADVANCE):
             sunk = self.column((self.model.benches.pushback == int(name.removeprefix(ADVANCE))).astype(float))
             yield from ((number, sunk, 0) for number in range(len(self.destinations)))

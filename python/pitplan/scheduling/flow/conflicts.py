@@ -18,10 +18,9 @@ from scipy.sparse import csr_matrix, hstack
 
 from pitplan.config.schedule import Effort
 from pitplan.core.tolerances import SOLVER_SUM, SUM_ERROR
-from pitplan.scheduling.bench_sequencing import Limits
 from pitplan.scheduling.highs import Optimum, Programme
 from pitplan.scheduling.highs_process import solve
-from pitplan.scheduling.limits import ADVANCE, DUMP, DUMPED, GRADE, MAX, MIN, STOCK
+from pitplan.scheduling.limits import ADVANCE, DUMPED, GRADE, MAX, MIN, STOCK, Limit
 
 from .model import FlowModel
 from .programme import FlowLimit, FlowProgramme
@@ -109,52 +108,27 @@ def smallest(
 
 
 def with_units(model: FlowModel, units: Iterable[LimitOfYear]) -> FlowModel:
-    kept = set(units)
-    problem = replace(model.problem, limits=limits_with(model, kept))
-    dumps = tuple(
-        it if LimitOfYear(ALL, f"{DUMPED}{it.name}", MAX) in kept else replace(it, capacity=None) for it in model.dumps
-    )
-    stockpiles = tuple(replace(it, capacity=None) for it in model.stockpiles)
-    return replace(model, problem=problem, dumps=dumps, stockpiles=stockpiles)
+    """Returns the model with these limits alone."""
+    kept, limits = set(units), model.problem.limits
 
+    def within(limit: Limit) -> Limit:
+        return limit.within(np.array([unit_of(limit.name, limit.side, year) in kept for year in range(model.years)]))
 
-def limits_with(model: FlowModel, kept: set[LimitOfYear]) -> Limits:
-    """Returns the limits with those that are kept; a maximum that is not is infinite, and a minimum 0."""
-    limits, years = model.problem.limits, model.years
-    lengths = limits.calendar.lengths(years)
-
-    def by_year(name: str, side: str, amounts: np.ndarray) -> tuple[float, ...]:
-        free = np.inf if side == MAX else 0.0
-        return tuple(
-            float(amount) if LimitOfYear(year, name, side) in kept else free
-            for year, amount in enumerate(amounts.tolist())
-        )
-
-    most, least = limits.of_years(years).T / lengths, limits.least_of_years(years)
-    least = {name: amounts / lengths for name, amounts in least.items()}
-    rooms = {f"{STOCK}{it.name}": room for it, room in zip(model.stockpiles, model.rooms)}
-    taken = {f"{DUMP}{it.name}": limits.dumped(it.name, years) for it in model.dumps}
-    return replace(
+    limits = replace(
         limits,
-        most_by_year={name: by_year(name, MAX, amounts) for name, amounts in zip(limits.most, most)},
-        least_by_year={name: by_year(name, MIN, amounts) for name, amounts in least.items()},
-        vertical_advance_rate=limits.vertical_advance_rate if LimitOfYear(ALL, ADVANCE, MAX) in kept else np.inf,
-        stock_by_year={
-            name.removeprefix(STOCK): tuple(zip(by_year(name, MIN, low), by_year(name, MAX, high)))
-            for name, (low, high) in rooms.items()
-        },
-        dumped_by_year={
-            name.removeprefix(DUMP): tuple(zip(by_year(name, MIN, low / lengths), by_year(name, MAX, high / lengths)))
-            for name, (low, high) in taken.items()
-        },
+        most={name: within(it) for name, it in limits.most.items()},
+        least={name: within(it) for name, it in limits.least.items()},
+        advance=limits.advance if LimitOfYear(ALL, ADVANCE, MAX) in kept else None,
+        places={key: within(it) for key, it in limits.places.items()},
     )
+    return replace(model, problem=replace(model.problem, limits=limits))
 
 
 def of_mining(model: FlowModel) -> Iterator[LimitOfYear]:
     """Yields the limits of mining, from which rows of whole benches follow that have no name."""
     for name in model.of_mining.most:
         yield from (LimitOfYear(year, name, MAX) for year in range(model.years))
-    if np.isfinite(model.of_mining.vertical_advance_rate):
+    if model.of_mining.advance is not None:
         yield LimitOfYear(ALL, ADVANCE, MAX)
 
 
@@ -267,7 +241,7 @@ class Conflict:
         missed = self.missed
         if not missed:
             return ""
-        word = self.flow.model.problem.limits.calendar.word
+        word = self.flow.model.problem.settings.calendar.word
         parts = [
             f"the {SIDES[limit.side]} of {limit.name} in {word} {year + 1} by {by[year]:,.6g} of {self.given(limit)[year]:,.6g}"
             for limit, by in missed
@@ -302,20 +276,18 @@ class Conflict:
     def named(self, name: str, side: str, years: NDArray[np.bool_]) -> str:
         """Returns a limit in words, with years and amounts."""
         found = [self.given(it)[years] for it in self.flow.limits if (it.name, it.side) == (name, side)]
-        rate = self.flow.model.problem.limits.vertical_advance_rate
-        amounts = [f"{amount:,.6g}" for amount in dict.fromkeys(np.concatenate(found).tolist() if found else [rate])]
+        # The programme limits the advance of each pushback, not of all at once.
+        advance = self.flow.model.problem.limits.advance
+        rate = [] if advance is None else [advance.amount]
+        amounts = [f"{amount:,.6g}" for amount in dict.fromkeys(np.concatenate(found).tolist() if found else rate)]
         # A limit on a head grade is kept as an excess of metal, whose limit is zero: the amount says nothing.
         how_much = "" if name.startswith(GRADE) else f" ({', '.join(amounts)})"
-        when = in_words(years, self.flow.model.problem.limits.calendar.word)
+        when = in_words(years, self.flow.model.problem.settings.calendar.word)
         return f"the {SIDES[side]} of {name.rstrip('_')} in {when}{how_much}"
 
     def given(self, limit: FlowLimit) -> NDArray[np.float64]:
         """Returns a limit as the project gives it; of a stockpile with what lies there at the start."""
-        if not limit.name.startswith(STOCK):
-            return limit.amount
-        model = self.flow.model
-        number = [it.name for it in model.stockpiles].index(limit.name.removeprefix(STOCK))
-        return limit.amount + model.opening.on(number).sum()
+        return limit.amount + self.flow.model.lay(limit.name)
 
 
 def in_words(years: NDArray[np.bool_], word: str) -> str:

@@ -12,7 +12,6 @@ from scipy.optimize import linprog
 from scipy.sparse import csr_matrix, eye, hstack, kron, vstack
 
 from pitplan.config.material import Dump, Stockpile
-from pitplan.config.project import Project
 from pitplan.config.schedule import FEED as OF_FEED, TOTAL, ScheduleRules
 from pitplan.core.tolerances import SOLVER_SHARE
 from pitplan.economics import period_costs
@@ -24,7 +23,6 @@ from pitplan.plan import MILLION, Plan
 from pitplan.pushbacks import bench_table
 from pitplan.pushbacks.bench_table import CASH, ROCK, PushbackBenches
 from pitplan.pushbacks.nested import Pushbacks
-from pitplan.scheduling.bench_sequencing import Limits
 from pitplan.scheduling.highs_process import demand_solved
 from pitplan.scheduling.limits import AT, DUMP, DUMPED, GRADE, MAX, MIN, SUM, GradeLimit, Prices, grade_limits
 
@@ -149,8 +147,8 @@ class Waste:
         Of these the tonnes of whole parcels.
     bench : int array, shape (parcels,)
         The bench of each parcel.
-    least, most : array, shape (dumps, years)
-        Tonnes that a dump takes in each year, infinite without a limit.
+    least, most, held : array, shape (dumps, years)
+        Tonnes that a dump takes in each year, and holds at most at its end; infinite without a limit.
     discounts : array, shape (years,)
     """
 
@@ -161,6 +159,7 @@ class Waste:
     bench: NDArray[np.int64]
     least: Floats
     most: Floats
+    held: Floats
     discounts: Floats
 
     @property
@@ -188,14 +187,9 @@ class Waste:
         return np.array([it.cost for it in self.dumps])
 
     @property
-    def capacities(self) -> Floats:
-        """What each dump holds in all, infinite without a limit, shape (dumps,)."""
-        return np.array([np.inf if it.capacity is None else it.capacity for it in self.dumps])
-
-    @property
     def is_limited(self) -> bool:
         """Whether a dump may lack room, or must take something."""
-        return bool(np.isfinite(self.capacities).any() or np.isfinite(self.most).any() or self.least.any())
+        return bool(np.isfinite(self.held).any() or np.isfinite(self.most).any() or self.least.any())
 
     @property
     def saved(self) -> float:
@@ -239,7 +233,7 @@ class Waste:
         goes = hstack([of_set, eye(self.sets * self.years)], format="csr")
         of_dump = csr_matrix((dump[None] == np.arange(len(self.dumps))[:, None]).astype(float))
         until = csr_matrix(np.tril(np.ones((self.years, self.years))))
-        limits = [(kron(of_dump, each), self.most.ravel()), (kron(of_dump, until), self.capacities.repeat(self.years))]
+        limits = [(kron(of_dump, each), self.most.ravel()), (kron(of_dump, until), self.held.ravel())]
         rows, most = vstack([matrix for matrix, _ in limits], format="csr"), np.concatenate([it for _, it in limits])
         held = np.isfinite(most)
         rows = hstack([rows[held], csr_matrix((int(held.sum()), self.sets * self.years))], format="csr")
@@ -534,11 +528,3 @@ def mined_alone(
         flows[f"{SUM}{it.name}"] = column_of(plan, it.column, inside) * (tonnes if it.per_tonne else 1.0)
     sums = np.column_stack([np.bincount(bench, flow, minlength=len(assigned)) for flow in flows.values()])
     return PushbackBenches(assigned.pushback, assigned.level, tuple(flows), sums, assigned.lag)
-
-
-def with_grades(limits: Limits, project: Project) -> Limits:
-    """Returns the limits with those on head grades: the content above a maximum, or below a minimum, is at most 0."""
-    grades = grade_limits(project)
-    by_year = {it.name: it.most for it in grades if not all(it.applies)}
-    most = limits.most | {it.name: 0.0 for it in grades}
-    return replace(limits, most=most, most_by_year=limits.most_by_year | by_year)

@@ -15,8 +15,9 @@ from pitplan.config.material import Dump, Stockpile
 from pitplan.core.tolerances import SUM_ERROR
 from pitplan.pits.best_worst_case import year_discounts
 from pitplan.pushbacks.bench_table import ROCK, PushbackBenches
-from pitplan.scheduling.bench_sequencing import Limits, Problem
+from pitplan.scheduling.bench_sequencing import Problem
 from pitplan.scheduling.highs_process import demand_solved
+from pitplan.scheduling.limits import ADVANCE, DUMP, DUMPED, MAX, MIN, STOCK, Limit, Limits
 
 from .material import FEED, SET, Ore, Waste
 
@@ -126,7 +127,7 @@ def furthest(benches: PushbackBenches, limits: Limits, years: int) -> NDArray[np
     result = np.ones((len(benches), years))
     for number in range(takes.shape[1]):
         result = np.minimum(result, left_over(takes[:, number], benches.before, most[:, number]))
-    if np.isfinite(limits.vertical_advance_rate):
+    if limits.advance is not None:
         above = benches.before & (benches.pushback[:, None] == benches.pushback)
         sunk = limits.sinking(years).cumsum()
         result = np.minimum(result, left_over(np.ones(len(benches)), above, sunk))
@@ -233,9 +234,43 @@ class FlowModel:
         ore = np.array([self.ore.of(name).max(axis=0, initial=0.0) for name in names]).reshape(
             len(names), len(self.ore)
         )
-        limits = [self.problem.limits.dumped(it.name, self.years) for it in self.dumps]
-        least, most = np.array(limits).reshape(len(limits), 2, self.years).swapaxes(0, 1)
-        return Waste(self.dumps, accepted, rock, ore, self.ore.bench, least, most, self.discounts)
+        return Waste(
+            self.dumps,
+            accepted,
+            rock,
+            ore,
+            self.ore.bench,
+            least=self.of_places(DUMP, MIN),
+            most=self.of_places(DUMP, MAX),
+            held=self.of_places(DUMPED, MAX),
+            discounts=self.discounts,
+        )
+
+    @cached_property
+    def limits(self) -> tuple[Limit, ...]:
+        """All limits, in the order of tables: maxima and minimums of amounts, the vertical advance of each pushback, and those of stockpiles and dumps
+        that can bind in these years."""
+        of = self.problem.limits
+        pushbacks = [] if of.advance is None else np.unique(self.benches.pushback).tolist()
+        advance = [replace(of.advance, name=f"{ADVANCE}{number}") for number in pushbacks if of.advance]
+        of_places = (it for it in of.places.values() if it.name in self.places and it.in_years(self.years).any())
+        return (*of.most.values(), *of.least.values(), *advance, *of_places)
+
+    @cached_property
+    def places(self) -> dict[str, int]:
+        """The numbers of stockpiles and dumps by the names of their limits."""
+        found = {f"{STOCK}{it.name}": number for number, it in enumerate(self.stockpiles)}
+        return found | {f"{kind}{it.name}": number for kind in (DUMP, DUMPED) for number, it in enumerate(self.dumps)}
+
+    def lay(self, name: str) -> float:
+        """Returns the tonnes of feed that lie at the start on the stockpile of a limit; 0 of other limits."""
+        return float(self.opening.on(self.places[name]).sum()) if name.startswith(STOCK) else 0.0
+
+    def of_places(self, kind: str, side: str) -> NDArray[np.float64]:
+        """Returns the limits of all stockpiles, or of what dumps take or hold, shape (places, years): infinite or 0 without one."""
+        names = [it.name for it in self.stockpiles] if kind == STOCK else [it.name for it in self.dumps]
+        found = [self.problem.limits.of_place(f"{kind}{name}", side, self.years) for name in names]
+        return np.array(found).reshape(len(found), self.years)
 
     @property
     def benches(self) -> PushbackBenches:
@@ -330,35 +365,20 @@ class FlowModel:
     @property
     def asks_least(self) -> bool:
         """Whether a year must hold something at least, a stockpile must be emptied, or a dump must take something."""
-        lying = [self.opening.on(number).sum() for number in range(len(self.stockpiles))]
-        due = [least.any() or (most < lay).any() for (least, most), lay in zip(self.rooms, lying)]
-        return bool(self.problem.limits.least) or any(due) or bool(self.waste.least.any())
-
-    @cached_property
-    def rooms(self) -> tuple[tuple[NDArray[np.float64], NDArray[np.float64]], ...]:
-        """The least and the most tonnes of feed on each stockpile at the end of each year, infinite without a limit, each of shape (years,)."""
-        found = []
-        for it in self.stockpiles:
-            most = np.inf if it.capacity is None else it.capacity
-            by_year = np.array(self.problem.limits.stock_by_year.get(it.name, ((0.0, most),)))
-            least, greatest = by_year[np.minimum(np.arange(self.years), len(by_year) - 1)].T
-            found.append((least, greatest))
-        return tuple(found)
+        lying = np.array([self.opening.on(number).sum() for number in range(len(self.stockpiles))])
+        is_emptied = (self.of_places(STOCK, MAX) < lying[:, None]).any()
+        due = [self.of_places(kind, MIN).any() for kind in (STOCK, DUMP)]
+        return bool(self.problem.limits.least) or bool(is_emptied) or any(due)
 
     @cached_property
     def blended(self) -> list[str]:
         """The limits whose amounts some ore lowers: it uses less than nothing, so that blends keep them."""
         ores = (self.ore, self.opening.ore)
-        return [name for name in self.limits if any((ore.of(name) < 0).any() for ore in ores)]
+        return [name for name in self.problem.limits.names if any((ore.of(name) < 0).any() for ore in ores)]
 
     def is_of_ore(self, name: str) -> bool:
         """Returns whether processing changes an amount."""
         return bool(self.ore.of(name).any() or self.opening.ore.of(name).any())
-
-    @property
-    def limits(self) -> list[str]:
-        limits = self.problem.limits
-        return list(dict.fromkeys([*limits.most, *limits.least]))
 
     def mined(self, name: str) -> NDArray[np.float64]:
         """Returns what each whole bench adds to an amount by mining alone."""
@@ -368,7 +388,7 @@ class FlowModel:
     def of_mining(self) -> Limits:
         """The limits of mining alone: those to which benches add and processing does not, and the vertical advance rate."""
         limits, mined = self.problem.limits, self.benches.names
-        most = {name: amount for name, amount in limits.most.items() if name in mined and not self.is_of_ore(name)}
+        most = {name: it for name, it in limits.most.items() if name in mined and not self.is_of_ore(name)}
         return replace(limits, most=most, least={})
 
     @cached_property

@@ -87,7 +87,7 @@ class Pacing:
     def by_bench(self) -> dict[str, NDArray[np.float64]]:
         """Sums of ore by bench, process and kind: gain at the base price, feed, and limited amounts, each of shape (benches, processes, kinds)."""
         model, ore = self.model, self.model.ore
-        names = [name for name in (*model.limits, *self.premiums) if ore.of(name).any()]
+        names = [name for name in (*model.problem.limits.names, *self.premiums) if ore.of(name).any()]
         values = {GAIN: ore.gain} | {name: ore.of(name) for name in names}
         found = {}
         for name, amounts in values.items():
@@ -148,7 +148,7 @@ class Pacing:
         """Returns where each year ends at which a limit is exactly used up, near a course that is known to a step."""
         model, sums = self.model, np.append(0.0, self.model.rock[order].cumsum())
         limits, takes = model.problem.limits, [self.takes[name][order] for name in model.problem.limits.most]
-        sinking = [number for number in np.unique(model.benches.pushback) if np.isfinite(limits.vertical_advance_rate)]
+        sinking = [] if limits.advance is None else np.unique(model.benches.pushback).tolist()
         takes += [(model.benches.pushback[order] == number).astype(float) for number in sinking]
         used = [np.append(0.0, row.cumsum()) for row in takes]
         place, found = 0.0, []
@@ -216,10 +216,9 @@ class Moves:
         limits = self.model.of_mining
         first, last = np.triu_indices(len(self.points))
         fits = np.ones(len(first), dtype=bool)
-        for name in limits.most:
-            most = limits.greatest(name)
-            fits &= self.between(self.model.mined(name), first, last) <= most * (1 + SUM_ERROR)
-        if np.isfinite(limits.vertical_advance_rate):
+        for name, limit in limits.most.items():
+            fits &= self.between(self.model.mined(name), first, last) <= limit.greatest * (1 + SUM_ERROR)
+        if limits.advance is not None:
             for pushback in np.unique(self.model.benches.pushback):
                 sunk = self.between((self.model.benches.pushback == pushback).astype(float), first, last)
                 fits &= sunk <= limits.sinking(self.model.years).max() * (1 + SUM_ERROR)

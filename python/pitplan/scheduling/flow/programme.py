@@ -20,7 +20,7 @@ from scipy.sparse import coo_matrix, csr_matrix, diags, eye, hstack, spmatrix, v
 from pitplan.config.schedule import Effort
 from pitplan.scheduling.highs import Programme
 from pitplan.scheduling.highs_process import solve
-from pitplan.scheduling.limits import ADVANCE, DUMP, DUMPED, MAX, MIN, RUNNING, STOCK, Prices
+from pitplan.scheduling.limits import ADVANCE, DUMP, DUMPED, MAX, MIN, OF_PLACES, RUNNING, STOCK, Prices
 
 from .model import FlowModel, by_end, furthest, order_rows
 
@@ -92,8 +92,6 @@ class FlowLimit:
 
 # Programmes with more unknowns than these take minutes.
 MANY = 60_000
-# The limits that do not show whether the mine runs in a year.
-OF_PLACES = (STOCK, DUMP, DUMPED)
 
 
 @dataclass(frozen=True)
@@ -196,6 +194,11 @@ class FlowProgramme:
         return csr_matrix(eye(self.years))
 
     @cached_property
+    def until(self) -> csr_matrix:
+        """From what is done in each year to what is done by its end."""
+        return csr_matrix(np.tril(np.ones((self.years, self.years))))
+
+    @cached_property
     def step(self) -> csr_matrix:
         """From what is done by the end of each year to what is done in it."""
         return csr_matrix(diags([1.0, -1.0], [0, -1], shape=(self.years, self.years)))
@@ -252,22 +255,45 @@ class FlowProgramme:
     @cached_property
     def limits(self) -> list[FlowLimit]:
         """All yearly limits, including stockpiles and dumps. Mining limits are left out if the mining is given."""
-        model, limits = self.model, self.model.problem.limits
-        most, least = limits.of_years(self.years).T, limits.least_of_years(self.years)
-        found = [FlowLimit(name, MAX, self.used(name), amount) for name, amount in zip(limits.most, most)]
-        found += [FlowLimit(name, MIN, self.used(name), amount) for name, amount in least.items()]
-        if self.mined is not None:
-            found = [
-                FlowLimit(it.name, it.side, it.used, it.amount - model.mined(it.name) @ self.mined)
-                for it in found
-                if model.is_of_ore(it.name)
+        model, years = self.model, self.years
+        if self.mined is None:
+            return [
+                FlowLimit(it.name, it.side, self.used(it.name), it.of_years(years) - model.lay(it.name))
+                for it in model.limits
             ]
-        elif np.isfinite(limits.vertical_advance_rate):
-            found += [self.advance(pushback) for pushback in np.unique(model.benches.pushback)]
-        return [*found, *self.capacities_of_stockpiles(), *self.limits_of_dumps()]
+        return [
+            FlowLimit(
+                it.name,
+                it.side,
+                self.used(it.name),
+                it.of_years(years) - model.lay(it.name) - model.mined(it.name) @ self.mined,
+            )
+            for it in model.limits
+            if model.is_of_ore(it.name) or it.name.startswith(OF_PLACES)
+        ]
 
     def used(self, name: str) -> csr_matrix:
-        """Returns what each unknown adds to an amount in each year, shape (years, unknowns)."""
+        """Returns what each unknown adds to what a limit holds in each year, shape (years, unknowns)."""
+        if name.startswith(ADVANCE):
+            sunk = csr_matrix((self.model.benches.pushback == int(name.removeprefix(ADVANCE)))[None].astype(float))
+            return self.row(kron(sunk, self.step))
+        if name.startswith(STOCK):
+            return self.lying(self.model.places[name])
+        if name.startswith((DUMP, DUMPED)):
+            tonnes = np.where(self.model.waste.pairs[1] == self.model.places[name], self.of_pairs, 0.0)
+            years = self.each_year if name.startswith(DUMP) else self.until
+            return self.row(None, None, None, None, None, None, kron(csr_matrix(tonnes[None]), years))
+        return self.amount(name)
+
+    def lying(self, stockpile: int) -> csr_matrix:
+        """Returns the tonnes of feed on a stockpile at the end of each year: ore stacked in the schedule, less what went of the opening stock."""
+        model, (place, parcel) = self.model, self.model.stocked.index
+        feed, lay = np.where(place == stockpile, model.ore.feed[parcel], 0.0), model.opening.on(stockpile)
+        gone = kron(csr_matrix(-lay[model.opened.parcel][None]), self.until)
+        return self.row(None, None, None, kron(csr_matrix(feed[None]), self.each_year), None, gone)
+
+    def amount(self, name: str) -> csr_matrix:
+        """Returns what each unknown adds to an amount in each year."""
         model = self.model
         mined = None if self.mined is not None else kron(csr_matrix(model.mined(name)[None]), self.step)
         amounts = model.ore.of(name)
@@ -275,42 +301,6 @@ class FlowProgramme:
         again = kron(csr_matrix(model.reclaimed.of(model.reclaimed_of(name))[None]), self.each_year)
         opened = kron(csr_matrix(model.opened.of(model.opening.ore.of(name))[None]), self.each_year)
         return self.row(mined, direct, None, None, again, opened)
-
-    def advance(self, pushback: int) -> FlowLimit:
-        """The limit of the vertical advance of a pushback, in benches."""
-        mined = kron(csr_matrix((self.model.benches.pushback == pushback)[None].astype(float)), self.step)
-        most = self.model.problem.limits.sinking(self.years)
-        return FlowLimit(f"{ADVANCE}{pushback}", MAX, self.row(mined, None, None, None, None), most)
-
-    def capacities_of_stockpiles(self) -> Iterator[FlowLimit]:
-        """The limits of the tonnes of feed on each stockpile at the end of each year, counting ore stacked in the schedule and what remains of the
-        opening stock."""
-        model, until = self.model, csr_matrix(np.tril(np.ones((self.years, self.years))))
-        stockpile, parcel = model.stocked.index
-        for number, (it, (least, most)) in enumerate(zip(model.stockpiles, model.rooms)):
-            feed = np.where(stockpile == number, model.ore.feed[parcel], 0.0)
-            lies, lay = kron(csr_matrix(feed[None]), self.each_year), model.opening.on(number)
-            gone = kron(csr_matrix(-lay[model.opened.parcel][None]), until)
-            used = self.row(None, None, None, lies, None, gone)
-            if np.isfinite(most).any():
-                yield FlowLimit(f"{STOCK}{it.name}", MAX, used, most - lay.sum())
-            if least.any():
-                yield FlowLimit(f"{STOCK}{it.name}", MIN, used, least - lay.sum())
-
-    def limits_of_dumps(self) -> Iterator[FlowLimit]:
-        """The limits of what each dump takes in a year, and of what it holds at the end of one, in tonnes."""
-        waste, until = self.model.waste, csr_matrix(np.tril(np.ones((self.years, self.years))))
-        for number, it in enumerate(waste.dumps):
-            tonnes = csr_matrix(np.where(waste.pairs[1] == number, self.of_pairs, 0.0)[None])
-            taken, held = (
-                self.row(None, None, None, None, None, None, kron(tonnes, years)) for years in (self.each_year, until)
-            )
-            if np.isfinite(waste.most[number]).any():
-                yield FlowLimit(f"{DUMP}{it.name}", MAX, taken, waste.most[number])
-            if waste.least[number].any():
-                yield FlowLimit(f"{DUMP}{it.name}", MIN, taken, waste.least[number])
-            if it.capacity is not None:
-                yield FlowLimit(f"{DUMPED}{it.name}", MAX, held, np.full(self.years, it.capacity))
 
     @cached_property
     def costs(self) -> NDArray[np.float64]:
@@ -331,7 +321,7 @@ class FlowProgramme:
     def keeps_stock(self) -> bool:
         """Whether ore may lie on a stockpile at the end: if a dump is saved or a minimum is met by that. Otherwise such ore goes to waste, which
         earns no less."""
-        return bool(self.model.waste.sets) or any(least.any() for least, _ in self.model.rooms)
+        return bool(self.model.waste.sets) or bool(self.model.of_places(STOCK, MIN).any())
 
     @property
     def upper(self) -> NDArray[np.float64]:
@@ -382,7 +372,7 @@ class FlowProgramme:
 
     @property
     def bounding(self) -> list[FlowLimit]:
-        """The maxima that show whether the mine runs in a year."""
+        """The maxima that show whether the mine runs in a year: not those of stockpiles and dumps."""
         return [
             it
             for it in self.limits

@@ -237,7 +237,7 @@ class Pace:
     def paced_by(self, names: tuple[str, ...]) -> Problem:
         """Returns the problem in which a year ends when a limit of mining, or one of these of feed and metal, is used up."""
         limits = self.problem.limits
-        most = {name: amount for name, amount in limits.most.items() if name in names or not is_of_ore(name)}
+        most = {name: it for name, it in limits.most.items() if name in names or not is_of_ore(name)}
         return replace(self.problem, limits=replace(limits, most=most))
 
     @property
@@ -249,7 +249,7 @@ class Pace:
         others = tuple(name for name in most if is_of_ore(name) and not name.startswith(ORE))
         counts = range(1, len(of_ore) + 1) if len(of_ore) <= MOST_PACING else (1, len(of_ore))
         found = [(*some, *others) for count in counts for some in combinations(of_ore, count)]
-        is_limited = any(not is_of_ore(name) for name in most) or np.isfinite(self.problem.limits.vertical_advance_rate)
+        is_limited = any(not is_of_ore(name) for name in most) or self.problem.limits.advance is not None
         return [*found[::-1], *([()] if is_limited else [])]
 
     def schedules(self, years: Optional[int] = None) -> Iterator[tuple[int, Problem, NDArray[np.float64]]]:
@@ -265,7 +265,7 @@ def pace_of(problem: Problem, assigned: PushbackBenches) -> Pace:
     names, limits = problem.benches.names, problem.limits
     columns = [assigned.of(name) if name in assigned.names else problem.benches.of(name) for name in names]
     benches = replace(assigned, names=names, amounts=np.column_stack(columns))
-    most = {name: amount for name, amount in limits.most.items() if name in names}
+    most = {name: it for name, it in limits.most.items() if name in names}
     return Pace(replace(problem, benches=benches, limits=replace(limits, most=most, least={})))
 
 
@@ -324,7 +324,7 @@ def lacks_nothing(flows: Flows, lacking: NDArray[np.float64]) -> bool:
 def keeps_dumps(flows: Flows) -> bool:
     """Returns whether no dump takes or holds more than it may, within a tolerance."""
     waste = flows.model.waste
-    held = flows.placed.cumsum(axis=1) <= waste.capacities[:, None] * (1 + SOLVER_SUM)
+    held = flows.placed.cumsum(axis=1) <= waste.held[:, : flows.years] * (1 + SOLVER_SUM)
     return bool(held.all() and (flows.placed <= waste.most[:, : flows.years] * (1 + SOLVER_SUM)).all())
 
 
@@ -436,9 +436,9 @@ def with_overflow(model: FlowModel) -> FlowModel:
 def feasible(model: FlowModel, mined: NDArray[np.float64], fed_until: Optional[int] = None) -> Optional[Flows]:
     """Returns the best flows of what is mined, as `best` does; None if they cannot meet the minimums or find room in the dumps, or what is mined
     does not meet the minimums."""
-    least = model.problem.limits.least_of_years(model.years)
-    of_mining = {name: amounts for name, amounts in least.items() if not model.is_of_ore(name)}
-    if any((model.mined(name) @ mined < amounts * (1 - MISSED_LIMIT)).any() for name, amounts in of_mining.items()):
+    of_mining = [it for it in model.problem.limits.least.values() if not model.is_of_ore(it.name)]
+    least = {it.name: it.of_years(model.years) * (1 - MISSED_LIMIT) for it in of_mining}
+    if any((model.mined(name) @ mined < amounts).any() for name, amounts in least.items()):
         return None
     try:
         return best(model, mined, fed_until)

@@ -20,7 +20,19 @@ from pitplan.economics.period_costs import MINING_COST, PROCESSING_COST, SELLING
 from pitplan.pits.shells import ratio
 from pitplan.plan import Plan, shown_name
 from pitplan.pushbacks.bench_table import benches_of_cells
-from pitplan.scheduling.limits import ADVANCE, DUMP, DUMPED, STOCK, SUM, GradeLimit, grade_limits, whole_price
+from pitplan.scheduling.limits import (
+    ADVANCE,
+    DUMP,
+    DUMPED,
+    MAX,
+    MIN,
+    STOCK,
+    SUM,
+    GradeLimit,
+    grade_limits,
+    shown,
+    whole_price,
+)
 
 from .flows import Flows
 from .material import FEED, SET, column_of
@@ -406,25 +418,16 @@ def uses_of_limits(schedule: PushbackSchedule) -> dict[str, list[LimitUse]]:
 
 def names_of(schedule: PushbackSchedule) -> list[str]:
     """The limits: amounts, head grades, the vertical advance of each pushback, what lies on stockpiles, and what dumps take and hold."""
-    limits, grades = schedule.problem.limits, grades_of(schedule.plan.project)
-    shown = {it.name: name for name, found in grades.items() for it in found}
-    found = list(dict.fromkeys(shown.get(name, name) for name in (*limits.most, *limits.least)))
-    if np.isfinite(limits.vertical_advance_rate):
-        found += [f"{ADVANCE}{number}" for number in np.unique(schedule.benches.pushback)]
-    model = schedule.model
-    limited = [np.isfinite(most).any() or least.any() for least, most in model.rooms]
-    found += [f"{STOCK}{it.name}" for it, is_limited in zip(model.stockpiles, limited) if is_limited]
-    for it, least, most in zip(model.dumps, model.waste.least, model.waste.most):
-        found += [f"{DUMP}{it.name}"] if least.any() or np.isfinite(most).any() else []
-        found += [f"{DUMPED}{it.name}"] if it.capacity is not None else []
-    return found
+    names = {it.name: name for name, found in grades_of(schedule.plan.project).items() for it in found}
+    return list(dict.fromkeys(names.get(it.name, it.name) for it in schedule.model.limits))
 
 
 def limit_use(schedule: PushbackSchedule, flows: Flows, name: str) -> LimitUse:
     grades, years = grades_of(schedule.plan.project).get(name), flows.years
     if grades is None:
-        used, least, most = amounts_of(schedule, flows, name)
-        return LimitUse(name, used, least, most, shadow_prices(schedule, name)[:years])
+        limits = {it.side: it for it in schedule.model.limits if it.name == name}
+        least, most = (shown(limits.get(side), years) for side in (MIN, MAX))
+        return LimitUse(name, used_of(schedule, flows, name), least, most, shadow_prices(schedule, name)[:years])
     first = grades[0]
     feed = flows.used_in(FEED, first.process)
     excess = first.sign * flows.used(first.name)
@@ -455,42 +458,18 @@ def use_of_grade(
     return LimitUse(shown, grade, *sides, price, is_grade=True)
 
 
-def amounts_of(schedule: PushbackSchedule, flows: Flows, name: str) -> tuple[Floats, Floats, Floats]:
-    """Returns what is used of an amount in each year, its minimum and its maximum; nan where none exists."""
-    limits, years, nothing = schedule.problem.limits, flows.years, np.full(flows.years, np.nan)
+def used_of(schedule: PushbackSchedule, flows: Flows, name: str) -> Floats:
+    """Returns what is used of a limit in each year: an amount, benches, or the tonnes that lie on a stockpile, go to a dump, or lie there."""
+    model = schedule.model
     if name.startswith(ADVANCE):
-        mine = schedule.benches.pushback == int(name.removeprefix(ADVANCE))
-        return flows.mined[mine].sum(axis=0), nothing, limits.sinking(years)
+        return flows.mined[schedule.benches.pushback == int(name.removeprefix(ADVANCE))].sum(axis=0)
     if name.startswith(STOCK):
-        return of_stockpile(schedule, flows, name)
+        # The rule places nothing on stockpiles, and leaves what lay there at the start.
+        return flows.lying(model.places[name]) if flows.model.stockpiles else np.full(flows.years, model.lay(name))
     if name.startswith((DUMP, DUMPED)):
-        return of_dump(schedule, flows, name)
-    most = limits.of_years(max(years, 1))[:years, list(limits.most).index(name)] if name in limits.most else nothing
-    least = limits.least_of_years(years)[name] if name in limits.least else nothing
-    return flows.used(name), least, most
-
-
-def of_dump(schedule: PushbackSchedule, flows: Flows, name: str) -> tuple[Floats, Floats, Floats]:
-    """Returns the tonnes that a dump takes in each year, or holds at its end, their minimum and their maximum."""
-    years, dumps, nothing = flows.years, schedule.model.dumps, np.full(flows.years, np.nan)
-    if name.startswith(DUMPED):
-        number = [f"{DUMPED}{it.name}" for it in dumps].index(name)
-        return flows.placed[number].cumsum(), nothing, np.full(years, dumps[number].capacity, dtype=float)
-    number = [f"{DUMP}{it.name}" for it in dumps].index(name)
-    least, most = schedule.model.waste.least[number], schedule.model.waste.most[number, :years]
-    return flows.placed[number], least[:years] if least.any() else nothing, np.where(np.isfinite(most), most, nothing)
-
-
-def of_stockpile(schedule: PushbackSchedule, flows: Flows, name: str) -> tuple[Floats, Floats, Floats]:
-    """Returns the tonnes of feed on a stockpile at the end of each year, their minimum and their maximum. The rule places nothing there, and
-    leaves what lay there at the start."""
-    number = [f"{STOCK}{it.name}" for it in schedule.model.stockpiles].index(name)
-    least, most = schedule.model.rooms[number]
-    lay = float(schedule.model.opening.on(number).sum())
-    lies = flows.lying(number) if flows.model.stockpiles else np.full(flows.years, lay)
-    nothing = np.full(flows.years, np.nan)
-    has_least, most = least.any(), most[: flows.years]
-    return lies, least[: flows.years] if has_least else nothing, np.where(np.isfinite(most), most, nothing)
+        placed = flows.placed[model.places[name]]
+        return placed if name.startswith(DUMP) else placed.cumsum()
+    return flows.used(name)
 
 
 def grades_of(project: Project) -> dict[str, list[GradeLimit]]:

@@ -35,7 +35,7 @@ from pitplan.scheduling.blocks.from_plan import (
     of_pushbacks,
     years_of,
 )
-from pitplan.scheduling.limits import all_limits_of, grade_limits, periods_of
+from pitplan.scheduling.limits import grade_limits, limits_of, periods_of
 from pitplan.solver.choice import PROGRAM
 from pitplan.studies.scenarios import prepare, store
 from pitplan.studies.scenarios.prepare import Laid
@@ -107,9 +107,8 @@ def amounts_of(arrays: dict[str, NDArray[Any]]) -> BlockAmounts:
 
 def limits_in_record(project: Project) -> dict[str, Any]:
     """Returns the limits of a year, which are the same for every scenario and the mean, as records have them."""
-    limits = all_limits_of(project, project.schedule or ScheduleRules())
-    grades = {it.name: it.grade for it in grade_limits(project)}
-    return {"limits": limits.most, **({"feed": grades} if grades else {}), "ramp_up": list(limits.ramp_up)}
+    rules, grades = project.schedule or ScheduleRules(), {it.name: it.grade for it in grade_limits(project)}
+    return limits_of(project, rules).record | ({"feed": grades} if grades else {}) | {"ramp_up": list(rules.ramp_up)}
 
 
 def demand_of_scenarios(project: Project) -> None:
