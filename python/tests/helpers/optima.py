@@ -1,13 +1,14 @@
 """The optimum of the schedule of a random mine, by an integer programme over its table."""
 
-from dataclasses import dataclass
+from dataclasses import dataclass, replace
 from typing import Optional
 
 import numpy as np
 import pandas as pd
 from scipy.optimize import Bounds, LinearConstraint, milp
 
-from .random_mines import DISCOUNT, MINING, PROCESSES, YEARS, Accepts, Between, Dump, Head, Mine, Pile
+from .random_mines import DISCOUNT, PROCESSES, YEARS, Accepts, Between, Dump, Head, Mine, Pile
+from .random_money import GOLD_PRICE, MINING, Terms, at
 
 
 class Programme:
@@ -109,19 +110,40 @@ def benches(mine: Mine, pushback: np.ndarray) -> Units:
 
 @dataclass(frozen=True)
 class Material:
-    """Blocks, or a lot: tonnes, rock types, and what a limit may count, by the columns of the table."""
+    """Blocks, or a lot: tonnes, the feed that they make, rock types, metals, what a limit on feed may count, by the columns of the table, the factor of
+    the cost of processing, and what hauling a tonne of feed adds to it."""
 
     tonnes: np.ndarray
+    feed: np.ndarray
     rock: np.ndarray
     copper: np.ndarray
+    gold: np.ndarray
     holds: dict[str, np.ndarray]
+    processing: np.ndarray
+    hauled: np.ndarray
 
 
-def material_of(table: pd.DataFrame) -> Material:
+def blocks_of(table: pd.DataFrame, terms: Terms) -> Material:
+    """Blocks lose ore and are diluted at zero grade; those of waste classes have no metal that may be recovered."""
+    is_b = (table["rock"] == "B").to_numpy().astype(int)
+    ore = table["tonnes"].to_numpy(float) * np.array(terms.recovered)[is_b]
+    found = material_of(table.assign(tonnes=ore), ore * (1 + np.array(terms.dilution)[is_b]))
+    is_ore = np.ones(len(table)) if not terms.inferred else (table["class"] == "measured").to_numpy().astype(float)
+    found = replace(
+        found, tonnes=table["tonnes"].to_numpy(float), copper=found.copper * is_ore, gold=found.gold * is_ore
+    )
+    found = replace(found, processing=table["pcaf"].to_numpy(float)) if terms.adjusted else found
+    return replace(found, hauled=terms.haulage.a_tonne(table)[1]) if terms.haulage else found
+
+
+def material_of(table: pd.DataFrame, feed: np.ndarray) -> Material:
+    """Ore, and the feed that it makes."""
     tonnes = table["tonnes"].to_numpy(float)
     holds = {name: tonnes * table[name].to_numpy(float) for name in ("cu", "as_ppm", "clay")}
-    holds["rock_type"] = np.where(table["rock"] == "B", tonnes, 0.0)
-    return Material(tonnes, table["rock"].to_numpy(), table["cu"].to_numpy(float) / 100, holds)
+    holds["rock_type"] = np.where(table["rock"] == "B", feed, 0.0)
+    gold = tonnes * table["au"].to_numpy(float) if "au" in table else 0.0 * tonnes
+    rock, nothing = table["rock"].to_numpy(), np.zeros(len(table))
+    return Material(tonnes, feed, rock, holds["cu"] / 100, gold, holds, nothing + 1.0, nothing)
 
 
 def accepted(material: Material, accepts: Accepts) -> np.ndarray:
@@ -142,7 +164,7 @@ class Statement:
 
     def __init__(self, mine: Mine, units: Units) -> None:
         self.mine, self.units, self.programme = mine, units, Programme()
-        self.blocks = material_of(mine.table)
+        self.blocks, self.terms = blocks_of(mine.table, mine.terms), mine.terms
         self.discounts = (1 + DISCOUNT) ** -mine.lengths.cumsum()
         self.dumps = mine.dumps or {"waste": Dump(0.0)}
         self.mined = self.programme.unknowns(len(units.before), YEARS, whole=units.whole)
@@ -166,17 +188,47 @@ class Statement:
 
     def feeding(self, process: str, places: np.ndarray, material: Material, pile: Optional[Pile] = None) -> None:
         """What goes to a process, as it is mined or from a stockpile."""
-        share, less = (1.0, 0.0) if pile is None else (pile.recovery, pile.reclaim)
-        metal = material.tonnes * material.copper * PROCESSES[process].recovery * share
-        cost = material.tonnes * (PROCESSES[process].cost + less)
-        self.programme.earn(places, (metal[:, None] * np.array(self.mine.prices) - cost[:, None]) * self.discounts)
-        accepts = self.mine.accepts if process == "leach" else None
-        self.programme.limit(places, ((metal > 0) & accepted(material, accepts))[:, None])
+        (share, less), terms, years = (
+            (1.0, 0.0) if pile is None else (pile.recovery, pile.reclaim),
+            self.terms,
+            range(YEARS),
+        )
+        metal = material.copper * PROCESSES[process].recovery * share
+        gold = material.gold * (terms.gold or 0.0) * (process == "mill")
+        penalty = self.penalty(process, material)
+        prices = np.array([terms.net_price(process, self.mine.prices[year], year) for year in years])
+        gold_prices = np.array([at(terms.gold_prices, year) * (1 - terms.royalty) for year in years])
+        costs = np.outer(material.processing, [PROCESSES[process].cost * at(terms.processing, year) for year in years])
+        costs += material.hauled[:, None] + terms.per_tonne + less
+        earned = np.outer(metal, prices) + np.outer(gold, gold_prices) - material.feed[:, None] * costs
+        earned -= np.outer(penalty, [at(terms.selling_factors, year) for year in years])
+        self.programme.earn(places, earned * self.discounts)
+        self.programme.limit(places, self.may_go(process, material)[:, None])
         self.fed[process].append(Fed(places, material, metal))
+
+    def penalty(self, process: str, material: Material) -> np.ndarray:
+        """What the ore pays to the smelter beyond the charges for its concentrate; the same if it comes from a stockpile."""
+        smelter = self.terms.smelter
+        if smelter is None or process != "mill":
+            return np.zeros(len(material.feed))
+        return smelter.penalty(material.copper * PROCESSES[process].recovery, material.holds["as_ppm"])
+
+    def may_go(self, process: str, material: Material) -> np.ndarray:
+        """Whether a process accepts ore, and it has revenue there at the base prices."""
+        copper, terms = material.copper * PROCESSES[process].recovery, self.terms
+        gold = material.gold * (terms.gold or 0.0) * (process == "mill")
+        revenue = copper * terms.base_price(process) + gold * GOLD_PRICE * (1 - terms.royalty)
+        accepts = self.mine.accepts if process == "leach" else None
+        return (revenue - self.penalty(process, material) > 1e-9) & accepted(material, accepts)
 
     def mining(self) -> None:
         """Each block goes somewhere in the year in which its unit is mined."""
-        cost = -MINING * np.outer(self.blocks.tonnes, self.mine.mining_factors) * self.discounts
+        table, terms = self.mine.table, self.terms
+        heights = table["z"].to_numpy(float)
+        a_tonne = MINING * (table["mcaf"].to_numpy(float) if terms.adjusted else 1.0)
+        a_tonne = a_tonne + terms.per_bench * (heights.max() - heights) / 10
+        a_tonne = a_tonne + (terms.haulage.a_tonne(table)[0] if terms.haulage else 0.0)
+        cost = -np.outer(self.blocks.tonnes * a_tonne, self.mine.mining_factors) * self.discounts
         for block, unit in enumerate(self.units.of_block):
             for places in self.goes.values():
                 self.programme.limit(places[block], float(unit >= 0))
@@ -191,6 +243,10 @@ class Statement:
         begun = None if units.whole else programme.unknowns(len(units.before), YEARS, whole=True)
         for unit, before in enumerate(units.before):
             programme.add(1.0, (self.mined[unit], 1.0))
+            if units.whole and self.mine.must and self.mine.table["must"][unit]:
+                programme.add(-1.0, (self.mined[unit], -1.0))
+            if units.whole and self.mine.out and self.mine.table["out"][unit]:
+                programme.limit(self.mined[unit], 0.0)
             for year in range(YEARS):
                 until = self.mined[unit, : year + 1] if begun is None else begun[unit, year]
                 if begun is not None:
@@ -209,14 +265,15 @@ class Statement:
 
     def stockpile(self, name: str, pile: Pile) -> None:
         """What is placed lies there for a year at least. What lay there at the start may be reclaimed from the first year on."""
-        placed, tonnes = self.goes[name], self.blocks.tonnes
+        placed, tonnes = self.goes[name], self.blocks.feed
         self.programme.earn(placed, -pile.stacking * tonnes[:, None] * self.discounts)
-        self.programme.limit(placed, ((self.blocks.copper > 0) & accepted(self.blocks, pile.accepts))[:, None])
+        is_fed = np.any([self.may_go(process, self.blocks) for process in PROCESSES], axis=0)
+        self.programme.limit(placed, (is_fed & accepted(self.blocks, pile.accepts))[:, None])
         taken = self.reclaiming(pile, self.blocks, placed)
         lying = [(placed, tonnes)] + [(places, -tonnes) for places in taken]
         lay = 0.0 if pile.opening is None else pile.opening.tonnes
         if pile.opening is not None:
-            material = material_of(pile.opening.table)
+            material = material_of(pile.opening.table, pile.opening.table["tonnes"].to_numpy(float))
             lying += [(places, -material.tonnes) for places in self.reclaiming(pile, material)]
         for year, holds in enumerate(pile.holds):
             terms = [(places[:, : year + 1], amounts[:, None]) for places, amounts in lying]
@@ -238,7 +295,7 @@ class Statement:
         """The limits of a year."""
         mine, keep, length = self.mine, self.programme.keep, self.mine.lengths[year]
         inside = self.units.of_block >= 0
-        weights = {"total": self.blocks.tonnes, "clay": self.blocks.holds["clay"]}
+        weights = {"total": self.blocks.tonnes, "clay": self.blocks.tonnes * mine.table["clay"].to_numpy(float)}
         of_units = {
             name: np.bincount(self.units.of_block[inside], amounts[inside], minlength=len(self.units.before))
             for name, amounts in weights.items()
@@ -248,9 +305,9 @@ class Statement:
         for name, parts in self.fed.items():
             keep(
                 Between(None, mine.capacities[name] * mine.share(year)),
-                *((it.places[:, year], it.material.tonnes) for it in parts),
+                *((it.places[:, year], it.material.feed) for it in parts),
             )
-        keep(Between(mine.minimum * mine.share(year)), *((it.places[:, year], it.material.tonnes) for it in every))
+        keep(Between(mine.minimum * mine.share(year)), *((it.places[:, year], it.material.feed) for it in every))
         keep(Between(None, mine.copper).times(length), *((it.places[:, year], it.metal) for it in every))
         for it in mine.sums:
             fed = every if it.of == "feed" else self.fed.get(it.of, [])
@@ -267,12 +324,14 @@ class Statement:
         between, parts = head.by_year[year], self.fed[head.process]
         for sign, grade in ((1, between.most), (-1, between.least)):
             if grade is not None:
-                excess = [sign * (it.material.holds[head.column] - grade * it.material.tonnes) for it in parts]
+                excess = [sign * (it.material.holds[head.column] - grade * it.material.feed) for it in parts]
                 self.programme.add(0.0, *((it.places[:, year], more) for it, more in zip(parts, excess)))
 
     def running(self) -> None:
         """The mine runs up to the last year in which something is mined or fed."""
-        self.programme.earn(self.runs, -self.mine.fixed * self.mine.lengths * self.discounts)
+        starts = (1 + DISCOUNT) ** -(self.mine.lengths.cumsum() - self.mine.lengths)
+        capex = np.array([at(self.terms.capex, year) for year in range(YEARS)])
+        self.programme.earn(self.runs, -self.mine.fixed * self.mine.lengths * self.discounts - capex * starts)
         for places in (self.mined, *(it.places for parts in self.fed.values() for it in parts)):
             for year in range(YEARS):
                 for place in np.ravel(places[:, year:]):

@@ -7,8 +7,9 @@ import numpy as np
 import pandas as pd
 from conftest import rows
 
+from .random_money import MINING, PRICE, Terms, random_terms
+
 YEARS, DISCOUNT = 3, 0.1
-MINING, PRICE = 2.0, 8000.0
 
 
 @dataclass(frozen=True)
@@ -70,9 +71,10 @@ class Lot:
     grades: dict[str, float]
 
     def keys(self, used: set[str]) -> str:
-        """The lot with the grades that the project uses."""
+        """The lot with the grades and codes that the project uses."""
         grades = "".join(f"{name} = {grade}, " for name, grade in self.grades.items() if name in used)
-        return f"opening = {{ tonnes = {self.tonnes}, {grades}rock_type = 'A' }}\n"
+        code = "class = 'measured', " if "class" in used else ""
+        return f"opening = {{ tonnes = {self.tonnes}, {grades}{code}rock_type = 'A' }}\n"
 
     @property
     def table(self) -> pd.DataFrame:
@@ -139,6 +141,8 @@ class Mine:
     pushbacks how many there are; None if blocks are scheduled alone, for which the rest is not given
     lag       by how many benches a pushback stays below the next
     sinks     the most benches by which a pushback sinks in a year; None without a limit
+    terms     of revenue and cost
+    must, out whether the table's columns `must` and `out` say which blocks are mined in any case, and which never
     """
 
     table: pd.DataFrame
@@ -159,12 +163,16 @@ class Mine:
     lag: int = 0
     sinks: Optional[float] = None
     ramp_up: tuple[float, ...] = (1.0,)
+    terms: Terms = Terms()
+    must: bool = False
+    out: bool = False
 
     @property
     def text(self) -> str:
         """The project."""
         processes = "".join(
-            f'[[processes]]\nname = "{name}"\ncost = {it.cost}\ncapacity = {self.capacities[name]}\nrecovery = {{ copper = {it.recovery} }}\n'
+            f'[[processes]]\nname = "{name}"\ncost = {it.cost}\ncapacity = {self.capacities[name]}\n'
+            + self.terms.recoveries(name, it.recovery)
             + (accepting(self.accepts) if name == "leach" else "")
             for name, it in PROCESSES.items()
         )
@@ -173,17 +181,18 @@ class Mine:
 file = "blocks.csv"
 id = "name"
 rock_type = "rock"
+{'class = "class"' if self.terms.inferred else ""}
 [grid]
 size = [10, 10, 10]
 [economics]
 mining_cost = {MINING}
 fixed_cost_per_year = {self.fixed}
-[[metals]]
+{self.terms.economics}[[metals]]
 name = "copper"
 column = "cu"
 unit = "percent"
 price = {PRICE}
-{processes}[slopes]
+{self.terms.metals}{processes}[slopes]
 precedence_benches = 1
 [[slopes.domains]]
 angle = 90
@@ -195,7 +204,13 @@ mining_capacity = {self.rock}
 [schedule]
 years = {sum(self.months) // 12}
 milp = {{ gap = 0.0000001, seconds = 100 }}
-{self.rules}{dumps}{"".join(map(self.period, self.entries))}{self.divided}"""
+{self.rules}{dumps}{"".join(map(self.period, self.entries))}{self.divided}{self.fixed_blocks}{self.terms.haulage.text if self.terms.haulage else ""}"""
+
+    @property
+    def fixed_blocks(self) -> str:
+        """The section of blocks that are mined in any case, or never."""
+        keys = ('must_mine = "must"\n' if self.must else "") + ('exclude = "out"\n' if self.out else "")
+        return f"[constraints]\n{keys}" if keys else ""
 
     @property
     def rules(self) -> str:
@@ -209,6 +224,7 @@ milp = {{ gap = 0.0000001, seconds = 100 }}
         rules += "" if self.sinks is None else f"vertical_advance_rate = {self.sinks}\n"
         used = {"cu"} | {head.column for head in self.heads if any(it.keys for it in head.by_year)}
         used |= {"clay" for it in self.sums if it.of != "total"}
+        used |= self.terms.columns
         return rules + "".join(it.text(name, used) for name, it in self.piles.items()) + sums
 
     @property
@@ -217,7 +233,9 @@ milp = {{ gap = 0.0000001, seconds = 100 }}
         return "" if self.pushbacks is None else f"[pushbacks]\ncount = {self.pushbacks}\n"
 
     def period(self, year: int) -> str:
-        found = f"[[periods]]\nperiod_months = {self.months[year]}\nprices = {{ copper = {self.prices[year]} }}\nmining_cost_factor = {self.mining_factors[year]}\n"
+        found = f"[[periods]]\nperiod_months = {self.months[year]}\n"
+        found += "" if self.terms.haulage else f"mining_cost_factor = {self.mining_factors[year]}\n"
+        found += self.terms.prices(self.prices[year], year) + self.terms.period(year)
         of_processes = {name: [it.text(year) for it in self.heads if it.process == name] for name in PROCESSES}
         feed = {name: ", ".join(filter(None, texts)) for name, texts in of_processes.items()}
         dumps = {name: it.takes[year].keys for name, it in self.dumps.items()}
@@ -293,7 +311,12 @@ class Draws:
     def pile(self) -> Pile:
         rng, capacity = self.rng, self.maybe(0.4, 20, 150)
         tonnes = min(float(rng.integers(2, 9) * 10), np.inf if capacity is None else capacity)
-        grades = {"cu": float(rng.choice([0.2, 0.5, 0.9])), "as_ppm": float(rng.integers(0, 200)), "clay": 2.0}
+        grades = {
+            "cu": float(rng.choice([0.2, 0.5, 0.9])),
+            "as_ppm": float(rng.integers(0, 200)),
+            "clay": 2.0,
+            "au": 0.5,
+        }
         lot = Lot(tonnes, grades)
         limited = 0.3 if rng.random() < 0.3 else 0.0
         return Pile(
@@ -338,16 +361,33 @@ def with_half_years(mine: Mine) -> Mine:
         ramp_up=(1.0,),
         prices=alike(mine.prices),
         mining_factors=alike(mine.mining_factors),
+        terms=mine.terms.in_periods(alike),
         heads=[replace(it, by_year=alike(it.by_year)) for it in mine.heads],
         dumps={name: replace(it, takes=alike(it.takes)) for name, it in mine.dumps.items()},
         piles={name: replace(it, holds=alike(it.holds)) for name, it in mine.piles.items()},
     )
 
 
+def with_terms(mine: Mine, seed: int) -> Mine:
+    """The same mine with terms of revenue and cost, gold and classes."""
+    rng, count = np.random.default_rng(seed), len(mine.table)
+    gold, classes = rng.choice([0.0, 0.3, 1.0, 2.0], count), rng.choice(["measured", "measured", "inferred"], count)
+    terms, table = random_terms(seed, YEARS), mine.table.assign(au=gold, **{"class": classes})
+    table = table.assign(mcaf=rng.choice([1.0, 1.25, 0.5], count), pcaf=rng.choice([1.0, 0.9, 1.3], count))
+    # The last column of blocks may have one that is mined in any case, and the first one that is never mined.
+    must = (table["x"] == table["x"].max()) & (table["z"] == rng.choice(table["z"].unique()))
+    out = (table["x"] == table["x"].min()) & (table["z"] == rng.choice(table["z"].unique()))
+    factors = [1.0] * YEARS if terms.haulage else mine.mining_factors
+    fixed = {"must": bool(rng.random() < 0.3), "out": bool(rng.random() < 0.3)}
+    table = table.assign(must=must.astype(int), out=out.astype(int))
+    return replace(mine, terms=terms, table=table, mining_factors=factors, **fixed)
+
+
 def random_mine(seed: int) -> Mine:
     """A mine of 4 to 12 blocks that is scheduled by block."""
     draws = Draws(seed)
     mine = draws.mine(int(draws.rng.integers(2, 5)), int(draws.rng.integers(2, 4)))
+    mine = with_terms(mine, seed) if seed % 2 else mine
     return with_half_years(mine) if draws.rng.random() < 0.3 else mine
 
 
@@ -365,4 +405,5 @@ def random_pushback_mine(seed: int) -> Mine:
         sinks=float(rng.choice([1.0, 1.5])) if rng.random() < 0.3 else None,
         ramp_up=(float(rng.choice([0.5, 0.8])), 1.0) if rng.random() < 0.3 else (1.0,),
     )
+    mine = with_terms(mine, seed) if seed % 2 else mine
     return with_half_years(mine) if rng.random() < 0.3 else mine
