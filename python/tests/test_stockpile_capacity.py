@@ -3,7 +3,9 @@
 import numpy as np
 import pandas as pd
 import pytest
+from conftest import rows
 from helpers.benches import benches_of, problem_of, yearly_limits
+from helpers.pushbacks import PUSHBACKS
 from helpers.six_blocks import POOR, six_blocks
 from helpers.verified import wrong
 from helpers.writings import UNVERIFIED
@@ -43,6 +45,19 @@ def test_a_stockpile_with_a_minimum_keeps_its_capacity(tmp_path):
     limited = "[[periods]]\nstockpiles = { s = { min = 300, max = 500 } }\n"
     _, closing = scheduled(tmp_path, PILE + limited)
     assert all(300 - 1e-6 <= it <= 500 + 1e-6 for it in closing)
+
+
+def test_ore_that_does_not_pay_may_keep_a_minimum(plan_folder):
+    """A pillar: 100 t of 0.1 %, which earn 4 - 10 a tonne, over 100 t of 1 %, which earn 40 - 10. Both are mined in a year at 2 a tonne. 40 t of the upper
+    ore, which lie on the stockpile for nothing, keep its minimum, so that all ore below them is milled in the first year.
+    """
+    text = PUSHBACKS.replace("count = 3", "count = 1") + "[schedule]\nyears = 2\n" + PILE
+    path = plan_folder(
+        rows(1, 1, 2, cu=lambda i, j, k: 0.1 if k else 1), text + "[[periods]]\nstockpiles = { s = { min = 40 } }\n"
+    )
+    found = pitplan.write_schedule(path, path.parent / "out", writing=UNVERIFIED).set_index("method").loc["lp"]
+    assert wrong(path.parent / "out") == set()
+    assert found["npv"] == pytest.approx((100 * 30 - 200 * 2) / 1.1, abs=0.01) == found["upper_bound"]
 
 
 def test_no_process_frees_a_stockpile_of_ore_that_it_does_not_take():

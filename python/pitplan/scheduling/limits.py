@@ -151,6 +151,11 @@ class Limits:
         return list(dict.fromkeys([*self.most, *self.least]))
 
     @property
+    def asks_least(self) -> bool:
+        """Whether there is a minimum of an amount, a stockpile or a dump."""
+        return bool(self.least) or any(side == MIN for _, side in self.places)
+
+    @property
     def record(self) -> dict[str, dict[str, float]]:
         """The amounts as the project gives them, for records."""
         most, least = ({name: it.amount for name, it in limits.items()} for limits in (self.most, self.least))

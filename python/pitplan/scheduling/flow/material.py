@@ -24,7 +24,19 @@ from pitplan.pushbacks import bench_table
 from pitplan.pushbacks.bench_table import CASH, ROCK, PushbackBenches
 from pitplan.pushbacks.nested import Pushbacks
 from pitplan.scheduling.highs_process import demand_solved
-from pitplan.scheduling.limits import AT, DUMP, DUMPED, GRADE, MAX, MIN, SUM, GradeLimit, Prices, grade_limits
+from pitplan.scheduling.limits import (
+    AT,
+    DUMP,
+    DUMPED,
+    GRADE,
+    MAX,
+    MIN,
+    SUM,
+    GradeLimit,
+    Prices,
+    grade_limits,
+    limits_of,
+)
 
 FEED = "feed_tonnes"
 
@@ -386,8 +398,7 @@ def ore_cells(pushbacks: Pushbacks, rules: ScheduleRules) -> NDArray[np.int64]:
     plan = pushbacks.plan
     inside = np.flatnonzero((pushbacks.pushback > 0) & (plan.values.tonnes > 0))
     inside = inside[np.any([way.revenue[inside] > 0 for way in plan.values.by_process], axis=0)]
-    asks_least = rules.asks_least or plan.project.shells.calendar.has(lambda it: it.minimum)
-    if asks_least or plan.project.feed_grades or plan.project.dumps:
+    if limits_of(plan.project, rules).asks_least or plan.project.feed_grades or plan.project.dumps:
         return inside
     money = period_costs.of_project(plan.project)
     years = 1 + max((len(more) for more in money.of_ore.values()), default=0)
