@@ -418,6 +418,14 @@ class Assignment:
         stays = self.year < int(by_end.argmax())
         return Assignment(np.where(stays, self.year, problem.years), np.where(stays[:, None], self.share, 0.0))
 
+    def without_crumbs(self) -> Assignment:
+        """The same without shares that a solver leaves by rounding: the greatest share of the block takes them. A year's feed of crumbs alone would
+        have a head grade."""
+        crumbs = np.where(self.share <= SUM_ERROR, self.share, 0.0)
+        share = self.share - crumbs
+        share[np.arange(len(share)), share.argmax(axis=1)] += crumbs.sum(axis=1)
+        return Assignment(self.year, share)
+
     def worths(self, problem: BlockProblem) -> NDArray[np.float64]:
         """What each block earns, discounted, in money; one that is not mined nothing."""
         mined = np.minimum(self.year, problem.years - 1)

@@ -249,7 +249,7 @@ class Search:
         """The best so far, as a schedule of the whole problem."""
         year, share = np.full(problem.blocks, problem.years), np.zeros((problem.blocks, problem.destinations))
         year[self.part.kept], share[self.part.kept] = self.best.year, self.best.share
-        schedule, size = Assignment(year, share), (self.problem.blocks, len(self.part.nodes))
+        schedule, size = Assignment(year, share).without_crumbs(), (self.problem.blocks, len(self.part.nodes))
         found, value = self.relaxation, schedule.value(problem)
         return Scheduled(schedule, value, found.bound, *size, found.rounds, interrupted, found.multipliers)
 
