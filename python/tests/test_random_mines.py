@@ -1,8 +1,11 @@
 """Schedules under all rules at once, from the table on, against an integer programme over the table that the tests state."""
 
+import json
+
+import pandas as pd
 import pytest
 from helpers.optima import benches, blocks_alone, optimum_of
-from helpers.random_mines import random_mine, random_pushback_mine
+from helpers.random_mines import certifiable, random_mine, random_pushback_mine
 from helpers.random_tests import seeds
 from helpers.writings import UNVERIFIED
 
@@ -69,3 +72,36 @@ def test_the_audit_finds_what_is_written_right(plan_folder, way, seed):
         assert any(said in str(error) for said in ("infeasible", "no schedule of whole blocks", "is empty"))
     else:
         assert {rule.name: rule.differences for rule in verify(path.parent / "out") if rule.differences} == {}
+
+
+# Mines whose certificate or its audit was once wrong: half-years, nothing to mine, a limit that no block uses, crumbs of a solver, a dump that must take
+# something; and lots that a process does not take, a stockpile to be emptied, a minimum of one that ore keeps which does not pay, and both.
+WRONG_ONCE = {"schedule": (27, 82, 106, 135), "block_schedule": (1, 69, 70, 96, 118)}
+
+
+@pytest.mark.slow
+@pytest.mark.parametrize(
+    ("way", "seed"), [(way, seed) for way in WAYS for seed in dict.fromkeys([*WRONG_ONCE[way], *seeds(2, 200)])]
+)
+def test_a_certificate_holds_the_optimum_below_its_bound(plan_folder, way, seed):
+    """No schedule is worth more than pitschedule proves, and none within the limits earns less than the one that is certified, but for rounding."""
+    draw, write = WAYS[way]
+    mine = certifiable(draw(seed))
+    path = plan_folder(mine.table, mine.text)
+    out = path.parent / "out"
+    try:
+        write(path, out, writing=UNVERIFIED, certificate=True)
+    except PlanError as error:
+        assert any(said in str(error) for said in ("infeasible", "no schedule of whole blocks", "is empty"))
+        return
+    units = blocks_alone(mine) if way == "block_schedule" else benches(mine, pushbacks_in(out, mine))
+    optimum, told = optimum_of(mine, units), json.loads((out / f"{way}.json").read_text())
+    slack = 0.02 + 3e-5 * abs(optimum)
+    assert told["certificate"]["value"] <= optimum + slack <= told["certificate"]["bound"] + 2 * slack
+    assert {rule.name: rule.differences for rule in verify(out) if rule.differences} == {}
+
+
+def pushbacks_in(folder, mine):
+    """The pushback of each block of the mine's table, 0 for none."""
+    blocks = pd.read_csv(folder / "tables/blocks.csv").set_index("name")
+    return blocks["pushback"].reindex(mine.table["name"]).fillna(0).to_numpy(int)

@@ -252,7 +252,7 @@ class StatedLimit:
     price : array, shape (periods,)
     terms : tuple of Term
     is_loose : bool
-        Whether rounded shares may use more: of a minimum, with turned signs, and of a dump.
+        Whether rounded shares may use more: of a minimum, with turned signs, of a dump, and of a stockpile with ore at the start.
     """
 
     name: str

@@ -16,7 +16,7 @@ import pandas as pd
 from planaudit.inputs.answer import Answer
 from planaudit.inputs.codes import refused
 from planaudit.inputs.matching import SHARE
-from planaudit.inputs.tables import TABLES, YEAR, read_table
+from planaudit.inputs.tables import PERIOD, TABLES, YEAR, read_table
 from planaudit.rules import TOLD, Rule, rule
 from planaudit.schedules.bounds import MAX, MIN, Bound
 from planaudit.schedules.certificate_texts import FOLDER, KEY, MONEY, NAME, ROUNDING, UNFIT, UNIT, Texts
@@ -51,8 +51,9 @@ class BlockCertificate:
     @cached_property
     def written(self) -> pd.DataFrame:
         """The results by block; blocks of air have zeros."""
-        blocks = pd.read_csv(self.answer.folder / TABLES / "blocks.csv").set_index("id")
-        ids = np.loadtxt(self.answer.folder / FOLDER / "schedule.blocks", dtype=np.int64, ndmin=1)
+        blocks = pd.read_csv(self.answer.folder / TABLES / "blocks.csv").rename(columns={PERIOD: YEAR}).set_index("id")
+        words = (self.answer.folder / FOLDER / "schedule.blocks").read_text(encoding="ascii").split()
+        ids = np.array(words, dtype=np.int64)
         return blocks.select_dtypes("number").reindex(ids, fill_value=0)
 
     @cached_property
@@ -126,6 +127,8 @@ class BlockCertificate:
             yield "discount factors differ"
         capacities, prices = self.texts.lines("problem", "CAPACITIES"), self.texts.prices
         sides = list(dict.fromkeys(zip(bound.prices["limit"], bound.prices["side"])))
+        # Where nothing can be mined bound.csv has no limits, whose prices are then 0.
+        sides = sides or [(name, side) for name, side in told[KEY]["limits"]]
         record = {"limits": [list(it) for it in sides], "destinations": [["", name, 0] for name in self.destinations]}
         yield from (f"{name} {told[KEY][name]} for {due}" for name, due in record.items() if told[KEY][name] != due)
         if len(sides) != len(capacities) or len(sides) != len(prices):
@@ -133,9 +136,8 @@ class BlockCertificate:
             return
         for number, ((name, side), of_years, paid) in enumerate(zip(sides, capacities, prices)):
             sign = -1 if side == MIN else 1
-            own_prices = bound.prices[(bound.prices["limit"] == name) & (bound.prices["side"] == side)][
-                "price"
-            ].to_numpy()
+            mine = bound.prices[(bound.prices["limit"] == name) & (bound.prices["side"] == side)]
+            own_prices = mine["price"].to_numpy(float) if len(mine) else np.zeros(len(bound.every_year))
             if (name, side, 0) in bound.limits:
                 # A limit of all years is one of what is used by the end of each; a minimum is due at the end.
                 is_last = np.array(bound.every_year) == bound.years

@@ -47,7 +47,8 @@ class Texts:
     @cached_property
     def amounts(self) -> np.ndarray:
         """The amounts of each block, shape (blocks, columns)."""
-        return self.lines("problem", "AMOUNTS")[:, 1:]
+        found = self.lines("problem", "AMOUNTS")
+        return found[:, 1:] if len(found) else np.zeros((0, int(self.counts("problem")["COLUMNS"])))
 
     def counts(self, name: str) -> dict[str, str]:
         """Returns the numbers of lines of a word and one number, by their words."""
@@ -107,8 +108,9 @@ class Texts:
         return found
 
     def most_used(self, limit: int) -> float:
-        """Returns what blocks use of a limit at most, each where it uses most."""
-        return float(np.maximum(np.max(list(self.terms(limit).values()), axis=0), 0.0).sum())
+        """Returns what blocks use of a limit at most, each where it uses most; 0 if none uses it."""
+        uses = [np.zeros(len(self.amounts)), *self.terms(limit).values()]
+        return float(np.max(uses, axis=0).sum())
 
     @property
     def prices(self) -> np.ndarray:

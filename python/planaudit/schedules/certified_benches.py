@@ -10,7 +10,7 @@ import numpy as np
 
 from planaudit.schedules.certificate_texts import Texts
 from planaudit.schedules.opening import OpeningLots
-from planaudit.schedules.pushback_bounds import Bound
+from planaudit.schedules.pushback_bounds import MIN, Bound
 
 # How far from a toe an elevation may lie, in benches.
 SLIGHT = 1e-6
@@ -90,7 +90,7 @@ class CertifiedBenches:
     def pays(self) -> np.ndarray:
         """Whether each block of the pushbacks pays in some process, or may be asked for by a minimum or a limit on a grade."""
         blocks = self.bound.blocks
-        asked = self.bound.asks_least or bool(blocks.grades)
+        asked = bool(blocks.grades) or any(side == MIN for _, side in self.bound.limits)
         return np.asarray((blocks.takes & (asked | (blocks.gain > 0))).any(axis=0))
 
     def unlike_precedences(self) -> Iterator[str]:

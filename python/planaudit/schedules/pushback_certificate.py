@@ -183,7 +183,8 @@ class PushbackCertificate:
             return dict.fromkeys(range(min(lag, self.bound.years)), lies)
         if process and not pile and lots.given:
             gone = [-it["tonnes"] if stockpile["name"] == name else 0.0 for _, stockpile, it in lots.given]
-            return dict.fromkeys(range(self.bound.years), self.of_texts(0, 0, np.array(gone)))
+            gone = np.array(gone) * lots.takes[self.processes.index(process)]
+            return dict.fromkeys(range(self.bound.years), self.of_texts(0, 0, gone))
         return {}
 
     def unlike_amounts(self) -> Iterator[str]:
@@ -195,13 +196,13 @@ class PushbackCertificate:
             sign = -1.0 if side == MIN else 1.0
             own = {way: {lag: sign * it for lag, it in self.used(name, way).items()} for way in set(self.ways)}
             yield from self.unlike_terms(f"uses of {name} {side}", self.texts.terms(number), own)
-            due = sign * self.bound.limits[name, side]
+            due, lay = sign * self.bound.limits[name, side], 0.0
             if name.startswith(STOCK):
-                due = due - sign * sum(
-                    opening_tonnes(it) for it in self.bound.blocks.stockpiles if it["name"] == name.removeprefix(STOCK)
-                )
-            # What the texts have of a minimum may be less by rounding.
-            loose = ROUNDING * self.texts.sizes(number) * (side == MIN)
+                piles = [it for it in self.bound.blocks.stockpiles if it["name"] == name.removeprefix(STOCK)]
+                lay = sum(map(opening_tonnes, piles))
+            due = due - sign * lay
+            # What the texts have of a minimum may be less by rounding, and what may lie on a stockpile with ore at the start more.
+            loose = ROUNDING * self.texts.sizes(number) * (side == MIN or lay > 0)
             off = np.abs(capacities[number] - due) > loose + UNIT
             endless = np.isinf(due)
             off[endless] = capacities[number][endless] < self.greatest(number)

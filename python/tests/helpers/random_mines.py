@@ -383,6 +383,18 @@ def with_terms(mine: Mine, seed: int) -> Mine:
     return replace(mine, terms=terms, table=table, mining_factors=factors, **fixed)
 
 
+def certifiable(mine: Mine) -> Mine:
+    """The same mine with the same prices and costs in all years, no costs of years, and no dumps of pushbacks: what a certificate can state."""
+    return replace(
+        mine,
+        prices=[PRICE] * YEARS,
+        mining_factors=[1.0] * YEARS,
+        fixed=0.0,
+        terms=mine.terms.every_year,
+        dumps=mine.dumps if mine.pushbacks is None else {},
+    )
+
+
 def random_mine(seed: int) -> Mine:
     """A mine of 4 to 12 blocks that is scheduled by block."""
     draws = Draws(seed)

@@ -169,6 +169,11 @@ class Terms:
         found = "".join(f"{key}_cost_factor = {at(values, year)}\n" for key, values in factors)
         return found + f"capex = {at(self.capex, year)}\n"
 
+    @property
+    def every_year(self) -> "Terms":
+        """The same terms in all years, without capex."""
+        return replace(self, processing=(1.0,), selling_factors=(1.0,), gold_prices=(GOLD_PRICE,), capex=(0.0,))
+
     def in_periods(self, alike: Callable[[Sequence[float]], Sequence[float]]) -> "Terms":
         """The same terms with other periods; capex is paid in the first one alone."""
         names = ("processing", "selling_factors", "gold_prices")
@@ -213,6 +218,8 @@ def random_terms(seed: int, years: int) -> Terms:
         above=float(rng.choice([7000.0, 8500.0])) if rng.random() < 0.5 else None,
         of_arsenic=bool(rng.random() < 0.5),
     )
+    # A credit above all charges is refused.
+    smelter = smelter if smelter.charges > 50 else replace(smelter, above=None)
     haulage = Haulage(
         (float(rng.uniform(-50, 100)), 20.0, float(rng.choice([0.0, 25.0, 60.0]))),
         gradient=0.1,

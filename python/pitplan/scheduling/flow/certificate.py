@@ -351,10 +351,15 @@ class FlowCertificate:
     # ---- values and limits
 
     @property
+    def takes_lots(self) -> NDArray[np.bool_]:
+        """Whether each process takes each lot, shape (processes, lots). One that it does not take stays where it lies."""
+        return self.model.opening.ore.of(FEED) > 0
+
+    @property
     def values(self) -> tuple[Term, ...]:
         """What the blocks of the texts are worth in each destination."""
         cash = self.model.mining_cash[:, 0] / self.model.discounts[0]
-        lots = self.model.opening_gains[..., 0]
+        lots = np.where(self.takes_lots, self.model.opening_gains[..., 0], 0.0)
         found = []
         for number, to in enumerate(self.destinations):
             gain = to.gain(self.model)
@@ -381,7 +386,9 @@ class FlowCertificate:
             if amounts.any()
         ]
         price = self.prices.get((name, side), np.zeros(self.model.years)) / self.unit
-        return StatedLimit(name, sign * self.amounts[name, side], price, tuple(terms), side == MIN)
+        # Rounded shares reclaim less of what lay on a stockpile at the start.
+        is_loose = side == MIN or self.model.lay(name) > 0
+        return StatedLimit(name, sign * self.amounts[name, side], price, tuple(terms), is_loose)
 
     def uses(self, name: str) -> Iterator[tuple[int, NDArray[np.float64], int]]:
         """Yields destination, amounts of blocks, and lag of what they add to a limit."""
@@ -412,7 +419,8 @@ class FlowCertificate:
             if to.stockpile == stockpile:
                 lies, years = self.column(0.0, np.where(to.takes(model), model.ore.of(FEED).max(axis=0), 0.0)), to.lag
             elif to.stockpile is None and to.process is not None:
-                lies, years = self.column(0.0, 0.0, -model.opening.on(stockpile)), model.years
+                gone = self.takes_lots[to.process] * model.opening.on(stockpile)
+                lies, years = self.column(0.0, 0.0, -gone), model.years
             else:
                 continue
             yield from ((number, lies, lag) for lag in range(min(years, model.years)))
