@@ -20,8 +20,8 @@ from scipy.optimize import Bounds, LinearConstraint, linprog, milp
 from scipy.sparse import csr_matrix, load_npz, save_npz
 
 PROGRAMME, MATRIX, EFFORT, OPTIMUM = "programme.npz", "matrix.npz", "effort.json", "optimum.npz"
-# What scipy says of a run: done, and ended by its limit of time.
-DONE, OUT_OF_TIME = 0, 1
+# What scipy says of a run: done, ended by its limit of time, and that no unknowns keep all rows.
+DONE, OUT_OF_TIME, INFEASIBLE = 0, 1, 2
 
 
 @dataclass(frozen=True)
@@ -77,13 +77,17 @@ def optimum_of(programme: Programme, gap: float, seconds: Optional[float]) -> Op
             raise RuntimeError(f"the linear programme: status {answer.status}: {answer.message}")
         return Optimum(answer.x, -float(answer.fun), np.maximum(-answer.ineqlin.marginals, 0.0))
     options = {"mip_rel_gap": gap} | ({} if seconds is None else {"time_limit": seconds})
-    answer = milp(
-        -programme.gain,
-        integrality=programme.whole.astype(int),
-        bounds=Bounds(0, programme.upper),
-        constraints=LinearConstraint(programme.matrix, -np.inf, programme.most),
-        options=options,
-    )
+    # The presolve of HiGHS finds some programmes infeasible that have a solution.
+    for presolve in (True, False):
+        answer = milp(
+            -programme.gain,
+            integrality=programme.whole.astype(int),
+            bounds=Bounds(0, programme.upper),
+            constraints=LinearConstraint(programme.matrix, -np.inf, programme.most),
+            options=options | {"presolve": presolve},
+        )
+        if answer.status != INFEASIBLE:
+            break
     if answer.status not in (DONE, OUT_OF_TIME):
         raise RuntimeError(f"the integer programme: status {answer.status}: {answer.message}")
     bound = answer.mip_dual_bound
