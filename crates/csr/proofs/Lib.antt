@@ -10,3 +10,4 @@ pub mod Transposing
 pub mod Twice
 pub mod Pigeon
 pub mod Queue
+pub mod Patterns

@@ -3,6 +3,8 @@
 
 mod builder;
 mod rows;
+mod shared;
+mod sharing;
 mod sort;
 mod topological_order;
 mod transpose;
@@ -10,6 +12,7 @@ mod view;
 
 pub use builder::CsrBuilder;
 pub use rows::Csr;
+pub use shared::{SharedRow, SharedRows};
 pub use sort::sort_rows;
 pub use topological_order::{first_left, in_degrees_left};
 pub use transpose::transposed_rows;

@@ -1,5 +1,6 @@
 //! Finds, by labels, the first arc of a block to a label, the least label of a row, and children with a label.
-ghost use Rattle.std.specs.Prelude.{◌≡◌, ◌<◌, ◌≤◌, length, IfSome};
+ghost use Rattle.std.specs.Prelude.{◌≡◌, ◌<◌, ◌≤◌, ℕ, length, IfSome};
+ghost use Rattle.pit_model.specs.Graph.{first_of};
 ghost use Rattle.forest.specs.Forest.{size};
 ghost use Rattle.merging.specs.Order.{AreBelow};
 
@@ -14,15 +15,21 @@ pub(crate) struct Wanted<'a> {
     pub(crate) label: u16,
 }
 
-/// Returns the first arc of a range that leads to a block with this label.
-pub(crate) fn first_to(graph: &Graph, arcs: Range<u32>, wanted: Wanted<'_>) -> Option<u32>
+/// Returns the first arc of a block, in a range of its row, that leads to a block with this label.
+pub(crate) fn first_to(
+    graph: &Graph,
+    block: u32,
+    arcs: Range<u32>,
+    wanted: Wanted<'_>,
+) -> Option<u32>
     requires labels { length wanted.labels.now ≡ graph.now.blocks }
     requires arcs { arcs.end ≤ length graph.now.pairs }
+    requires own { (k : ℕ) → arcs.start ≤ k → k < arcs.end → first_of graph.now.pairs k ≡ block }
     ensures { IfSome result (λ k. (arcs.start ≤ k) × (k < arcs.end)) }
 {
     graph.law();
     for arc in arcs.start..arcs.end {
-        let needed = graph.needed(arc);
+        let needed = graph.needed(block, arc);
         if wanted.labels[needed as usize] == wanted.label {
             return Some(arc);
         }
@@ -30,16 +37,17 @@ pub(crate) fn first_to(graph: &Graph, arcs: Range<u32>, wanted: Wanted<'_>) -> O
     None
 }
 
-/// Returns the least label of the predecessors in a row, or `most` if the row is empty.
-pub(crate) fn least_label(graph: &Graph, labels: &[u16], row: Range<u32>, most: u16) -> u16
+/// Returns the least label of the predecessors of a block, or `most` if it has none.
+pub(crate) fn least_label(graph: &Graph, labels: &[u16], block: u32, most: u16) -> u16
     requires blocks { length labels.now ≡ graph.now.blocks }
-    requires inside { row.end ≤ length graph.now.pairs }
+    requires block { block < graph.now.blocks }
     ensures { result ≤ most }
 {
     graph.law();
+    let row = graph.arcs_of(block);
     let mut least = most;
     for arc in row.start..row.end {
-        let label = labels[graph.needed(arc) as usize];
+        let label = labels[graph.needed(block, arc) as usize];
         if label == 0 {
             return 0;
         }

@@ -130,7 +130,7 @@ impl LowestLabel {
         if is_strong_root(tree, block) {
             let graph = tree.instance().graph();
             let most = self.last_label() - 1;
-            label = least_label(graph, &self.labels, graph.arcs_of(block), most) + 1;
+            label = least_label(graph, &self.labels, block, most) + 1;
         }
         self.labels[block as usize] = label;
         self.counts[label as usize] = self.counts[label as usize].saturating_add(1);
@@ -207,7 +207,7 @@ impl LowestLabel {
             labels: &self.labels,
             label,
         };
-        let arc = first_to(graph, from..row.end, wanted);
+        let arc = first_to(graph, block, from..row.end, wanted);
         self.places[block as usize] = place_in(row, arc);
         arc
     }

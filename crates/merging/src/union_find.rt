@@ -59,7 +59,7 @@ fn join_at(graph: &Graph, parents: &mut [u32], place: u32) -> u32
     for block in 0..graph.n() {
         let arcs = graph.arcs_of(block);
         if place < arcs.end - arcs.start {
-            let needed = graph.needed(arcs.start + place);
+            let needed = graph.needed(block, arcs.start + place);
             gone = gone.saturating_add(u32::from(join(parents, block, needed)));
         }
     }

@@ -7,7 +7,7 @@ ghost use Rattle.pit_model.specs.Fixed.{IsClosure, is_among, transposed};
 ghost use Rattle.mine_graph.specs.FixedBlocks.{mark_of};
 ghost use Rattle.mine_graph.specs.BreadthFirst.{HasNeighbours, IsAt, IsJoinedWith, IsTrail, VisitsExactly, is_visited, LeadsTo};
 
-use csr::Csr;
+use csr::SharedRows;
 use std::alloc::{AllocError, Global};
 
 /// The visited blocks: each has a mark, and the first `tail` places of the queue hold them.
@@ -60,7 +60,7 @@ impl BreadthFirst {
     }
 
     /// Visits the targets of a block's arcs.
-    fn visit_row(&mut self, rows: &Csr, block: u32)
+    fn visit_row(&mut self, rows: &SharedRows, block: u32)
         requires size { length self.old.marks.items ≡ rows.now.blocks }
         requires below { block < rows.now.blocks }
         requires range { AreInRange rows.now.pairs rows.now.blocks }
@@ -69,12 +69,12 @@ impl BreadthFirst {
     {
         let arcs = rows.row(block);
         for k in arcs.start..arcs.end {
-            self.visit(rows.target(k));
+            self.visit(rows.target(block, k));
         }
     }
 
     /// Visits the connected component of a block.
-    pub fn visit_joined(&mut self, predecessors: &Csr, successors: &Csr, root: u32)
+    pub fn visit_joined(&mut self, predecessors: &SharedRows, successors: &SharedRows, root: u32)
         requires size { length self.old.marks.items ≡ predecessors.now.blocks }
         requires below { root < predecessors.now.blocks }
         requires range { AreInRange predecessors.now.pairs predecessors.now.blocks }
@@ -98,7 +98,12 @@ impl BreadthFirst {
 }
 
 /// A mark for each block: whether it is one of the seeds, or arcs lead to it from one, directly or through others.
-pub fn closure_of(alloc: Global, n: u32, rows: &Csr, seeds: &[u32]) -> Result<Vec<bool>, AllocError>
+pub fn closure_of(
+    alloc: Global,
+    n: u32,
+    rows: &SharedRows,
+    seeds: &[u32],
+) -> Result<Vec<bool>, AllocError>
     requires blocks { rows.now.blocks ≡ n }
     requires range { AreInRange rows.now.pairs n }
     requires seeds { All (λ u. u < n) seeds.now }

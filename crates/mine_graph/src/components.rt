@@ -10,7 +10,7 @@ ghost use Rattle.mine_graph.specs.Components.{label_of, IsUnlabelled, AreCompone
 
 use crate::breadth_first::BreadthFirst;
 use crate::graph::Graph;
-use csr::Csr;
+use csr::SharedRows;
 use std::alloc::AllocError;
 
 /// The component of each block, numbered in the order of their least blocks.
@@ -35,8 +35,8 @@ fn label_all(blocks: &[u32], label: u32, labels: &mut [u32])
 
 /// Gives each block the number of its component and returns how many there are.
 fn label_components(
-    predecessors: &Csr,
-    successors: &Csr,
+    predecessors: &SharedRows,
+    successors: &SharedRows,
     search: &mut BreadthFirst,
     labels: &mut [u32],
 ) -> u32
@@ -66,8 +66,8 @@ fn label_components(
 /// Finds the connected components of `n` blocks, from the arcs to their predecessors and the same arcs transposed. It copies no arc.
 pub fn find_components(
     n: u32,
-    predecessors: &Csr,
-    successors: &Csr,
+    predecessors: &SharedRows,
+    successors: &SharedRows,
 ) -> Result<Components, AllocError>
     requires blocks { predecessors.now.blocks ≡ n }
     requires same_rows { successors.now.blocks ≡ n }
@@ -88,7 +88,8 @@ impl Graph {
         ensures { IfOk result (λ components. AreComponents self.now components.labels.items components.count self.now.blocks) }
     {
         self.law();
-        let successors = self.successors()?;
+        let turned = self.successors()?;
+        let successors = SharedRows::from_rows(self.alloc(), turned)?;
         find_components(self.n(), self.predecessors(), &successors)
     }
 }

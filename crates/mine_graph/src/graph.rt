@@ -1,17 +1,18 @@
 //! The graph of the pairs "u needs p". Making one puts the pairs into their order (`sort_rows` of `csr`) and refuses by a cycle where they
 //! have one (no_cycle.rt); so its type carries that it has none.
-ghost use Rattle.std.specs.Prelude.{◌≡◌, ◌<◌, ◌≤◌, ◌↔◌, ℕ, length, get_or, IfOk, IfErr, IfSome, IfNone};
+ghost use Rattle.std.specs.Prelude.{◌≡◌, ◌<◌, ◌≤◌, ◌↔◌, ℕ, ◌+◌, length, get_or, IfOk, IfErr, IfSome, IfNone};
 ghost use Rattle.pit_model.specs.Size.{most_blocks, most_pairs};
 ghost use Rattle.faults.specs.Refused.{no_memory};
 ghost use Rattle.pit_model.specs.Direction.{IsReversed};
 ghost use Rattle.pit_model.specs.Fixed.{transposed};
 ghost use Rattle.pit_model.specs.Graph.{first_of, second_of, AreApart, AreInRange, AreSamePairs, IsAcyclic, IsGraph};
 ghost use Rattle.mine_graph.specs.Faults.{IsGraphFault};
+ghost use Rattle.csr.specs.Shared.{target_after};
 ghost use Rattle.csr.specs.Transposed.{transposed_pairs};
 
 use crate::no_cycle::check_acyclic;
 use crate::row_samples::{STEP, next_row_sample, row_between, sample_rows};
-use csr::{Csr, sort_rows, transposed_rows};
+use csr::{Csr, SharedRows, sort_rows, transposed_rows};
 use faults::Fault;
 use std::alloc::{AllocError, Global};
 use std::marker::Model;
@@ -22,7 +23,7 @@ use std::ops::Range;
 pub struct Graph {
     blocks: u32,
     /// The blocks that each block needs.
-    predecessors: Csr,
+    predecessors: SharedRows,
     /// The block of every 64th pair.
     row_samples: Vec<u32>,
 }
@@ -98,7 +99,7 @@ impl Graph {
         let row_samples = sample_rows(alloc, n, predecessors.view())?;
         Ok(Graph {
             blocks: n,
-            predecessors,
+            predecessors: SharedRows::from_rows(alloc, predecessors)?,
             row_samples,
         })
     }
@@ -113,7 +114,7 @@ impl Graph {
     }
 
     /// The arcs from each block to those that it needs.
-    pub(crate) fn predecessors(&self) -> &Csr
+    pub(crate) fn predecessors(&self) -> &SharedRows
         ensures blocks { result.now.blocks ≡ self.now.blocks }
         ensures pairs { result.now.pairs ≡ self.now.pairs }
     {
@@ -131,8 +132,9 @@ impl Graph {
         ensures same { IfOk result (λ r. AreSamePairs (transposed self.now.pairs) r.pairs) }
     {
         self.law();
-        let rows = transposed_rows(self.alloc(), self.blocks, self.predecessors.view())?;
-        Ok(rows)
+        let rows = self.predecessors.to_rows()?;
+        let turned = transposed_rows(self.alloc(), self.blocks, rows.view())?;
+        Ok(turned)
     }
 
     /// Where the graph takes its memory from.
@@ -162,7 +164,7 @@ impl Graph {
         let mark = k as usize / STEP;
         let least = self.row_samples[mark];
         let most = next_row_sample(&self.row_samples, mark, self.blocks - 1);
-        row_between(self.predecessors.view().offsets, least, most, k)
+        row_between(self.predecessors.offsets(), least, most, k)
     }
 
     /// The pair with that number: a block, and one that it needs.
@@ -170,15 +172,17 @@ impl Graph {
         requires { k < length self.now.pairs }
         ensures { result ≡ get_or self.now.pairs k (0, 0) }
     {
-        (self.first(k), self.needed(k))
+        let u = self.first(k);
+        (u, self.needed(u, k))
     }
 
-    /// The block that is needed by the pair with that number.
-    pub fn needed(&self, k: u32) -> u32
-        requires { k < length self.now.pairs }
+    /// The block that a block needs by its pair with that number.
+    pub fn needed(&self, u: u32, k: u32) -> u32
+        requires inside { k < length self.now.pairs }
+        requires own { first_of self.now.pairs k ≡ u }
         ensures { result ≡ second_of self.now.pairs k }
     {
-        self.predecessors.target(k)
+        self.predecessors.target(u, k)
     }
 
     /// The numbers of the pairs of a block, which follow one another.
@@ -208,25 +212,22 @@ impl Graph {
         ensures some { IfSome result (λ k. (k < length self.now.pairs) × (first_of self.now.pairs k ≡ u) × (second_of self.now.pairs k ≡ p)) }
         ensures none { IfNone result ((k : ℕ) → k < length self.now.pairs → first_of self.now.pairs k ≡ u → second_of self.now.pairs k ≡ p → ⊥) }
     {
-        let row = self.arcs_of(u);
-        let begin = row.start as usize;
-        let end = row.end as usize;
-        let targets = self.predecessors.view().targets;
-        let place = begin + first_at_least(&targets[begin..end], p);
-        if place < end && targets[place] == p {
-            Some(place as u32)
+        let row = self.predecessors.shared_row(u);
+        let place = first_at_least(row.differences, u, p);
+        if place < row.differences.len() && u.wrapping_add(row.differences[place]) == p {
+            Some(row.start + place as u32)
         } else {
             None
         }
     }
 }
 
-/// The place of the first number that is `p` or more, among numbers that do not fall.
-fn first_at_least(numbers: &[u32], p: u32) -> usize
-    requires { (i j : ℕ) → i ≤ j → j < length numbers.now → get_or numbers.now i 0 ≤ get_or numbers.now j 0 }
-    ensures within { result ≤ length numbers.now }
-    ensures before { (i : ℕ) → i < result → get_or numbers.now i 0 < p }
-    ensures after { (i : ℕ) → result ≤ i → i < length numbers.now → p ≤ get_or numbers.now i 0 }
+/// The place of the first difference from a block to `p` or more, among differences to targets that do not fall.
+fn first_at_least(differences: &[u32], block: u32, p: u32) -> usize
+    requires { (i j : ℕ) → i ≤ j → j < length differences.now → target_after block (get_or differences.now i 0) ≤ target_after block (get_or differences.now j 0) }
+    ensures within { result ≤ length differences.now }
+    ensures before { (i : ℕ) → i < result → target_after block (get_or differences.now i 0) < p }
+    ensures after { (i : ℕ) → result ≤ i → i < length differences.now → p ≤ target_after block (get_or differences.now i 0) }
 {
-    numbers.partition_point(|&number| number < p)
+    differences.partition_point(|&difference| block.wrapping_add(difference) < p)
 }

@@ -47,7 +47,7 @@ fn add_row(
     graph.law();
     let arcs = graph.arcs_of(block);
     for k in arcs.start..arcs.end {
-        let needed = graph.needed(k);
+        let needed = graph.needed(block, k);
         if chosen.labels[needed as usize] == chosen.label {
             needs.push(chosen.places[needed as usize])?;
         }

@@ -46,7 +46,7 @@ fn mark_users(users: &Graph, strong: &[bool], block: u32, marks: &mut Marks)
     users.law();
     let arcs = users.arcs_of(block);
     for k in arcs.start..arcs.end {
-        let user = users.needed(k);
+        let user = users.needed(block, k);
         if strong[user as usize] {
             marks.mark(user);
         }
@@ -65,7 +65,7 @@ fn first_weak_need(graph: &Graph, strong: &[bool], block: u32) -> Option<u32>
     graph.law();
     let arcs = graph.arcs_of(block);
     for k in arcs.start..arcs.end {
-        let needed = graph.needed(k);
+        let needed = graph.needed(block, k);
         if !strong[needed as usize] {
             return Some(k);
         }

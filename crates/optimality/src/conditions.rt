@@ -65,7 +65,7 @@ fn row_allows(graph: &Graph, fixed: &Fixed, flow: &[i128], inside: &[bool], u: u
     graph.law();
     let arcs = graph.arcs_of(u);
     for k in arcs.start..arcs.end {
-        let p = graph.needed(k);
+        let p = graph.needed(u, k);
         if !arc_allows(
             inside[u as usize],
             inside[p as usize],

@@ -3,7 +3,7 @@
 ghost use Rattle.std.specs.Prelude.{◌≡◌, ◌<◌, ◌≤◌, ◌↔◌, ℕ, pos, int_lt, true, false, IsTrue, length, get_or, IfOk, IfErr};
 ghost use Rattle.faults.specs.Refused.{no_memory};
 ghost use Rattle.pit_model.specs.Direction.{IsReversed};
-ghost use Rattle.pit_model.specs.Graph.{second_of};
+ghost use Rattle.pit_model.specs.Graph.{first_of, second_of};
 ghost use Rattle.pit_model.specs.Mine.{arcs};
 ghost use Rattle.pit_model.specs.Size.{most_blocks};
 ghost use Rattle.mine_graph.specs.BreadthFirst.{IsTrail, VisitsExactly, is_visited};
@@ -43,10 +43,17 @@ fn visit_starts(search: &mut BreadthFirst, inside: &[bool], excesses: &[i128])
     }
 }
 
-/// Visits the blocks that are needed by the pairs of a row.
-fn visit_needed(search: &mut BreadthFirst, inside: &[bool], graph: &Graph, row: Range<u32>)
+/// Visits the blocks that a block needs by the pairs of its row.
+fn visit_needed(
+    search: &mut BreadthFirst,
+    inside: &[bool],
+    graph: &Graph,
+    block: u32,
+    row: Range<u32>,
+)
     requires order { row.start ≤ row.end }
     requires within { row.end ≤ length graph.now.pairs }
+    requires own { (k : ℕ) → row.start ≤ k → k < row.end → first_of graph.now.pairs k ≡ block }
     requires blocks { length search.old.marks.items ≡ graph.now.blocks }
     requires same { length inside.now ≡ length search.old.marks.items }
     requires trail { IsTrail search.old }
@@ -54,7 +61,7 @@ fn visit_needed(search: &mut BreadthFirst, inside: &[bool], graph: &Graph, row: 
 {
     graph.law();
     for k in row.start..row.end {
-        visit(search, inside, graph.needed(k));
+        visit(search, inside, graph.needed(block, k));
     }
 }
 
@@ -97,7 +104,7 @@ fn visit_users(
     users.law();
     let arcs = users.arcs_of(block);
     for k in arcs.start..arcs.end {
-        let user = users.needed(k);
+        let user = users.needed(block, k);
         if sends(flows.graph, flows.flow, user, block) {
             visit(search, inside, user);
         }
@@ -131,7 +138,7 @@ pub fn reached_of(
             break;
         }
         let block = search.queue[head];
-        visit_needed(&mut search, inside, graph, graph.arcs_of(block));
+        visit_needed(&mut search, inside, graph, block, graph.arcs_of(block));
         visit_users(&mut search, inside, &users, flows, block);
     }
     Ok(search.marks)

@@ -6,9 +6,15 @@ use Rattle.pit_model.specs.Graph.{Graph, first_of, second_of}
 use Rattle.mine_graph.specs.BreadthFirst.{VisitsExactly, queued}
 use Rattle.optimality.specs.Check.{has}
 use Rattle.optimality.specs.Reaching.{IsReachedSoFar, IsVisited, Sends}
-use Rattle.optimality.proofs.Spreading.{spread_more, exactly}
+use Rattle.optimality.proofs.Spreading.{spread_start, spread_more, exactly}
 use Rattle.optimality.proofs.reach.reached_of.Goals as goal
 use Rattle.optimality.proofs.reach.reached_of.Goals.{else-loop-head-test, then-loop-head-test+then-head-search}
+
+pub loop-head-init : goal.loop-head-init
+loop-head-init c = record {
+  state = spread_start c.args.mine.now c.args.inside.now c.args.flow.now c.args.excesses.now c.in_ok-search.search c.visit_starts.new.search (c.in_ok-search.ensures.size ∙ c.n.ensures ∙ ap (λ (g : Graph). g.blocks) c.deref-graph.ensures ∙ c.graph.ensures.blocks) c.requires.count c.in_ok-search.ensures.none c.requires.excesses c.visit_starts.ensures;
+  ahead = omega arith;
+}
 
 pub loop-head-preserved : goal.loop-head-preserved
 loop-head-preserved c =

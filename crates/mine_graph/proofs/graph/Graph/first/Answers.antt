@@ -1,23 +1,19 @@
 -- The block of a pair lies between those of the samples around it.
-use Rattle.std.proofs.Common.{◌≡◌, ℕ, ◌+◌, ◌/◌, ◌<◌, ◌≤◌, List, length, get_or, ap, subst, arith, refl, ◌∙◌, ⊎_elim}
+use Rattle.std.proofs.Common.{◌≡◌, ℕ, ◌+◌, ◌/◌, ◌<◌, ◌≤◌, List, length, get_or, ap, arith, refl, ◌∙◌, ⊎_elim}
 use Rattle.std.proofs.lemmas.Bool.{cases_lt}
 use Rattle.std.proofs.lemmas.List.{get_or_default}
 use Rattle.pit_model.specs.Graph.{Graph, first_of}
-use Rattle.csr.proofs.Begun.{csr_offsets, csr_rise}
-use Rattle.csr.proofs.Offsets.{AreOffsets}
+use Rattle.csr.proofs.Begun.{csr_rise}
 use Rattle.mine_graph.proofs.Marking.{mark_below, mark_least, mark_most}
 use Rattle.mine_graph.proofs.graph.Graph.first.Goals as goal
 
 pub row_between-requires-clause-rise : goal.row_between-requires-clause-rise
 row_between-requires-clause-rise c v w h l =
-    let rows = c.view.result in
-    let size = c.view.ensures.rows.count in
-    csr_rise rows.offsets.now c.self.inside.predecessors.blocks (length rows.targets.now) c.view.ensures.rows v w h (omega arith)
+    let size = c.offsets.ensures.rows.count in
+    csr_rise c.offsets.result.now c.self.inside.predecessors.blocks (length c.self.inside.predecessors.pairs) c.offsets.ensures.rows v w h (omega arith)
 
 pub returns : goal.returns
 returns c =
-    let rows = c.view.result in
-    let offsets = rows.offsets.now in
     let row_samples = c.self.inside.row_samples.items in
     let pairs = c.self.inside.predecessors.pairs in
     let k = c.args.k in
@@ -27,8 +23,7 @@ returns c =
     let marked = c.self.invariant.sampled in
     let rising = c.self.invariant.graph.rising in
     let own = (c.self.invariant.graph.in_range k inside).0 in
-    let are : AreOffsets pairs offsets c.self.inside.predecessors.blocks = subst (λ q. AreOffsets q offsets c.self.inside.predecessors.blocks) c.view.ensures.pairs (csr_offsets offsets rows.targets.now c.self.inside.predecessors.blocks c.view.ensures.rows) in
-    let there = are.found (first_of pairs k) k (omega (arith, c.self.invariant.rows)) inside refl in
+    let there = (c.offsets.ensures.own (first_of pairs k) k (omega (arith, c.self.invariant.rows)) inside).0 refl in
     let below = mark_below pairs row_samples marked rising k inside in
     let least : c.index-least.result.now ≤ first_of pairs k =
     (let is = c.index-least.ensures ∙ get_or_default row_samples (k / 64) c.index-least.result.now 0 below in let low = mark_least pairs row_samples marked rising k inside in omega arith) in

@@ -10,7 +10,7 @@ pub returns-clause-same : goal.returns-clause-same
 returns-clause-same c =
     let own = c.self.inside.predecessors.pairs in
     let n = c.self.inside.blocks in
-    let rows = c.in_ok-rows.rows in
-    let is : rows.pairs ≡ transposed_pairs own n = c.in_ok-rows.ensures.pairs ∙ ap (λ q. transposed_pairs q n) c.view.ensures.pairs in
+    let rows = c.in_ok-turned.turned in
+    let is : rows.pairs ≡ transposed_pairs own n = c.in_ok-turned.ensures.pairs ∙ ap (λ q. transposed_pairs q n) (c.view.ensures.pairs ∙ c.in_ok-rows.ensures.pairs) in
     subst (λ (g : Graph). AreSamePairs (transposed g.pairs) rows.pairs) c.self.view_is
     (subst (AreSamePairs (transposed own)) (sym is) (turned_same own n c.self.invariant.graph.in_range))

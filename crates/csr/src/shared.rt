@@ -1,0 +1,147 @@
+//! Compressed rows that share equal parts (dictionary encoding). A row is kept as the differences from its block to its targets, and
+//! rows with the same differences share one list of them, their pattern. A mine on a grid has few patterns: its rows differ only at
+//! the walls of the grid.
+ghost use Rattle.std.specs.Prelude.{◌≡◌, ◌↔◌, ℕ, ◌+◌, ◌^◌, ◌<◌, ◌≤◌, length, get_or, IfOk};
+ghost use Rattle.pit_model.specs.Graph.{first_of, second_of};
+ghost use Rattle.csr.specs.Rows.{IsCsr};
+ghost use Rattle.csr.specs.Shared.{target_after};
+
+use crate::rows::Csr;
+use crate::sharing::{SLOTS, share_rows};
+use std::alloc::{AllocError, Global};
+use std::marker::Model;
+use std::ops::Range;
+
+/// The arcs of a block: the number of the first, and the difference from the block to the target of each, modulo 2^32.
+#[derive(Clone, Copy)]
+pub struct SharedRow<'a> {
+    pub start: u32,
+    pub differences: &'a [u32],
+}
+
+/// The arcs of blocks 0 to `blocks` - 1, in compressed rows with shared patterns: 8 bytes for each block, and 4 for each arc of a
+/// row whose pattern no other row shares.
+#[derive(Drop)]
+pub struct SharedRows {
+    /// Row u begins at place `offsets[u]`, and ends before place `offsets[u + 1]`.
+    offsets: Vec<u32>,
+    /// The differences of row u begin at `patterns[u]`.
+    patterns: Vec<u32>,
+    /// Target minus block, modulo 2^32.
+    differences: Vec<u32>,
+}
+
+impl Model for SharedRows {
+    ghost use Rattle.std.specs.Prelude.{length};
+    ghost use Rattle.pit_model.specs.Graph.{Graph};
+    ghost use Rattle.csr.specs.Rows.{pairs_of};
+    ghost use Rattle.csr.specs.Shared.{shared_targets, AreShared};
+
+    ghost Value = { Graph };
+
+    ghost view = { λ r. record { blocks = length r.patterns.items; pairs = pairs_of r.offsets.items (shared_targets r.offsets.items r.patterns.items r.differences.items) } };
+
+    ghost invariant = { λ r. AreShared r.offsets.items r.patterns.items r.differences.items };
+}
+
+impl SharedRows {
+    /// Returns rows with the same arcs. The differences take the memory of the targets, and what they leave is released.
+    ///
+    /// # Errors
+    ///
+    /// If memory runs out.
+    pub fn from_rows(alloc: Global, rows: Csr) -> Result<SharedRows, AllocError>
+        requires { rows.blocks < 2 ^ 32 }
+        ensures blocks { IfOk result (λ r. r.blocks ≡ rows.blocks) }
+        ensures pairs { IfOk result (λ r. r.pairs ≡ rows.pairs) }
+    {
+        let (offsets, mut differences) = rows.into_parts();
+        let mut patterns = vec![in alloc; 0; offsets.len() - 1]?;
+        let mut recent = vec![in alloc; 0; SLOTS]?;
+        let used = share_rows(&offsets, &mut differences, &mut patterns, &mut recent);
+        differences.truncate(used);
+        differences.shrink_to_fit();
+        Ok(SharedRows {
+            offsets,
+            patterns,
+            differences,
+        })
+    }
+
+    /// Returns rows with the same arcs that keep all targets.
+    ///
+    /// # Errors
+    ///
+    /// If memory runs out.
+    pub fn to_rows(&self) -> Result<Csr, AllocError>
+        requires { self.now.blocks < 2 ^ 32 }
+        ensures blocks { IfOk result (λ r. r.blocks ≡ self.now.blocks) }
+        ensures pairs { IfOk result (λ r. r.pairs ≡ self.now.pairs) }
+    {
+        let alloc = self.alloc();
+        let mut targets = vec![in alloc; 0; self.len()]?;
+        for u in 0..self.patterns.len() as u32 {
+            let row = self.shared_row(u);
+            for i in 0..row.differences.len() {
+                targets[row.start as usize + i] = u.wrapping_add(row.differences[i]);
+            }
+        }
+        Ok(Csr::from_closed(Vec::from_slice(alloc, &self.offsets)?, targets))
+    }
+
+    /// Returns the allocator of the rows.
+    pub fn alloc(&self) -> Global {
+        *self.patterns.allocator()
+    }
+
+    /// Returns the number of arcs.
+    pub fn len(&self) -> usize
+        ensures { result ≡ length self.now.pairs }
+    {
+        self.offsets[self.patterns.len()] as usize
+    }
+
+    /// Returns where each row begins, and after them where the last one ends.
+    pub fn offsets(&self) -> &[u32]
+        ensures rows { IsCsr self.now.blocks (length self.now.pairs) result.now }
+        ensures own { (u k : ℕ) → u < self.now.blocks → k < length self.now.pairs → (first_of self.now.pairs k ≡ u) ↔ ((get_or result.now u 0 ≤ k) × (k < get_or result.now (u + 1) 0)) }
+    {
+        &self.offsets
+    }
+
+    /// Returns the range of places of a block's arcs.
+    pub fn row(&self, u: u32) -> Range<u32>
+        requires { u < self.now.blocks }
+        ensures order { result.start ≤ result.end }
+        ensures inside { result.end ≤ length self.now.pairs }
+        ensures own { (k : ℕ) → k < length self.now.pairs → (first_of self.now.pairs k ≡ u) ↔ ((result.start ≤ k) × (k < result.end)) }
+    {
+        self.offsets[u as usize]..self.offsets[u as usize + 1]
+    }
+
+    /// Returns the row of a block.
+    pub fn shared_row(&self, u: u32) -> SharedRow<'_>
+        requires { u < self.now.blocks }
+        ensures inside { result.start + length result.differences.now ≤ length self.now.pairs }
+        ensures own { (k : ℕ) → k < length self.now.pairs → (first_of self.now.pairs k ≡ u) ↔ ((result.start ≤ k) × (k < result.start + length result.differences.now)) }
+        ensures targets { (i : ℕ) → i < length result.differences.now → target_after u (get_or result.differences.now i 0) ≡ second_of self.now.pairs (result.start + i) }
+    {
+        let start = self.offsets[u as usize];
+        let count = (self.offsets[u as usize + 1] - start) as usize;
+        let pattern = self.patterns[u as usize] as usize;
+        SharedRow {
+            start,
+            differences: &self.differences[pattern..pattern + count],
+        }
+    }
+
+    /// Returns the target of arc `k` of block `u`.
+    pub fn target(&self, u: u32, k: u32) -> u32
+        requires inside { k < length self.now.pairs }
+        requires own { first_of self.now.pairs k ≡ u }
+        ensures { result ≡ second_of self.now.pairs k }
+    {
+        let place = (k - self.offsets[u as usize]) as usize;
+        u.wrapping_add(self.differences[self.patterns[u as usize] as usize + place])
+    }
+}
