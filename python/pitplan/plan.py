@@ -400,22 +400,9 @@ class Plan:
 
 
 def prepared(project: Project, table: Union[pd.DataFrame, Table, None] = None, progress: Progress = silent) -> Plan:
-    """Reads the block model of a checked project, and prepares the mine: grid, block values and slope precedences.
-
-    Parameters
-    ----------
-    project : Project
-        The project.
-    table : DataFrame or Table, optional
-        One row per block, in place of the file of the project, under the column names that the project gives; or a table that was read and checked.
-    progress : Progress
-        Reports the steps; silent by default.
-
-    Raises
-    ------
-    PlanError
-        If the input is not usable, with file, row and column.
-    """
+    """Reads the block model of a checked project, and prepares the mine: grid, block values and slope precedences. `table` has one row per block, in
+    place of the file of the project, under the column names that the project gives; or it was read and checked. Raises PlanError, with file, row and
+    column, if the input is not usable."""
     model = preparation.take(preparation.read_table(project, table, progress), preparation.OF_PLAN)
     with progress.step("computing block values"):
         plan = plan_of(model)

@@ -395,13 +395,8 @@ def demand_each_once(roles: Mapping[str, Role]) -> None:
 
 
 def with_roles(columns: GuessedColumns, roles: Mapping[str, Role], frame: pd.DataFrame) -> GuessedColumns:
-    """Returns guessed columns with other roles for some. A column whose role another one gets is not used.
-
-    Raises
-    ------
-    PlanError
-        If a column does not exist, or a cell size is set without the other two.
-    """
+    """Returns guessed columns with other roles for some. A column whose role another one gets is not used. Raises PlanError if a column does not
+    exist, or a cell size is set without the other two."""
     names = list(map(str, frame.columns))
     for column, role in roles.items():
         if column not in names:

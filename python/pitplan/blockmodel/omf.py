@@ -46,25 +46,12 @@ def is_omf(file: Path, head: bytes) -> bool:
 
 
 def read(file: Path, codes: Sequence[str] = ()) -> tuple[pd.DataFrame, str]:
-    """Reads the block model of a file.
+    """Reads the block model of a file; returns one row per cell, and what was recognised, for a planner. `codes` are attributes that are texts: whole
+    numbers among them are 3, not 3.0.
 
-    Parameters
-    ----------
-    codes : sequence of str
-        Attributes that are texts: whole numbers among them are 3, not 3.0.
-
-    Returns
-    -------
-    frame : DataFrame
-        One row per cell: centroids `x`, `y`, `z` and sizes `xinc`, `yinc`, `zinc` in metres, as floats, then the attributes in their order.
-        Missing numbers are nan, missing texts empty.
-    kind : str
-        What was recognised, for a planner.
-
-    Raises
-    ------
-    PlanError
-        With the file and the object, if it is not OMF 1, is cut or damaged, has no volume or several, or its grid is inclined or too large.
+    Centroids `x`, `y`, `z` and sizes `xinc`, `yinc`, `zinc`, in metres, are floats; the attributes follow in their order. Missing numbers are nan,
+    missing texts empty. Raises PlanError, with the file and the object, if it is not OMF 1, is cut or damaged, has no volume or several, or its grid
+    is inclined or too large.
     """
     try:
         with open(file, "rb") as handle:

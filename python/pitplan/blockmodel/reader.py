@@ -131,15 +131,9 @@ class Table:
 
 
 def read(project: Project) -> Table:
-    """Returns the table of `project.table.file` (text, .gz, .zip, .parquet, .omf or .dm), with the columns that the project names.
-
-    Raises
-    ------
-    PlanError
-        With file, row and column, if a column is missing or a field is not usable.
-    MissingPackage
-        If the package that reads Parquet is not installed.
-    """
+    """Returns the table of `project.table.file` (text, .gz, .zip, .parquet, .omf or .dm), with the columns that the project names. Raises
+    PlanError, with file, row and column, if a column is missing or a field is not usable, and MissingPackage if the package that reads Parquet is
+    not installed."""
     columns = project.table
     codes, wanted = text_columns(project), file_columns(project)
     if text_tables.is_parquet(columns.file):

@@ -32,23 +32,8 @@ Drawing = tuple[str, Callable[[Path], object]]
 
 
 def draw(answer: Answer, tables: dict[str, pd.DataFrame], stage: Path, processes: Optional[int] = None) -> list[str]:
-    """Draws the pictures of shells, and those of pushbacks and schedules if there are any, at the same time.
-
-    Parameters
-    ----------
-    answer : Shells, Pushbacks or Schedule
-    tables : dict
-        Its tables.
-    stage : Path
-        The folder of the pictures.
-    processes : int, optional
-        The most processes at a time; see `Writing`.
-
-    Returns
-    -------
-    list of str
-        The names of the written files, in each format.
-    """
+    """Draws the pictures of shells, and those of pushbacks and schedules if there are any, at the same time: by at most `processes` processes, as in
+    `Writing`. Returns the names of the written files, in each format."""
     shells = answer.as_shells
     figures = shells.plan.project.figures
     formats = figures.formats if figures else ()

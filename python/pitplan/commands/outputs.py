@@ -50,13 +50,7 @@ def remedy(project: Path) -> str:
 
 
 def file_of(out: Optional[Place], default: Path, folder: Folder) -> Path:
-    """Returns the file to write: `out`, or the default if it is None.
-
-    Raises
-    ------
-    PlanError
-        If `out` is a folder, an input, or a file of a plan.
-    """
+    """Returns the file to write: `out`, or the default if it is None. Raises PlanError if `out` is a folder, an input, or a file of a plan."""
     if out is None:
         return default
     path = Path(out)
@@ -68,13 +62,8 @@ def file_of(out: Optional[Place], default: Path, folder: Folder) -> Path:
 
 
 def folder_of(out: Optional[Place], default: Path, folder: Folder, written: Iterable[str] = ()) -> Path:
-    """Returns the folder to write into: `out`, or the default if it is None. `written` are the names of files that go there.
-
-    Raises
-    ------
-    PlanError
-        If `out` is a file, or a written file would replace an input or a file of a plan.
-    """
+    """Returns the folder to write into: `out`, or the default if it is None. `written` are the names of files that go there. Raises PlanError if
+    `out` is a file, or a written file would replace an input or a file of a plan."""
     if out is None:
         return default
     path = Path(out)

@@ -157,27 +157,10 @@ def locked(project: Project, folder: Path) -> Iterator[None]:
 
 @contextmanager
 def begun(project: Project, folder: Path, writing: Writing, planned: Optional[Project] = None) -> Iterator[Run]:
-    """Plans a project and yields the run, whose staged files are moved to the folder if no error is raised. The project is one of them.
-    No other run writes into the folder at the same time.
-
-    Parameters
-    ----------
-    project : Project
-        The project as given, which is recorded.
-    folder : Path
-        Where the files go.
-    writing : Writing
-        How they are written.
-    planned : Project, optional
-        The project that is planned, for example with other factors. Default: `project`.
-
-    Raises
-    ------
-    PlanError
-        If the input is not usable, a file would replace an input, or another run writes into the folder.
-    ProgramError
-        If there is no solver.
-    """
+    """Plans a project and yields the run, whose staged files are moved to the folder if no error is raised. The project is one of them. No other run
+    writes into the folder at the same time. `planned` is the project that is planned, for example with other factors; by default it is the one that
+    is given and recorded. Raises PlanError if the input is not usable, a file would replace an input, or another run writes into the folder, and
+    ProgramError if there is no solver."""
     with locked(project, folder):
         solver = chosen(project.solver)
         # With reblocking the rows are many times those of the blocks, and no command uses them.

@@ -621,13 +621,8 @@ class NotPlain(Exception):
 
 
 def read_parts(file: Path, form: TableFormat, options: Mapping[str, Any]) -> Optional[list[pd.DataFrame]]:
-    """Returns the parts of a table in order; None if it is small or not plain.
-
-    Parameters
-    ----------
-    options : mapping
-        Those of `pandas.read_csv`; `dtype` has the columns of texts.
-    """
+    """Returns the parts of a table in order; None if it is small or not plain. The options are those of `pandas.read_csv`; `dtype` has the columns of
+    texts."""
     if form.encoding != USUAL or form.decimal != "." or form.has_blanks or file.suffix in (".gz", ".zip"):
         return None
     try:

@@ -62,15 +62,11 @@ class Steps:
     cost: np.ndarray
 
     def on(self, block: np.ndarray) -> Steps:
-        """The same steps on given nodes, whose blocks rise and repeat as often as they have nodes.
+        """The same steps on given nodes, whose blocks rise and repeat as often as they have nodes. Raises PlanError if a block has more steps than
+        nodes.
 
-        The steps of a block take its first nodes. Its other nodes cost and yield nothing, and only such nodes depend on them. So at every
-        factor the smallest pit has the same blocks and the same steps as without these nodes.
-
-        Raises
-        ------
-        PlanError
-            If a block has more steps than nodes.
+        The steps of a block take its first nodes. Its other nodes cost and yield nothing, and only such nodes depend on them. So at every factor the
+        smallest pit has the same blocks and the same steps as without these nodes.
         """
         rank = np.arange(len(self.block)) - np.searchsorted(self.block, self.block)
         at = np.searchsorted(block, self.block) + rank
@@ -413,18 +409,8 @@ class Values:
 
 
 def values_of(frame: pd.DataFrame, grid: Grid, project: Project, source: str = "table") -> Values:
-    """Returns the values of the blocks of a checked table, exact except for one rounding to the decimals of the project.
-
-    Parameters
-    ----------
-    source : str
-        How errors name the table.
-
-    Raises
-    ------
-    PlanError
-        If a rock type has no cost, an amount is 10^11 or more, or there are too many nodes.
-    """
+    """Returns the values of the blocks of a checked table, exact except for one rounding to the decimals of the project. Errors name the table by
+    `source`. Raises PlanError if a rock type has no cost, an amount is 10^11 or more, or there are too many nodes."""
     rows = ValuedRows(frame, grid, project, source, Exact.of_floats(frame[project.table.tonnes].to_numpy()))
     feed = rows.feed()
     weighed = [replace(rows, project=way).weighed(feed) for way in project.by_process]

@@ -348,14 +348,8 @@ class ValuedRows:
         return found
 
     def weighed(self, feed: Feed) -> Weighed:
-        """Returns revenue and cost in the project's own process.
-
-        Raises
-        ------
-        PlanError
-            If a rock type has no cost, an amount is 10^11 or more, or hauling ore is so much cheaper than waste, or price participation credits so
-            much, that a cost falls below 0.
-        """
+        """Returns revenue and cost in the project's own process. Raises PlanError if a rock type has no cost, an amount is 10^11 or more, or hauling
+        ore is so much cheaper than waste, or price participation credits so much, that a cost falls below 0."""
         costs, metals = self.project.economics, self.project.metals
         metal = {m.name: self.recovered(m, feed) for m in metals}
         revenue = selling = self.every(Decimal(0))

@@ -99,24 +99,9 @@ def write_mine(stage: Path, folder: Folder, factor: float, progress: Progress) -
 
 
 def write(stage: Path, folder: Folder, factor: float, progress: Progress) -> None:
-    """Writes the audit of a shell: model, precedences, certificate, pit, hashes, record, and the script that checks them.
-
-    Parameters
-    ----------
-    stage : Path
-        The folder to write into.
-    folder : Folder
-        The folder of the plan.
-    factor : float
-        Revenue factor of the shell.
-
-    Raises
-    ------
-    ProgramError
-        If the program refuses the mine.
-    PlanError
-        If the audited pit is not the shell of the plan, or an input of a plan that the library solved has changed.
-    """
+    """Writes the audit of a shell, by its revenue factor, into a stage: model, precedences, certificate, pit, hashes, record, and the script that
+    checks them. Raises ProgramError if the program refuses the mine, and PlanError if the audited pit is not the shell of the plan, or an input of a
+    plan that the library solved has changed."""
     write_mine(stage, folder, factor, progress)
     shutil.copyfile(CHECKER, stage / CHECKER.name)
     options: list[str | Path] = ["--model", stage / MODEL, "--prec", stage / PREC]

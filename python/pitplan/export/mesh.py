@@ -67,18 +67,8 @@ class TriangleMesh:
 
 
 def heights_of(rock: np.ndarray, stage: Stage, grid: Grid) -> Heights:
-    """Returns the heights before and after a stage.
-
-    Parameters
-    ----------
-    rock : array of bool, shape (levels, rows, columns)
-        Whether a cell holds rock; levels from the top.
-
-    Raises
-    ------
-    PlanError
-        If rock remains above a mined cell.
-    """
+    """Returns the heights before and after a stage. `rock` says which cells hold rock, shape (levels, rows, columns); levels from the top. Raises
+    PlanError if rock remains above a mined cell."""
     levels = rock.shape[0]
     before = np.where(rock.any(axis=0), levels - rock.argmax(axis=0), NONE)
     floor = stage.mined[::-1].argmax(axis=0)
@@ -112,18 +102,8 @@ def stepped(heights: Heights) -> TriangleMesh:
 
 
 def domains(heights: Heights, axis: int, step: int) -> tuple[np.ndarray, np.ndarray, np.ndarray]:
-    """Returns the walls between a higher column and a lower one next to it.
-
-    Parameters
-    ----------
-    axis, step : int
-        Where the walls face: east (1, 1), west (1, -1), north (0, 1) or south (0, -1).
-
-    Returns
-    -------
-    tuple of array
-        The lower corner of each wall, its four corners from there, and its bench.
-    """
+    """Returns the walls between a higher column and a lower one next to it: the lower corner of each wall, its four corners from there, and its
+    bench. `axis` and `step` say where the walls face: east (1, 1), west (1, -1), north (0, 1) or south (0, -1)."""
     of_here, of_there = (slice(None, -1), slice(1, None))[::step]
     here, there = (np.moveaxis(heights.after, axis, 0)[part] for part in (of_here, of_there))
     was = np.moveaxis(heights.before, axis, 0)[of_there]
@@ -174,17 +154,8 @@ def volume_under(surface: TriangleMesh) -> float:
 
 
 def of_stage(rock: np.ndarray, stage: Stage, grid: Grid, smooth: bool) -> tuple[TriangleMesh, str]:
-    """Returns the mesh of a stage, and a sentence on the volume between it and the original ground and on that of the mined cells.
-
-    Parameters
-    ----------
-    smooth : bool
-        Smooth the steps of blocks.
-
-    Raises
-    ------
-    PlanError
-        If rock remains above a mined cell, or the two volumes differ by more than the share MESH_VOLUME.
+    """Returns the mesh of a stage, with `smooth` without the steps of blocks, and a sentence on the volume between it and the original ground and on
+    that of the mined cells. Raises PlanError if rock remains above a mined cell, or the two volumes differ by more than the share MESH_VOLUME.
     """
     heights = heights_of(rock, stage, grid)
     untouched = Heights(heights.before, heights.before)
@@ -210,13 +181,8 @@ PACKAGE = "python3-vtk9"
 
 
 def image_of(grid: Grid, cells: dict[str, np.ndarray], purpose: str) -> Any:
-    """Returns vtkImageData in metres with named arrays, shape (cells,). A rotated grid has its direction matrix.
-
-    Raises
-    ------
-    MissingPackage
-        Without VTK; `purpose` is what needs it.
-    """
+    """Returns vtkImageData in metres with named arrays, shape (cells,). A rotated grid has its direction matrix. Raises MissingPackage without VTK;
+    `purpose` is what needs it."""
     vtk = load("vtk", PACKAGE, purpose)
     levels, rows, columns = grid.shape
     west, _, south, _, floor, _ = grid.extent()
@@ -266,19 +232,8 @@ def save(writer: Any, path: Path, data: Any) -> None:
 
 
 def write_stl(path: Path, folder: Folder, shape: Shape) -> list[str]:
-    """Writes the surface of a pit as STL, in metres, or of each pushback or year into the folder `path`.
-
-    Returns
-    -------
-    list of str
-        A sentence on the volume of each surface.
-
-    Raises
-    ------
-    MissingPackage
-        Without VTK.
-    PlanError
-        If the pit is empty, or the volume of a surface differs from that of its blocks.
+    """Writes the surface of a pit as STL, in metres, or of each pushback or year into the folder `path`. Returns a sentence on the volume of each
+    surface. Raises MissingPackage without VTK, and PlanError if the pit is empty, or the volume of a surface differs from that of its blocks.
     """
     vtk = load("vtk", PACKAGE, "export --to stl")
     return write_each(path, folder, shape, "stl", writer_of=lambda: ascii_writer(vtk))

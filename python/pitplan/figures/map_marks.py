@@ -107,28 +107,16 @@ def mark_section_cells(ax: Axes, grid: Grid, row: int, column: int) -> None:
 
 
 def floor_of(grid: Grid, mined: np.ndarray) -> np.ndarray:
-    """Returns the elevation of the pit floor in metres, shape (rows, columns); nan where nothing is mined.
-
-    Parameters
-    ----------
-    mined : array of bool, shape (levels, rows, columns)
-        Whether a cell is mined; levels from the top.
-    """
+    """Returns the elevation of the pit floor in metres, shape (rows, columns); nan where nothing is mined. `mined` says which cells are mined, shape
+    (levels, rows, columns); levels from the top."""
     level = np.arange(grid.shape[0])[:, None, None]
     deepest = np.where(mined, level, -1).max(axis=0)
     return np.where(deepest >= 0, grid.extent()[5] - (deepest + 1) * grid.size[2], np.nan)
 
 
 def contours(ax: Axes, grid: Grid, floor: np.ndarray, over: bool = False) -> int:
-    """Draws contours of the pit floor by benches, some with their elevation; returns the number of benches between two contours.
-
-    Parameters
-    ----------
-    floor : array of float, shape (rows, columns)
-        Elevation of the pit floor in metres; nan outside the pit.
-    over : bool
-        Whether they are drawn over other lines; then they are dotted.
-    """
+    """Draws contours of the pit floor by benches, some with their elevation, dotted if they are drawn over other lines; returns the number of benches
+    between two contours. `floor` is the elevation in metres, nan outside the pit, shape (rows, columns)."""
     west, _, south, _, _, _ = grid.extent()
     size = np.array(grid.size[:2])
     benches = np.unique(floor[np.isfinite(floor)])[::-1]

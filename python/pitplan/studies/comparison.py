@@ -120,13 +120,8 @@ class ComparedRun:
 
 
 def read_runs(folders: Sequence[Path]) -> list[ComparedRun]:
-    """Reads runs of one kind; the first one is the base.
-
-    Raises
-    ------
-    PlanError
-        If a folder has no shells or schedule, two are of different kinds, or their currencies differ.
-    """
+    """Reads runs of one kind; the first one is the base. Raises PlanError if a folder has no shells or schedule, two are of different kinds, or their
+    currencies differ."""
     found = []
     for name, folder in zip(names_of(folders), folders):
         try:
@@ -322,15 +317,9 @@ class BridgeStep:
 
 
 def bridge(base: ComparedRun, other: ComparedRun, npv: Npv, progress: Progress = silent) -> list[BridgeStep]:
-    """Returns the steps from a run to another. The NPVs at both ends are those of the runs; `npv` makes the run of a step.
-
-    The order is that of the sections of a project. Another order divides the difference in another way, since inputs act together.
-
-    Raises
-    ------
-    PlanError
-        If an input file has changed since its run.
-    """
+    """Returns the steps from a run to another. The NPVs at both ends are those of the runs; `npv` makes the run of a step. The order is that of the
+    sections of a project. Another order divides the difference in another way, since inputs act together. Raises PlanError if an input file has
+    changed since its run."""
     for run in (base, other):
         run.demand_inputs()
     folder = common_folder([base, other])

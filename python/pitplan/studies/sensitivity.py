@@ -401,27 +401,9 @@ def solve(
     *,
     processes: Optional[int] = None,
 ) -> Sensitivity:
-    """Solves the cases that have no result in the folder yet, and writes each result when it is found.
-
-    Parameters
-    ----------
-    project : Project
-    folder : Path
-        The output folder; results are in its folder cases.
-    where : Where, optional
-        Where Dask solves. Default: processes of this machine.
-    progress : Progress
-    processes : int, optional
-        The most processes of this machine at a time. Default: one for each processor.
-
-    Raises
-    ------
-    PlanError
-        If the table or a case is not usable.
-    ProgramError
-        If the solver refuses.
-    MissingPackage
-        Without Dask if `where` is given.
+    """Solves the cases that have no result in the folder cases of the output folder yet, and writes each result when it is found. `where` is where
+    Dask solves; by default processes of this machine do, at most `processes` at a time, by default one for each processor. Raises PlanError if the
+    table or a case is not usable, ProgramError if the solver refuses, and MissingPackage without Dask if `where` is given.
     """
 
     found_by, given_project = solver.chosen(project.solver), project

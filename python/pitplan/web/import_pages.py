@@ -119,13 +119,8 @@ class Upload:
 
 
 def upload_of(workspace: Workspace, folder: str, file: str) -> Upload:
-    """Returns the upload of a file into a folder.
-
-    Raises
-    ------
-    WrongForm
-        If a name is wrong or taken, or the format is not in ENDINGS, with the field and the remedy.
-    """
+    """Returns the upload of a file into a folder. Raises WrongForm, with the field and the remedy, if a name is wrong or taken, or the format is not
+    in ENDINGS."""
     folder, file = folder.strip(), with_small_ending(file.strip())
     demand_name("Name of the mine", folder, "north-hill")
     demand_name("Block model", file, "blocks.csv")
@@ -189,15 +184,8 @@ def demand_size(length: int) -> None:
 
 
 async def receive(parts: AsyncIterator[bytes], workspace: Workspace, upload: Upload) -> None:
-    """Writes a file as it comes. It has its name only when it is whole; of one that is cut nothing is left.
-
-    Raises
-    ------
-    WrongForm
-        If it is empty or too large, or if its place has been taken.
-    PlanError
-        If it cannot be written.
-    """
+    """Writes a file as it comes. It has its name only when it is whole; of one that is cut nothing is left. Raises WrongForm if it is empty or too
+    large, or if its place has been taken, and PlanError if it cannot be written."""
     unfinished = workspace.root / UNFINISHED
     try:
         unfinished.mkdir(parents=True, exist_ok=True)

@@ -82,13 +82,7 @@ class News:
 
 
 class Pages:
-    """The pages of a folder.
-
-    Parameters
-    ----------
-    version : str
-        That of pitplan, at the foot of each page.
-    """
+    """The pages of a folder, with the version of pitplan at the foot of each."""
 
     def __init__(self, workspace: Workspace, jobs: Jobs, version: str) -> None:
         self.workspace, self.jobs = workspace, jobs
@@ -378,13 +372,7 @@ class Pages:
 
 
 class PageGroup:
-    """Some of the pages, which share templates, projects and jobs with all others.
-
-    Parameters
-    ----------
-    pages : Pages
-        All other pages of the folder.
-    """
+    """Some of the pages, which share templates, projects and jobs with all others."""
 
     def __init__(self, pages: Pages) -> None:
         self.pages, self.workspace, self.jobs = pages, pages.workspace, pages.jobs

@@ -206,15 +206,8 @@ def raise_limit_of_files() -> None:
 
 
 def serve(settings: Settings) -> None:
-    """Serves the application until it is interrupted.
-
-    Raises
-    ------
-    PlanError
-        If the folder does not exist or the port is taken.
-    MissingPackage
-        Without uvicorn.
-    """
+    """Serves the application until it is interrupted. Raises PlanError if the folder does not exist or the port is taken, and MissingPackage without
+    uvicorn."""
     uvicorn = load("uvicorn", "python3-uvicorn", "serve")
     from uvicorn.protocols.http.h11_impl import H11Protocol
 

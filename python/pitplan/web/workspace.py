@@ -25,13 +25,8 @@ State = tuple[str, int, int, int]
 
 
 class FileCache(Generic[Value]):
-    """Values that were read from files, each by its key. Threads may share it.
-
-    Parameters
-    ----------
-    most : int
-        How many are kept: the one that was asked for longest ago goes first.
-    """
+    """Values that were read from files, each by its key; at most `most` are kept: the one that was asked for longest ago goes first. Threads may
+    share it."""
 
     def __init__(self, most: int) -> None:
         self.most, self.lock = most, threading.Lock()
@@ -46,13 +41,8 @@ class FileCache(Generic[Value]):
         *,
         keeps: Callable[[Value], bool] = lambda value: True,
     ) -> Value:
-        """Returns the value of a key: the kept one if its files are unchanged, otherwise the one that `read` returns, which is kept if `keeps` says so.
-
-        Raises
-        ------
-        PlanError
-            If a file does not exist.
-        """
+        """Returns the value of a key: the kept one if its files are unchanged, otherwise the one that `read` returns, which is kept if `keeps` says
+        so. Raises PlanError if a file does not exist."""
         states = [state_of(file) for file in files]
         with self.lock:
             known = self.entries.get(key)
@@ -168,13 +158,8 @@ class Workspace:
     records: FileCache[Record] = field(default_factory=lambda: FileCache(KEPT), compare=False)
 
     def place(self, name: str) -> Path:
-        """Returns the path of a file or folder by its name.
-
-        Raises
-        ------
-        NotThere
-            If it does not exist, if it is hidden, or if it leads out of the folder by `..` or a symbolic link.
-        """
+        """Returns the path of a file or folder by its name. Raises NotThere if it does not exist, if it is hidden, or if it leads out of the folder
+        by `..` or a symbolic link."""
         refused = NotThere(f"{name}: no such file below the folder that is served")
         if "\0" in name or any(part.startswith(".") for part in Path(name).parts):
             raise refused

@@ -211,15 +211,9 @@ class Solved:
 
 
 def solve(project: Project, folder: Path, request: Request, progress: Progress) -> Solved:
-    """Solves the scenarios that have no result yet, or writes the lists of jobs that do so.
-
-    Raises
-    ------
-    PlanError
-        If the project or a realisation is not usable, or a scenario ends without a result and the request is not partial.
-    MissingPackage
-        Without Dask if it is required, or by block without the library.
-    """
+    """Solves the scenarios that have no result yet, or writes the lists of jobs that do so. Raises PlanError if the project or a realisation is not
+    usable, or a scenario ends without a result and the request is not partial, and MissingPackage without Dask if it is required, or by block without
+    the library."""
     if request.by == store.BLOCK:
         demand_no_factor(request)
     shared = prepare.prepare(project, folder, progress, request.by)

@@ -198,13 +198,8 @@ def demand_same_version(folder: Path, wrote: str) -> None:
 
 
 def read_shared(folder: Path) -> Shared:
-    """Reads the common input of a folder.
-
-    Raises
-    ------
-    PlanError
-        If pitplan scenarios has not written it, another version has, or a file has changed since.
-    """
+    """Reads the common input of a folder. Raises PlanError if pitplan scenarios has not written it, another version has, or a file has changed
+    since."""
     try:
         record = json.loads((folder / RECORD).read_text(encoding="utf-8"))
         demand_same_version(folder, record["pitplan"])

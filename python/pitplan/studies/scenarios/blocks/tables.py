@@ -97,13 +97,8 @@ class CommonInScenario:
         return found
 
     def years(self, planned: NDArray[np.float64]) -> pd.DataFrame:
-        """Returns one row per year of the schedule, with the columns of common_schedule_years.csv.
-
-        Parameters
-        ----------
-        planned : array, shape (periods,)
-            Feed of each year on the mean of all scenarios, in tonnes.
-        """
+        """Returns one row per year of the schedule, with the columns of common_schedule_years.csv. `planned` is the feed of each year on the mean of
+        all scenarios, in tonnes, shape (periods,)."""
         flows, periods, share = self.amounts.flows, self.blocks.periods, self.share
         is_mined, last = self.year < periods, int(self.year[self.year < periods].max(initial=-1)) + 1
         cash = self.amounts.cash(self.project, periods)[

@@ -46,15 +46,8 @@ class WrittenSchedule:
 
 
 def write_answer(shared: Shared, job: Scenario) -> None:
-    """Schedules a scenario, or the mean of all, and writes the result.
-
-    Raises
-    ------
-    PlanError
-        If no schedule is feasible, or it reaches a missing block.
-    KeyboardInterrupt
-        If it is interrupted.
-    """
+    """Schedules a scenario, or the mean of all, and writes the result. Raises PlanError if no schedule is feasible, or it reaches a missing block,
+    and KeyboardInterrupt if it is interrupted."""
     choice.demand_same(shared.solver)
     began = time.perf_counter()
     made = Made.of(shared, job)
