@@ -464,7 +464,7 @@ def notes_of(plan: Plan, price: str) -> list[str]:
         *notes_of_cutoff(plan),
         *(pattern.sentence() for pattern in plan.domains.patterns),
         *plan.values.notes,
-        *notes_of_classes(plan, price),
+        *resource_classes.notes_of(plan.table, project, plan.values.mineralised_waste(BASE_PRICE)[grid.rows], price),
         *summary.of_prices(plan.values.pays, project.metals, grades, project.economics.currency),
         *notes_of_bench_costs(plan),
         *plan.fixed.notes,
@@ -488,12 +488,6 @@ def notes_of_cutoff(plan: Plan) -> list[str]:
         f"{len(plan.values.ore):,} potential ore blocks have a processing node{more}; "
         "the cut-off is re-evaluated at every revenue factor"
     ]
-
-
-def notes_of_classes(plan: Plan, price: str) -> list[str]:
-    """The tonnes of each resource class, and those that would pay but are treated as waste."""
-    pays = plan.values.mineralised_waste(BASE_PRICE)[plan.grid.rows]
-    return resource_classes.notes_of(plan.table, plan.project, pays, price)
 
 
 def notes_of_bench_costs(plan: Plan) -> list[str]:

@@ -205,8 +205,10 @@ def columns_of(frame: pd.DataFrame, hints: Optional[Mapping[str, str]] = None) -
         for key, found in named.items()
         if key in ("id", "rock_type", "domain", "class") or is_number(frame, found.column)
     }
-    if "rock_percent" in named and not is_share(frame, named["rock_percent"].column):
-        del named["rock_percent"]
+    if "rock_percent" in named:
+        share = frame[named["rock_percent"].column]
+        if not (share.between(0, 100) | share.isna()).all():
+            del named["rock_percent"]
     taken = {guess.column for group in (centres, sizes, named) for guess in group.values()}
     metals = [
         metal
@@ -216,7 +218,8 @@ def columns_of(frame: pd.DataFrame, hints: Optional[Mapping[str, str]] = None) -
     texts = tuple(
         name for name in map(str, frame.columns) if not is_number(frame, name) and is_called_like_an_amount(name)
     )
-    return GuessedColumns(centres, sizes if len(sizes) == 3 else {}, named, first_of_each(metals), texts)
+    first = {metal.metal: metal for metal in reversed(metals)}
+    return GuessedColumns(centres, sizes if len(sizes) == 3 else {}, named, tuple(first.values())[::-1], texts)
 
 
 def is_called_like_an_amount(name: str) -> bool:
@@ -231,11 +234,6 @@ def plain_of(name: str) -> str:
 
 def is_number(frame: pd.DataFrame, name: str) -> bool:
     return bool(pd.api.types.is_numeric_dtype(frame[name]))
-
-
-def is_share(frame: pd.DataFrame, name: str) -> bool:
-    """Returns whether the numbers of a column may be percents."""
-    return bool(((frame[name] >= 0) & (frame[name] <= 100) | frame[name].isna()).all())
 
 
 def by_name(plain: dict[str, str], names: str) -> Optional[Guess]:
@@ -302,10 +300,6 @@ def unit_in(hint: str) -> str:
     return next((UNITS[word.replace("/", "")] for word in words if word.replace("/", "") in UNITS and word != "g"), "")
 
 
-def first_of_each(found: list[MetalGuess]) -> tuple[MetalGuess, ...]:
-    return tuple({guess.metal: guess for guess in reversed(found)}.values())[::-1]
-
-
 UNUSED = "unused"
 # The keys of cell sizes along the axes.
 SIZE_ROLES = {"xinc": "x", "yinc": "y", "zinc": "z"}
@@ -340,14 +334,6 @@ class Role:
 
     key: str
     unit: str = ""
-
-    @property
-    def is_metal(self) -> bool:
-        return bool(self.unit)
-
-    @property
-    def needs_numbers(self) -> bool:
-        return self.key not in OF_CODES
 
     @property
     def text(self) -> str:
@@ -425,7 +411,7 @@ def changed(
 
 
 def metals_of(columns: GuessedColumns, roles: Mapping[str, Role], names: list[str]) -> tuple[MetalGuess, ...]:
-    wanted = [MetalGuess(role.key, column, role.unit, WHY) for column, role in roles.items() if role.is_metal]
+    wanted = [MetalGuess(role.key, column, role.unit, WHY) for column, role in roles.items() if role.unit]
     taken = {it.metal for it in wanted}
     kept = [it for it in columns.metals if it.column not in roles and it.metal not in taken]
     return tuple(sorted([*kept, *wanted], key=lambda it: names.index(it.column)))
@@ -648,7 +634,7 @@ def model_of(rows: TableRows, roles: Optional[Mapping[str, Role]] = None) -> Gue
 def demand_roles(rows: TableRows, frame: pd.DataFrame, roles: Mapping[str, Role]) -> None:
     """Raises PlanError, with the row, if a column has text and its role needs numbers."""
     source = TableSource.of(str(rows.file), rows.form.header_row, rows.form.first_row)
-    for name in [name for name, role in roles.items() if role.needs_numbers and holds_texts(frame[name])]:
+    for name in [name for name, role in roles.items() if role.key not in OF_CODES and holds_texts(frame[name])]:
         filled_numbers(frame[name], source, name, may_fill=False)
 
 

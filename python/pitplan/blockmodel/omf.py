@@ -9,6 +9,7 @@ from __future__ import annotations
 
 import json
 import struct
+import uuid
 import zlib
 from dataclasses import dataclass
 from pathlib import Path
@@ -244,17 +245,11 @@ def cells_of(archive: Archive, geometry: dict[str, Any], where: str) -> TensorCe
     if count > MOST_CELLS:
         raise PlanError(f"{archive.file}: {where}: found {count:,} cells, expected at most {MOST_CELLS:,}: reblock it")
     axes = np.stack(list(axes_of(archive, geometry, where)))
-    project = archive.objects.get(str(archive.project)) or archive.objects.get(dashed(archive.project))
+    project = archive.objects.get(archive.project) or archive.objects.get(str(uuid.UUID(archive.project)))
     corner = vector(archive, geometry.get("origin", [0, 0, 0]), f"{where}: origin")
     if isinstance(project, dict):
         corner = corner + vector(archive, project.get("origin", [0, 0, 0]), "project: origin")
     return TensorCells(tuple(side.astype(np.float64) for side in sides), axes, corner, upright(archive, axes, where))
-
-
-def dashed(identifier: str) -> str:
-    """Returns a UUID of 32 digits as it is written in JSON."""
-    ends = (0, 8, 12, 16, 20, 32)
-    return "-".join(identifier[start:end] for start, end in zip(ends, ends[1:]))
 
 
 def axes_of(archive: Archive, geometry: dict[str, Any], where: str) -> Iterator[np.ndarray]:

@@ -198,7 +198,8 @@ def read_as_written(
     fields = Fields(
         [name for name in codes if name == columns.id or name not in wanted],
         [name for name in codes if name != columns.id and name in wanted],
-        {name: text_nulls(columns.rules.nulls.of(name)) for name in numbers},
+        # A column whose other fields are null codes in words is one of numbers.
+        {name: [it for it in columns.rules.nulls.of(name) if not numbers_of_codes([it])] for name in numbers},
     )
     frame = read_columns(file, form, fields)
     form = replace(form, otherwise=Mixed.count - before)
@@ -214,11 +215,6 @@ def with_points(column: pd.Series, nulls: Sequence[str]) -> pd.Series:
     texts = column.astype(object).str.strip()
     is_number = texts.str.fullmatch(DECIMAL_COMMA)
     return texts.str.replace(",", ".", regex=False) if (is_number | texts.isin(nulls)).all() else column
-
-
-def text_nulls(nulls: Sequence[str]) -> list[str]:
-    """Returns the null codes that are not numbers, so that a column with such codes is one of numbers."""
-    return [code for code in nulls if not numbers_of_codes([code])]
 
 
 def notes_of(form: TableFormat, columns: TableColumns) -> list[str]:

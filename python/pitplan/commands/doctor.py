@@ -212,11 +212,8 @@ def lines_of(found: list[Finding]) -> list[str]:
     lines = [f"{it.part:<{width}}{it.found}" for it in found if it.found]
     lacking = [it for it in found if it.remedy]
     for heading, is_wrong in ((REQUIRED, True), (OPTIONAL, False)):
-        said = [f"  {it.part}: {it.remedy}{purpose_of(it)}" for it in lacking if it.is_wrong is is_wrong]
+        mine = [it for it in lacking if it.is_wrong is is_wrong]
+        said = [f"  {it.part}: {it.remedy}{f' ({it.purpose})' if it.purpose else ''}" for it in mine]
         lines += ["", heading, *said] if said else []
     wrong = [it.part for it in lacking if it.is_wrong]
     return [*lines, "", f"pitplan cannot run: {', '.join(wrong)}" if wrong else "pitplan can run"]
-
-
-def purpose_of(finding: Finding) -> str:
-    return f" ({finding.purpose})" if finding.purpose else ""

@@ -176,10 +176,6 @@ class ProjectSource:
         return at_line(self.name, line_of(self.text, at) if self.text else None, why, at)
 
     @property
-    def has_processes(self) -> bool:
-        return "processes" in self.data
-
-    @property
     def metals(self) -> tuple[str, ...]:
         found = self.data.get("metals")
         entries = [it for it in found if isinstance(it, dict)] if isinstance(found, list) else []

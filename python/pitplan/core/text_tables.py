@@ -128,7 +128,8 @@ def layout_by(lines: Sequence[str], separator: str) -> Optional[Layout]:
         return None
     width = Counter(map(len, rows)).most_common(1)[0][0]
     rows = [row for row in rows if len(row) == width]
-    names = next((k for k, row in enumerate(fields) if len(row) == width and are_names(row)), None)
+    are_names = (len(row) == width and sum(map(bool, row)) > 1 and not numbers_in(row) for row in fields)
+    names = next((k for k, is_row in enumerate(are_names) if is_row), None)
     if names is None:
         return None
     usual = median(map(numbers_in, rows))
@@ -155,10 +156,6 @@ def fields_of(line: str, separator: str) -> list[str]:
         return [field.strip() for field in next(csv.reader([line], delimiter=separator), [])]
     except csv.Error:
         return []
-
-
-def are_names(row: list[str]) -> bool:
-    return sum(bool(name) for name in row) > 1 and numbers_in(row) == 0
 
 
 def numbers_in(row: list[str]) -> int:

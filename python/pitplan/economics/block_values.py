@@ -102,15 +102,6 @@ def value_in(way: Way, factor: float) -> np.ndarray:
     return at_factor(factor, way.revenue, way.cost)
 
 
-def most_steps(ways: tuple[Way, ...]) -> np.ndarray:
-    """Returns the block of each node that the steps may take if no cell has more revenue in any process: one per process with a revenue.
-
-    Each step has more revenue than the one before, so a block has no more steps than such processes.
-    """
-    counts = np.sum([way.revenue > 0 for way in ways], axis=0)
-    return np.repeat(np.arange(len(counts)), counts)
-
-
 def steps_of(ways: tuple[Way, ...]) -> Steps:
     """Returns the steps of each cell. The next step leads to the process of more revenue that is better from the least factor on; of several to
     the one with the most revenue.
@@ -404,8 +395,11 @@ class Values:
         return total(gain, product(self.mining, -1000))
 
     def with_shared_nodes(self) -> Values:
-        """Returns the same with nodes that serve every scenario in which no block has more revenue in any process than here."""
-        return replace(self, shared=most_steps(self.by_process)) if self.cutoff == "per_revenue_factor" else self
+        """Returns the same with nodes that serve every scenario in which no block has more revenue in any process than here: of each block one per
+        process with a revenue, since each step has more revenue than the one before."""
+        counts = np.sum([way.revenue > 0 for way in self.by_process], axis=0)
+        nodes = np.repeat(np.arange(len(counts)), counts)
+        return replace(self, shared=nodes) if self.cutoff == PER_REVENUE_FACTOR else self
 
 
 def values_of(frame: pd.DataFrame, grid: Grid, project: Project, source: str = "table") -> Values:
@@ -421,7 +415,11 @@ def values_of(frame: pd.DataFrame, grid: Grid, project: Project, source: str = "
     best = best_way(ways, BASE_PRICE)
     mining, rounding = rows.millionths(rows.mining(), "mining cost")
     hauled, of_haulage = rows.hauled(feed)
-    roundings = {title(what, name): done for it, name in zip(weighed, names) for what, done in it.roundings.items()}
+    roundings = {
+        f"{what} of {name}" if name else what: done
+        for it, name in zip(weighed, names)
+        for what, done in it.roundings.items()
+    }
     values = Values(
         mining=grid.spread(mining),
         by_process=ways,
@@ -467,10 +465,6 @@ def greatest_gains(frame: pd.DataFrame, grid: Grid, project: Project, source: st
         found |= mask & np.array(at_factor(factor, weighed.revenue, weighed.cost) > 0, dtype=bool)
     is_waste = resource_classes.waste_of(frame, project)
     return found if is_waste is None else found & ~is_waste
-
-
-def title(what: str, process: str) -> str:
-    return f"{what} of {process}" if process else what
 
 
 def demand_few_nodes(values: Values, grid: Grid) -> None:

@@ -126,7 +126,9 @@ def smoothed(surface: TriangleMesh) -> TriangleMesh:
     """Returns the mesh smoothed by Taubin's method (1995), which nearly preserves volumes. Corners move by at most MOST along each axis; those at
     the rim of the mesh, which are the sides of the model, stay.
     """
-    sides = sides_of(surface.faces)
+    # The sides of block faces, which are pairs of consecutive triangles, without their diagonals.
+    first, second = surface.faces[::2], surface.faces[1::2]
+    sides = np.concatenate([first[:, [0, 1]], first[:, [1, 2]], second[:, [1, 2]], second[:, [2, 0]]])
     edges, uses = np.unique(np.sort(sides, axis=1), axis=0, return_counts=True)
     ends = np.concatenate([edges, edges[:, ::-1]])
     beside = np.bincount(ends[:, 0], minlength=len(surface.corners))[:, None]
@@ -138,12 +140,6 @@ def smoothed(surface: TriangleMesh) -> TriangleMesh:
         moved[is_free] += by * (total / beside - moved)[is_free]
         moved = np.clip(moved, surface.corners - MOST, surface.corners + MOST)
     return replace(surface, corners=moved)
-
-
-def sides_of(faces: np.ndarray) -> np.ndarray:
-    """Returns the sides of block faces, which are pairs of consecutive triangles, without their diagonals."""
-    first, second = faces[::2], faces[1::2]
-    return np.concatenate([first[:, [0, 1]], first[:, [1, 2]], second[:, [1, 2]], second[:, [2, 0]]])
 
 
 def volume_under(surface: TriangleMesh) -> float:

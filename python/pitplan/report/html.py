@@ -88,6 +88,8 @@ def write(path: Path, folder: Path, project: Project, sensitivity: Optional[Path
     record = read_record(folder)
     found, missing = sensitivity_beside(project, record["inputs"], sensitivity)
     warnings = [note for note in record["notes"] if note.startswith("WARNING")]
+    # A folder of an earlier release has no text of the project that was run.
+    text = folder / project_writer.AS_RUN if project_writer.AS_RUN in record["files"] else project.path
     page = TEMPLATES.get_template("report.html").render(
         **of_answer(folder, project, record),
         **in_words(folder, project, record, found),
@@ -102,8 +104,8 @@ def write(path: Path, folder: Path, project: Project, sensitivity: Optional[Path
         rate=project.shells.discount_rate,
         discounting=IN_WORDS[project.shells.discounting],
         has_fixed=project.constraints is not None,
-        project_file=project_writer.AS_RUN if project_writer.AS_RUN in record["files"] else project.path.name,
-        project_text=text_of(folder, project, record),
+        project_file=text.name,
+        project_text=without_comments(text.read_text(encoding="utf-8")),
         count=len(record["shells"]["revenue_factors"]),
         not_verified=NOT_VERIFIED,
         inputs=record["inputs"],
@@ -128,12 +130,6 @@ def in_words(
         "risks": risks(project, record, shells.loc[selected], cases),
         "table_one": table_one(project, record),
     }
-
-
-def text_of(folder: Path, project: Project, record: dict[str, Any]) -> str:
-    """Returns the text of the project that was run; for a folder of an earlier release that of its file."""
-    path = folder / project_writer.AS_RUN if project_writer.AS_RUN in record["files"] else project.path
-    return without_comments(path.read_text(encoding="utf-8"))
 
 
 def without_comments(text: str) -> str:

@@ -407,15 +407,12 @@ def results(runs: Sequence[ComparedRun]) -> pd.DataFrame:
     """Returns one row per run: NPVs and the amounts of the selected shell or the shown method, and `npv_change` from the first run."""
     rows = []
     for run in runs:
-        names = [*(name for name in RESULTS if name in run.row), *(it for it in run.row.index if is_of_metal(str(it)))]
-        rows.append({"run": run.name} | {str(name): float(run.row[name]) for name in names})
+        of_metals = [it for it in map(str, run.row.index) if it.startswith(("head_grade_", "recovered_"))]
+        names = [*(name for name in RESULTS if name in run.row), *of_metals]
+        rows.append({"run": run.name} | {name: float(run.row[name]) for name in names})
     table = pd.DataFrame(rows)
     table.insert(2, "npv_change", table["npv"] - table["npv"].iloc[0])
     return table
-
-
-def is_of_metal(name: str) -> bool:
-    return name.startswith(("head_grade_", "recovered_"))
 
 
 def periods(runs: Sequence[ComparedRun]) -> pd.DataFrame:
@@ -427,19 +424,14 @@ def periods(runs: Sequence[ComparedRun]) -> pd.DataFrame:
     tables = [of_run(run, count) for run in runs]
     names = [name for name in dict.fromkeys(name for table in tables for name in table) if name not in KEYS]
     tables = [table.reindex(columns=["run", "year", *names]) for table in tables]
-    alike = all(has_periods_of(run, runs[0], count) for run in runs)
+    ends = [run.project.shells.calendar.ends(count) for run in runs]
+    alike = all((it == ends[0]).all() for it in ends)
     for table in tables:
         for name in names:
             change = table[name].to_numpy() - tables[0][name].to_numpy() if alike else np.full(count, np.nan)
             table[f"{name}_change"] = np.round(change, decimals_of(name) or 0) + 0.0
     found = pd.concat(tables, ignore_index=True)
     return found.rename(columns={"year": PERIOD}) if any(run.word == PERIOD for run in runs) else found
-
-
-def has_periods_of(run: ComparedRun, base: ComparedRun, count: int) -> bool:
-    """Returns whether the periods of two runs end at the same times."""
-    ends = [it.project.shells.calendar.ends(count) for it in (run, base)]
-    return bool((ends[0] == ends[1]).all())
 
 
 def of_run(run: ComparedRun, count: int) -> pd.DataFrame:

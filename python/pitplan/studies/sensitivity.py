@@ -367,13 +367,6 @@ class SensitivityInput:
     as_given: Found | None = None
 
 
-def demand_whole(plan: Plan) -> None:
-    """Raises PlanError if the model was cropped, since each case would be cropped differently."""
-    if plan.left_out:
-        why = "is too large for the solver, and each case would be cropped differently: set [table] reblock"
-        raise PlanError(f"{plan.project.table.file}: {why}, or give a smaller model")
-
-
 def answer_all(
     missing: dict[Case, Path],
     asked: SensitivityInput,
@@ -410,7 +403,9 @@ def solve(
     project = replace(project, solver=found_by.by)
     table = reader.read(project)
     plan = prepared(project, table, progress)
-    demand_whole(plan)
+    if plan.left_out:
+        why = "is too large for the solver, and each case would be cropped differently: set [table] reblock"
+        raise PlanError(f"{project.table.file}: {why}, or give a smaller model")
     factor = Shells.solved(plan).selected
     lower = tuple(it for it in project.shells.revenue_factors if it <= factor)
     asked = SensitivityInput(with_factors(project, lower), table, found_by)

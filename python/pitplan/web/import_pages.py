@@ -76,11 +76,6 @@ class Recognised:
     project_hash: str
 
 
-def table_of(job: Job) -> str:
-    """Returns the name of the block model of an import."""
-    return job.words[1].removeprefix("./")
-
-
 # The formats that are taken, by their endings.
 ENDINGS = (".csv", ".csv.gz", ".zip", ".omf", ".dm")
 # The most bytes of a file, and of a part that is written.
@@ -329,7 +324,7 @@ class ImportPages(PageGroup):
 
         form = form_of(request)
         job = self.jobs.read(number_of(form.get("number", "")))
-        roles, file = self.roles_of(job, form), self.workspace.place(table_of(job))
+        roles, file = self.roles_of(job, form), self.workspace.place(job.words[1].removeprefix("./"))
         model = guesses.model_of(self.rows.of(file, [file], lambda: guesses.rows_of(file)), roles)
         text, found = wizard.project_of(model, self.workspace.root / job.project)
         warnings = [it.removeprefix(WARNING) for it in found.warnings]

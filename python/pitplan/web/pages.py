@@ -103,7 +103,7 @@ class Pages:
         )
         self.templates.filters |= {
             "path": quote,
-            "command": command_line,
+            "command": lambda words: shlex.join(["pitplan", *words]),
             "ago": short_time,
             "grouped": results_page.grouped,
         }
@@ -448,10 +448,6 @@ def number_of(text: str) -> int:
     if not (text.isascii() and text.isdigit() and len(text) < 10):
         raise NotThere(f"job {text}: found no number, expected the number of a job: open it from the list of jobs")
     return int(text)
-
-
-def command_line(words: tuple[str, ...]) -> str:
-    return shlex.join(["pitplan", *words])
 
 
 def short_time(iso: Optional[str]) -> str:

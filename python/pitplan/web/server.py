@@ -166,13 +166,6 @@ class Sparing(logging.Filter):
         return is_new
 
 
-def log_sparingly() -> None:
-    """Sets how the libraries below log."""
-    for name in ("asyncio", "uvicorn.error"):
-        logger = logging.getLogger(name)
-        logger.filters = [Sparing()]
-
-
 def impatient(protocol: Any) -> Any:
     """Returns a protocol of uvicorn whose connections close if no request has come after PATIENCE seconds."""
 
@@ -231,7 +224,8 @@ def serve(settings: Settings) -> None:
             ws="none",
             limit_concurrency=MOST_REQUESTS,
         )
-        log_sparingly()
+        for name in ("asyncio", "uvicorn.error"):
+            logging.getLogger(name).filters = [Sparing()]
         # What is printed to standard output is held back until the end.
         tell(f"pitplan serves {root}\n{access.address}\nCtrl-C ends it; jobs go on.")
         with opening(access.address) as page:

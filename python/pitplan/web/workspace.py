@@ -10,7 +10,7 @@ from collections.abc import Callable, Collection, Hashable, Iterator, Sequence
 from dataclasses import dataclass, field
 from datetime import datetime
 from pathlib import Path
-from typing import Any, Generic, TypeVar
+from typing import Generic, TypeVar
 
 from pitplan.config import project_writer, toml_text
 from pitplan.core import layout
@@ -263,7 +263,8 @@ def record_in(path: Path, kind: str) -> Record:
     said = json.loads(path.read_text(encoding="utf-8"))
     if not isinstance(said, dict):
         raise ValueError(path)
-    return Record(kind or kind_of(said), str(said.get("project", "")))
+    of_plan = next((called for key, called in KINDS if key in said), "Pit")
+    return Record(kind or of_plan, str(said.get("project", "")))
 
 
 def is_text(name: str) -> bool:
@@ -274,8 +275,3 @@ def is_text(name: str) -> bool:
 def shown(name: str) -> str:
     """Returns a name with a question mark for each byte that is not UTF-8."""
     return name.encode("utf-8", "replace").decode("utf-8")
-
-
-def kind_of(record: dict[str, Any]) -> str:
-    """Returns what a plan's results are called."""
-    return next((kind for key, kind in KINDS if key in record), "Pit")
