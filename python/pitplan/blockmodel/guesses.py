@@ -16,16 +16,7 @@ import pandas as pd
 from pitplan.config.economics import GRADE_SIGNS
 from pitplan.config.table import GridRules
 from pitplan.core.numeric_fields import TableSource, holds_texts, is_numeric
-from pitplan.core.text_tables import (
-    NUMBER,
-    UNREADABLE,
-    Layout,
-    TableFormat,
-    demand_text,
-    is_parquet,
-    opened,
-    unreadable,
-)
+from pitplan.core.text_tables import NUMBER, UNREADABLE, TableFormat, demand_text, is_parquet, opened, unreadable
 from pitplan.errors import PlanError
 
 from .grid import Places, azimuth_of, of_centres
@@ -53,11 +44,11 @@ class NullGuess:
 
 
 def without_nulls(
-    frame: pd.DataFrame, columns: Iterable[str], layout: Layout
+    frame: pd.DataFrame, columns: Iterable[str], form: TableFormat
 ) -> tuple[pd.DataFrame, dict[str, NullGuess]]:
     """Returns a table with nan for the nulls of columns of numbers, and what was taken for null by column."""
     found, result = {}, frame.copy()
-    declared = declared_defaults(layout)
+    declared = declared_defaults(form)
     for name in columns:
         words = words_of(frame[name])
         if words:
@@ -101,9 +92,9 @@ def number_of(values: np.ndarray, declared: Sequence[float]) -> float | None:
     return least if is_far or least in declared else None
 
 
-def declared_defaults(layout: Layout) -> list[float]:
+def declared_defaults(form: TableFormat) -> list[float]:
     """Returns the negative numbers that a header of Vulcan declares as defaults."""
-    defaults = [row for row in layout.below() if row and "default" in row[0].lower()]
+    defaults = [row for row in form.below() if row and "default" in row[0].lower()]
     return [float(it) for row in defaults for it in row if NUMBER.fullmatch(it) and it.startswith("-")]
 
 
@@ -595,7 +586,7 @@ class TableRows:
         """Returns the table without nulls in all columns except some, and what was guessed of the nulls."""
         if fixed not in self.cleaned:
             wanted = [name for name in self.frame if name not in fixed]
-            clean, nulls = without_nulls(self.frame, wanted, self.form.layout)
+            clean, nulls = without_nulls(self.frame, wanted, self.form)
             self.cleaned[fixed] = numbers_where_all_are(clean), nulls
         return self.cleaned[fixed]
 
@@ -621,7 +612,7 @@ def model_of(rows: TableRows, roles: Optional[Mapping[str, Role]] = None) -> Gue
     rough = with_roles(columns_of(rows.frame), roles, rows.frame)
     fixed = frozenset(guess.column for group in (rough.centres, rough.sizes) for guess in group.values())
     clean, nulls = rows.without_nulls_but(fixed)
-    hints = hints_of(list(clean.columns), rows.form.layout.below())
+    hints = hints_of(list(clean.columns), rows.form.below())
     columns = with_roles(columns_of(clean, hints), roles, clean)
     demand_roles(rows, clean, roles)
     if "id" in columns.named:

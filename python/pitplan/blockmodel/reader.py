@@ -23,7 +23,6 @@ from pitplan.core.text_tables import (
     UNREADABLE,
     USUAL,
     Fields,
-    Layout,
     Mixed,
     TableFormat,
     demand_columns,
@@ -160,7 +159,7 @@ def read_whole(file: Path) -> tuple[pd.DataFrame, TableFormat]:
     """Returns all columns of a file without a project, and its format. Raises PlanError if it is not a table."""
     if read_model := model_reader(file):
         frame, kind = read_model(file, ())
-        return frame, TableFormat(",", ".", USUAL, *ROWS, layout=Layout(",", kind=kind))
+        return frame, TableFormat(",", ".", USUAL, *ROWS, recognised=kind)
     form = recognised(file)
     frame = read_columns(file, form)
     if form.separator != "," and form.decimal == "." and has_decimal_commas(frame, list(frame.columns)):
@@ -173,8 +172,7 @@ def recognised(file: Path, encoding: Optional[str] = None, separator: Optional[s
     """Returns the format of a text, as far as it is not given. Raises PlanError if the file cannot be read."""
     named = encoding or encoding_of(file)
     errors = MIXED if encoding is None and named == USUAL else "strict"
-    found = layout_of(first_lines(file, named, errors), separator)
-    return TableFormat(found.separator, found.decimal, named, found.header_row, found.first_row, errors, found)
+    return replace(layout_of(first_lines(file, named, errors), separator), encoding=named, errors=errors)
 
 
 def format_of(file: Path, columns: TableColumns) -> TableFormat:
@@ -218,7 +216,7 @@ def with_points(column: pd.Series, nulls: Sequence[str]) -> pd.Series:
 
 
 def notes_of(form: TableFormat, columns: TableColumns) -> list[str]:
-    found = [form.layout.said] if form.layout.said else []
+    found = [form.recognised] if form.recognised else []
     if columns.separator is None and form.separator != ",":
         found.append(f"the fields are separated by {NAMES[form.separator]}; [table] separator sets another separator")
     if columns.decimal is None and form.decimal != ".":

@@ -102,7 +102,7 @@ def overview(model: GuessedModel) -> Overview:
     grades = [grade_of(model, metal) for metal in model.columns.metals]
     said += [f"{grade.line}, {metal.why}" for grade, metal in zip(grades, model.columns.metals)]
     said += not_used(model.unused)
-    said += [model.form.layout.said] if model.form.layout.said else []
+    said += [model.form.recognised] if model.form.recognised else []
     said += format_notes(model)
     said += volume_lines(model)
     said += [doubt for grade in grades for doubt in grade.doubts] + warnings_of(model)
