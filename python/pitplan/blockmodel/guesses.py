@@ -438,7 +438,6 @@ class GuessedModel:
     rows: int
 
     def values(self, column: str) -> np.ndarray:
-        """Returns the numbers of a column."""
         return self.frame[column].to_numpy(dtype=np.float64)
 
     def numbers(self, key: str) -> np.ndarray:

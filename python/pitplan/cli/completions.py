@@ -52,7 +52,6 @@ def subcommands_of(top: Parser) -> list[CompletedSubcommand]:
 
 
 def nested(top: Parser) -> dict[str, Parser]:
-    """Returns the parsers of subcommands, by their names."""
     return {
         name: sub
         for action in top._actions

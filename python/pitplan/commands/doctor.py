@@ -35,7 +35,6 @@ class Finding:
 
     Attributes
     ----------
-    part : str
     found : str
         Its version or place; empty if it is missing or cannot be used.
     is_required : bool
@@ -145,7 +144,6 @@ def schedule_program() -> Finding:
 
 
 def of_library(wanted: Library) -> Finding:
-    """Returns a library of Python, which is imported."""
     part, is_required = wanted.module, not wanted.purpose
     try:
         module = importlib.import_module(wanted.module)
@@ -202,7 +200,6 @@ def free_space() -> Finding:
 
 
 def as_records(found: list[Finding]) -> list[dict[str, Any]]:
-    """Returns findings as JSON has them."""
     return [asdict(it) for it in found]
 
 

@@ -57,7 +57,6 @@ def of_shells(shells: Shells, tables: dict[str, pd.DataFrame]) -> Iterator[Drawi
 
 
 def of_pushbacks(answer: Answer) -> Iterator[Drawing]:
-    """Yields the figures of pushbacks, if there are any."""
     if answer.as_pushbacks is not None:
         scene = pushbacks.scene_of(answer.as_pushbacks)
         yield PUSHBACK_PICTURES["pushback_plans"], partial(pushbacks.write_plans, scene)
@@ -65,7 +64,6 @@ def of_pushbacks(answer: Answer) -> Iterator[Drawing]:
 
 
 def of_schedule(answer: Answer, years: pd.DataFrame) -> Iterator[Drawing]:
-    """Yields the figures of a schedule, if there is one."""
     made = answer.as_schedule
     if made is None:
         return

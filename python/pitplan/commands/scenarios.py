@@ -261,6 +261,5 @@ def gather(folder: Place, request: Request = Request(), writing: Writing = Writi
 
 
 def gathered(folder: Path, request: Request, writing: Writing) -> list[str]:
-    """Gathers the answers of a folder; returns notes on them."""
     shared = read_shared(folder)
     return write_schedules(shared, request, writing) if shared.is_by_block else write_pits(shared, request, writing)

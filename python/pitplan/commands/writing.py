@@ -34,7 +34,6 @@ Place = Union[str, Path]
 
 
 def figures(*stems: str) -> dict[str, str]:
-    """The files of figures by their names."""
     return {stem: f"{layout.FIGURES}/{stem}.png" for stem in stems}
 
 

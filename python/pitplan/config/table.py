@@ -121,7 +121,6 @@ class Nulls:
     )
 
     def of(self, column: str) -> tuple[str, ...]:
-        """Returns the null codes of a column."""
         rule = self.by_column.get(column)
         return self.values if rule is None else (*self.values, *rule.values)
 

@@ -292,12 +292,10 @@ class Shells(Answer):
 
     @property
     def as_shells(self) -> Shells:
-        """Itself."""
         return self
 
     @property
     def all_notes(self) -> list[str]:
-        """The notes that the record has."""
         return self.notes
 
     def tables(self) -> dict[str, pd.DataFrame]:

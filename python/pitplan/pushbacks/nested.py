@@ -142,7 +142,6 @@ class Pushbacks(Answer):
 
     @property
     def as_pushbacks(self) -> Pushbacks:
-        """Itself."""
         return self
 
     def tables(self) -> dict[str, pd.DataFrame]:

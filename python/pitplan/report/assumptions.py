@@ -209,7 +209,6 @@ def between(least: Optional[float], most: Optional[float]) -> str:
 
 
 def periods(project: Project) -> Iterator[tuple[str, str]]:
-    """Yields what each entry of `[[periods]]` changes."""
     start = 0
     for entry in project.shells.calendar.periods:
         end = start + entry.years
@@ -314,8 +313,6 @@ CRITERIA = {
 
 
 def of_run(project: Project, record: dict[str, Any], known: dict[str, Topic]) -> Iterator[tuple[str, list[str]]]:
-    """Yields criteria with what the run knows."""
-
     def lines(*names: str) -> list[str]:
         return [f"{item}: {value}" for name in names if name in known for item, value in known[name].rows]
 

@@ -76,7 +76,6 @@ class Column:
 
     @property
     def shown_places(self) -> int:
-        """Decimals where it is shown."""
         return self.unit.places if self.places is None else self.places
 
 

@@ -40,7 +40,6 @@ class ComparedRun:
     ----------
     name : str
         What tables and figures call it.
-    folder : Path
     record : dict
         plan.json.
     project : Project
@@ -183,7 +182,6 @@ class KeyChange:
 
     @property
     def matters(self) -> bool:
-        """Whether it can change results."""
         return self.path[0] not in SILENT
 
     def texts(self) -> tuple[str, str]:

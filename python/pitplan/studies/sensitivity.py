@@ -320,10 +320,8 @@ class Sensitivity:
         That of the base case.
     factor : float
         The selected revenue factor.
-    answers : dict of Case to Found
     keys : dict of Case to str
         Names of the files of results.
-    solver : Solver
     asked : Project
         The project as given.
     """
@@ -439,7 +437,6 @@ def solve(
 
 
 def answer(case: Case, asked: SensitivityInput, path: Path) -> None:
-    """Solves a case and writes its result."""
     write(path, find(case, asked))
 
 

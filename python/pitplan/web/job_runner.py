@@ -28,7 +28,6 @@ class Runner:
         self.state: dict[str, Any] = {"runner": os.getpid(), "began": begun_at(os.getpid())}
 
     def write(self, **more: Any) -> None:
-        """Writes the state with more keys."""
         self.state |= more
         write_json(self.folder / STATE, self.state)
 

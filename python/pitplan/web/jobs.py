@@ -82,7 +82,6 @@ class Job:
     code: Optional[int] = None
 
     def in_state(self, state: dict[str, Any]) -> Job:
-        """Returns the job in the state that its runner has written."""
         return replace(self, **{name: state[name] for name in ("status", "started", "ended", "code") if name in state})
 
     @property

@@ -44,7 +44,6 @@ class OutputPages(PageGroup):
         return RedirectResponse(f"/job?number={job.number}", status_code=303)
 
     def export(self, request: Request) -> Response:
-        """Starts the command that writes an export."""
         form = form_of(request)
         folder, project = self.folder_of(form)
         selected = results_page.record_of(self.workspace.root / folder).get("shells", {}).get("selected")

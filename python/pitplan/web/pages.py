@@ -283,7 +283,6 @@ class Pages:
         return any(layout.figure_of_model(it) == path for it in path.parent.glob("*.toml"))
 
     def static(self, request: Request) -> Response:
-        """The style and the script of all pages."""
         name = request.path_params["name"]
         if name not in STATIC:
             raise NotThere(f"{name}: no such file")

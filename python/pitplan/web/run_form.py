@@ -62,8 +62,6 @@ class WrongForm(PlanError):
 
 @dataclass(frozen=True)
 class AskedCommand:
-    """A command with its words."""
-
     words: tuple[str, ...]
     project: str
     folder: str

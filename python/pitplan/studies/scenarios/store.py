@@ -97,16 +97,12 @@ class Shared:
 
     Attributes
     ----------
-    folder : Path
-    project : Project
     frame : DataFrame
         Tonnes and rock type, one row per block.
-    grid : Grid
     ore : array of int, shape (nodes,)
         The block of each processing node.
     record : dict
         scenarios.json.
-    solver : Solver
     settled : Settled, optional
         The cells that constraints force in and sterilise; None without constraints.
     """
@@ -135,7 +131,6 @@ class Shared:
 
     @property
     def called(self) -> str:
-        """The jobs in words."""
         return "schedules" if self.is_by_block else "scenarios"
 
     @property

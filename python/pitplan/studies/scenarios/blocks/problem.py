@@ -47,13 +47,7 @@ FLOW, EXCESS, PAYS = "flow ", "excess ", "pays"
 
 @dataclass(frozen=True)
 class ScenarioBlocks:
-    """The blocks that may be mined, and the number of periods: the same for all scenarios, so that each can follow the schedule of another.
-
-    Attributes
-    ----------
-    minable : Minable
-    periods : int
-    """
+    """The blocks that may be mined, and the number of periods: the same for all scenarios, so that each can follow the schedule of another."""
 
     minable: Minable
     periods: int

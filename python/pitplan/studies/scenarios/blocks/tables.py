@@ -48,7 +48,6 @@ class CommonInScenario:
     ----------
     year : int array, shape (blocks,)
         The year in which each block is mined, from 0; the number of periods if never.
-    blocks : ScenarioBlocks
     amounts : BlockAmounts
         Amounts of the blocks in the scenario.
     project : Project

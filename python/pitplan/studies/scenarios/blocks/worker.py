@@ -60,8 +60,6 @@ def write_answer(shared: Shared, job: Scenario) -> None:
 
 @dataclass(frozen=True)
 class Made:
-    """A schedule of blocks of a folder, with their amounts."""
-
     shared: Shared
     blocks: ScenarioBlocks
     amounts: BlockAmounts
