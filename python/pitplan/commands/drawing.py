@@ -17,15 +17,7 @@ from pitplan.pits.answer import Answer
 from pitplan.pits.shells import Shells
 from pitplan.scheduling.pushback_schedule import PushbackSchedule
 
-from .writing import (
-    BLOCK_PICTURES,
-    CURVE_PICTURES,
-    GEOLOGY_PICTURES,
-    PICTURES,
-    PRICE_PICTURES,
-    PUSHBACK_PICTURES,
-    SCHEDULE_PICTURES,
-)
+from .writing import BLOCK_PICTURES, GEOLOGY_PICTURES, PICTURES, PRICE_PICTURES, PUSHBACK_PICTURES, SCHEDULE_PICTURES
 
 # The name of a figure, and what draws it into a file.
 Drawing = tuple[str, Callable[[Path], object]]
@@ -53,7 +45,7 @@ def of_shells(shells: Shells, tables: dict[str, pd.DataFrame]) -> Iterator[Drawi
     if kinds:
         yield GEOLOGY_PICTURES["geology"], partial(geology.write_sections, scene, kinds)
     curves = partial(pits.write, tables["grade_tonnage"], project.metals[0])
-    yield CURVE_PICTURES["grade_tonnage"], curves
+    yield PICTURES["grade_tonnage"], curves
 
 
 def of_pushbacks(answer: Answer) -> Iterator[Drawing]:

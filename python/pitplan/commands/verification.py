@@ -9,7 +9,7 @@ import sys
 from collections.abc import Callable, Iterator
 from contextlib import contextmanager, suppress
 from pathlib import Path
-from typing import TYPE_CHECKING, Optional, Union
+from typing import TYPE_CHECKING, Union
 
 import planaudit
 from pitplan.core import paths
@@ -98,23 +98,12 @@ class AuditProcess:
             raise (PackageError if found["package"] else AuditError)(found["error"], found["details"])
         return [Rule(it["name"], it["holds"], tuple(it["differences"]), it["count"]) for it in found["rules"]]
 
-    def end(self) -> None:
+    def close(self) -> None:
         """Ends it, unless it has ended."""
         self.child.kill()
         # Pipes that are closed already cannot be read.
         with suppress(ValueError):
             self.child.communicate()
-
-
-@contextmanager
-def reading_ahead(stage: Path, is_wanted: bool) -> Iterator[Optional[AuditProcess]]:
-    """Yields the process that reads ahead, if it is wanted, and ends it after the body."""
-    process = AuditProcess(stage) if is_wanted else None
-    try:
-        yield process
-    finally:
-        if process is not None:
-            process.end()
 
 
 @contextmanager

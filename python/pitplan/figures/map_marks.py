@@ -84,8 +84,10 @@ def nice_length(most: float) -> float:
     return float(max(step * power for step in (1, 2, 5) if step * power <= most * (1 + SUM_ERROR)))
 
 
-def mark_sections(ax: Axes, grid: Grid, north_of: float, east_of: float) -> None:
-    """Draws the lines of sections with letters at their ends: A from west to east, B from south to north."""
+def mark_section_cells(ax: Axes, grid: Grid, row: int, column: int) -> None:
+    """Draws the lines of sections through the centres of a row from the south and a column from the west, with letters at their ends: A from west to
+    east, B from south to north."""
+    east_of, north_of = (float(axis) for axis in grid.middles(np.array(row * grid.shape[2] + column))[:2])
     west, east, south, north, _, _ = grid.extent()
     look = {"color": SECTION, "linewidth": 1.1, "linestyle": (0, (6, 3))}
     ax.plot([west, east], [north_of, north_of], **look)
@@ -98,12 +100,6 @@ def mark_sections(ax: Axes, grid: Grid, north_of: float, east_of: float) -> None
         ("B'", (east_of, north), (7, -11)),
     ):
         ax.annotate(name, at, xytext=shift, ha="center", **words)
-
-
-def mark_section_cells(ax: Axes, grid: Grid, row: int, column: int) -> None:
-    """Draws the lines of sections through the centres of a row from the south and a column from the west."""
-    east, north = (float(axis) for axis in grid.middles(np.array(row * grid.shape[2] + column))[:2])
-    mark_sections(ax, grid, float(north), float(east))
 
 
 def floor_of(grid: Grid, mined: np.ndarray) -> np.ndarray:

@@ -323,7 +323,7 @@ def of_run(project: Project, record: dict[str, Any], known: dict[str, Topic]) ->
         "Cut-off parameters",
         [
             f"a block is ore if its revenue exceeds the cost of processing and selling it, decided {when}",
-            *of_schedule(record),
+            *(["cut-off grades by process and year: cutoffs.csv"] if "tables/cutoffs.csv" in record["files"] else []),
         ],
     )
     shell = selected_shell(project, record)
@@ -337,7 +337,3 @@ def of_run(project: Project, record: dict[str, Any], known: dict[str, Topic]) ->
     yield "Audits or reviews", [
         f"pits are optimal by a machine-checked proof of the solver; other numbers were {checked}"
     ]
-
-
-def of_schedule(record: dict[str, Any]) -> list[str]:
-    return ["cut-off grades by process and year: cutoffs.csv"] if "tables/cutoffs.csv" in record["files"] else []
