@@ -226,7 +226,7 @@ def write_scenarios(
     with staging.alone(target, *FOLDERS):
         solved = run.solve(project, target, request, writing.progress)
         if solved.start is not None:
-            return solved
+            return ScenarioResult(target, solved.notes, solved.start)
         notes = (*solved.notes, *gathered(target, request, writing))
     warn(notes, PlanWarning)
     return ScenarioResult(target, notes)

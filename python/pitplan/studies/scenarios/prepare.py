@@ -51,8 +51,15 @@ class Models:
 
 
 def prepare(project: Project, folder: Path, progress: Progress, by: str = store.PIT) -> store.Shared:
-    """Reads and checks every realisation, and writes the input of solving. Raises PlanError if an input is not usable; then nothing to solve is
-    written. Raises MissingPackage without the library, if blocks are scheduled."""
+    """Reads and checks every realisation, and writes the input of solving.
+
+    Raises
+    ------
+    PlanError
+        If an input is not usable. Then nothing to solve is written.
+    MissingPackage
+        Without the library, if blocks are scheduled.
+    """
     of_blocks = block_preparation() if by == store.BLOCK else None
     store.demand_same_kind(folder, by)
     store.demand_no_mine(folder)

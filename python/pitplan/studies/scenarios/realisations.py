@@ -46,6 +46,7 @@ class Base:
 
     Attributes
     ----------
+    project : Project
     prepared : Preparation
         The blocks without grades, or with those of all realisations if these are columns of the table.
     lists : dict of str to list of str

@@ -24,7 +24,6 @@ from pitplan.solver.choice import Solver
 from pitplan.studies import dask_pool
 
 from . import prepare, store, worker
-from .result import ScenarioResult
 from .store import PIT, Scenario, Shared
 
 
@@ -195,10 +194,32 @@ def words_of(folder: Path, count: int, solver: Solver) -> dict[str, object]:
     return {**quoted, **logs, "variable": variable, "count": count, "tasks": min(count, MOST_TASKS), "tries": TRIES}
 
 
-def solve(project: Project, folder: Path, request: Request, progress: Progress) -> ScenarioResult:
-    """Solves the scenarios that have no result yet, or writes the lists of jobs that do so. Raises PlanError if the project or a realisation is not
-    usable, or a scenario ends without a result and the request is not partial, and MissingPackage without Dask if it is required, or by block without
-    the library."""
+@dataclass(frozen=True)
+class Solved:
+    """How far the scenarios of a folder are solved.
+
+    Attributes
+    ----------
+    notes : tuple of str
+        Sentences for the planner.
+    start : Path, optional
+        The script to start, for `slurm` and `parallel`, if scenarios have no result yet.
+    """
+
+    notes: tuple[str, ...]
+    start: Optional[Path] = None
+
+
+def solve(project: Project, folder: Path, request: Request, progress: Progress) -> Solved:
+    """Solves the scenarios that have no result yet, or writes the lists of jobs that do so.
+
+    Raises
+    ------
+    PlanError
+        If the project or a realisation is not usable, or a scenario ends without a result and the request is not partial.
+    MissingPackage
+        Without Dask if it is required, or by block without the library.
+    """
     if request.by == store.BLOCK:
         demand_no_factor(request)
     shared = prepare.prepare(project, folder, progress, request.by)
@@ -212,14 +233,14 @@ def solve(project: Project, folder: Path, request: Request, progress: Progress) 
     ]
     if request.where in ("slurm", "parallel"):
         start = write(request.where, folder, missing, shared.solver) if missing else None
-        return ScenarioResult(folder, tuple(notes), start)
+        return Solved(tuple(notes), start)
     if missing:
         outcomes = dask_pool.run(dask_pool.Where(request.where, request.workers), folder, missing, progress)
         ended = notes_of_outcomes(outcomes)
         if any(outcome.status for outcome in outcomes) and not request.partial:
             raise PlanError(f"{'; '.join(ended)}: run again, or gather the others with --partial")
         notes += ended
-    return ScenarioResult(folder, tuple(notes))
+    return Solved(tuple(notes))
 
 
 def notes_of_outcomes(outcomes: list[worker.Outcome]) -> list[str]:

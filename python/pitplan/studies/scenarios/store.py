@@ -97,12 +97,16 @@ class Shared:
 
     Attributes
     ----------
+    folder : Path
+    project : Project
     frame : DataFrame
         Tonnes and rock type, one row per block.
+    grid : Grid
     ore : array of int, shape (nodes,)
         The block of each processing node.
     record : dict
         scenarios.json.
+    solver : Solver
     settled : Settled, optional
         The cells that constraints force in and sterilise; None without constraints.
     """
@@ -131,6 +135,7 @@ class Shared:
 
     @property
     def called(self) -> str:
+        """The jobs in words."""
         return "schedules" if self.is_by_block else "scenarios"
 
     @property
@@ -193,8 +198,13 @@ def demand_same_version(folder: Path, wrote: str) -> None:
 
 
 def read_shared(folder: Path) -> Shared:
-    """Reads the common input of a folder. Raises PlanError if pitplan scenarios has not written it, another version has, or a file has changed
-    since."""
+    """Reads the common input of a folder.
+
+    Raises
+    ------
+    PlanError
+        If pitplan scenarios has not written it, another version has, or a file has changed since.
+    """
     try:
         record = json.loads((folder / RECORD).read_text(encoding="utf-8"))
         demand_same_version(folder, record["pitplan"])

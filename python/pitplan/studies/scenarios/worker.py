@@ -39,10 +39,12 @@ class Outcome:
 
     Attributes
     ----------
+    number : int
     status : int
         0: its result is written; 1 to 4: the program's own; 5: pitplan refused; 75: the program was killed, try again.
     why : str
         The reason if the status is not 0.
+    seconds : float
     """
 
     number: int

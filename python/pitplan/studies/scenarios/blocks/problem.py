@@ -47,7 +47,13 @@ FLOW, EXCESS, PAYS = "flow ", "excess ", "pays"
 
 @dataclass(frozen=True)
 class ScenarioBlocks:
-    """The blocks that may be mined, and the number of periods: the same for all scenarios, so that each can follow the schedule of another."""
+    """The blocks that may be mined, and the number of periods: the same for all scenarios, so that each can follow the schedule of another.
+
+    Attributes
+    ----------
+    minable : Minable
+    periods : int
+    """
 
     minable: Minable
     periods: int

@@ -48,6 +48,7 @@ class CommonInScenario:
     ----------
     year : int array, shape (blocks,)
         The year in which each block is mined, from 0; the number of periods if never.
+    blocks : ScenarioBlocks
     amounts : BlockAmounts
         Amounts of the blocks in the scenario.
     project : Project
@@ -96,8 +97,13 @@ class CommonInScenario:
         return found
 
     def years(self, planned: NDArray[np.float64]) -> pd.DataFrame:
-        """Returns one row per year of the schedule, with the columns of common_schedule_years.csv. `planned` is the feed of each year on the mean of
-        all scenarios, in tonnes, shape (periods,)."""
+        """Returns one row per year of the schedule, with the columns of common_schedule_years.csv.
+
+        Parameters
+        ----------
+        planned : array, shape (periods,)
+            Feed of each year on the mean of all scenarios, in tonnes.
+        """
         flows, periods, share = self.amounts.flows, self.blocks.periods, self.share
         is_mined, last = self.year < periods, int(self.year[self.year < periods].max(initial=-1)) + 1
         cash = self.amounts.cash(self.project, periods)[

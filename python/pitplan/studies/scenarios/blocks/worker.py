@@ -46,8 +46,15 @@ class WrittenSchedule:
 
 
 def write_answer(shared: Shared, job: Scenario) -> None:
-    """Schedules a scenario, or the mean of all, and writes the result. Raises PlanError if no schedule is feasible, or it reaches a missing block,
-    and KeyboardInterrupt if it is interrupted."""
+    """Schedules a scenario, or the mean of all, and writes the result.
+
+    Raises
+    ------
+    PlanError
+        If no schedule is feasible, or it reaches a missing block.
+    KeyboardInterrupt
+        If it is interrupted.
+    """
     choice.demand_same(shared.solver)
     began = time.perf_counter()
     made = Made.of(shared, job)
@@ -60,6 +67,8 @@ def write_answer(shared: Shared, job: Scenario) -> None:
 
 @dataclass(frozen=True)
 class Made:
+    """A schedule of blocks of a folder, with their amounts."""
+
     shared: Shared
     blocks: ScenarioBlocks
     amounts: BlockAmounts
