@@ -231,23 +231,18 @@ def write_stl(path: Path, folder: Folder, shape: Shape) -> list[str]:
     """Writes the surface of a pit as STL, in metres, or of each pushback or year into the folder `path`. Returns a sentence on the volume of each
     surface. Raises MissingPackage without VTK, and PlanError if the pit is empty, or the volume of a surface differs from that of its blocks.
     """
-    vtk = load("vtk", PACKAGE, "export --to stl")
-    return write_each(path, folder, shape, "stl", writer_of=lambda: ascii_writer(vtk))
+    writer = load("vtk", PACKAGE, "export --to stl").vtkSTLWriter()
+    writer.SetFileTypeToASCII()
+    return write_each(path, folder, shape, "stl", writer=writer)
 
 
 def write_obj(path: Path, folder: Folder, shape: Shape) -> list[str]:
     """Writes the same as Wavefront OBJ."""
-    vtk = load("vtk", PACKAGE, "export --to obj")
-    return write_each(path, folder, shape, "obj", writer_of=vtk.vtkOBJWriter)
+    writer = load("vtk", PACKAGE, "export --to obj").vtkOBJWriter()
+    return write_each(path, folder, shape, "obj", writer=writer)
 
 
-def ascii_writer(vtk: Any) -> Any:
-    writer = vtk.vtkSTLWriter()
-    writer.SetFileTypeToASCII()
-    return writer
-
-
-def write_each(path: Path, folder: Folder, shape: Shape, kind: str, *, writer_of: Any) -> list[str]:
+def write_each(path: Path, folder: Folder, shape: Shape, kind: str, *, writer: Any) -> list[str]:
     """Writes a file per stage; returns a sentence on each. The pit of a stage in which nothing is mined has no file."""
     said = []
     for stage in stages_of(folder, shape):
@@ -258,7 +253,7 @@ def write_each(path: Path, folder: Folder, shape: Shape, kind: str, *, writer_of
         surface, told = (
             of_ground(folder, stage, shape) if shape.surface == GROUND else of_pit(place.name, folder, stage)
         )
-        save(writer_of(), place, surface)
+        save(writer, place, surface)
         said.append(f"{place.name}: {told}")
     return said
 

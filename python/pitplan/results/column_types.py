@@ -74,10 +74,6 @@ class Column:
     when: str = ""
     places: Optional[int] = None
 
-    @property
-    def shown_places(self) -> int:
-        return self.unit.places if self.places is None else self.places
-
 
 @dataclass(frozen=True)
 class TableDeclaration:

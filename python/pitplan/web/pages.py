@@ -196,6 +196,7 @@ class Pages:
         }
         results = [it for it in self.workspace.results() if it.project == name]
         jobs = [job for job in self.jobs.all() if job.project == name][:10]
+        figure = layout.figure_of_model(path)
         return self.page(
             "project.html",
             status,
@@ -204,7 +205,7 @@ class Pages:
             editor=editor,
             values=values or FormValues(forms.fields),
             grids=forms.grids | ({grid.kind.name: grid} if grid else {}),
-            figure=self.figure_of(path),
+            figure=self.workspace.name(figure) if figure.is_file() else "",
             commands=list(COMMANDS.values()),
             options=OPTIONS,
             chosen=run_form.CHOSEN,
@@ -272,11 +273,6 @@ class Pages:
         """Returns whether a file belongs to an output folder."""
         above = [it for it in path.parents if it.is_relative_to(self.workspace.root)]
         return any((it / record).is_file() for it in above for record in RECORDS)
-
-    def figure_of(self, project: Path) -> str:
-        """Returns the name of the figure of a project's block model; empty without one."""
-        path = layout.figure_of_model(project)
-        return self.workspace.name(path) if path.is_file() else ""
 
     def is_of_model(self, path: Path) -> bool:
         """Returns whether a file is the figure of the block model of a project."""
