@@ -17,13 +17,14 @@ Lines below `@more NAME` follow the words of that subcommand, argument or option
 
 import pathlib
 import sys
-from typing import Iterable, NamedTuple, Union
+from argparse import Action
+from typing import Iterable, NamedTuple
 
 TOP = pathlib.Path(__file__).resolve().parent.parent
 sys.path.insert(0, str(TOP / "python"))
 
 from pitplan import __version__  # noqa: E402
-from pitplan.cli.completions import CompletedArgument, Option, CompletedSubcommand, options_of, subcommands_of  # noqa: E402
+from pitplan.cli.completions import CompletedSubcommand, has_value, help_of, name_of, options_of, repeats, subcommands_of, words_of  # noqa: E402
 from pitplan.cli.parser import DESCRIPTION, Parser, parser  # noqa: E402
 
 # The longest list of words that stands for a value; a longer one has a name.
@@ -64,31 +65,31 @@ def sentence(text: str) -> str:
     return f"{roff(text[:1].upper() + text[1:]).rstrip('.')}."
 
 
-def value_of(argument: CompletedArgument) -> str:
+def value_of(argument: Action) -> str:
     """The value of an option or argument: its words if they are few, otherwise its name."""
-    words = ",".join(argument.words)
-    if len(argument.words) == 1 or len(words) > WIDEST:
-        return words if len(argument.words) == 1 else argument.name
-    return "{" + words + "}" if words else argument.name
+    count, words = len(words_of(argument)), ",".join(words_of(argument))
+    if count == 1 or len(words) > WIDEST:
+        return words if count == 1 else name_of(argument)
+    return "{" + words + "}" if words else name_of(argument)
 
 
-def on_the_line(argument: CompletedArgument) -> str:
+def on_the_line(argument: Action) -> str:
     """An argument as command lines have it: in brackets if it may be left out, with dots if several may follow."""
-    value = f"[{value_of(argument)}]" if argument.is_optional else value_of(argument)
-    return f"{value} ..." if argument.repeats else value
+    value = f"[{value_of(argument)}]" if argument.nargs == "?" else value_of(argument)
+    return f"{value} ..." if repeats(argument) else value
 
 
-def described(part: Union[CompletedArgument, Option]) -> str:
+def described(part: Action) -> str:
     """What an argument or option is for, and whether it is required."""
-    return sentence(part.help) + (" Required." if isinstance(part, Option) and part.required else "")
+    return sentence(help_of(part)) + (" Required." if part.option_strings and part.required else "")
 
 
-def heading(part: Union[CompletedArgument, Option]) -> str:
+def heading(part: Action) -> str:
     """The line of an option, with all its spellings, or of an argument."""
-    if isinstance(part, CompletedArgument):
+    if not part.option_strings:
         return f"\\fI{value_of(part)}\\fR"
-    value = f" \\fI{value_of(part.value)}\\fR" if part.value else ""
-    return ", ".join(f"\\fB{roff(spelling)}\\fR{value}" for spelling in part.spellings)
+    value = f" \\fI{value_of(part)}\\fR" if has_value(part) else ""
+    return ", ".join(f"\\fB{roff(spelling)}\\fR{value}" for spelling in part.option_strings)
 
 
 def synopsis(known: Parts) -> list[str]:
@@ -96,9 +97,9 @@ def synopsis(known: Parts) -> list[str]:
     for sub in known.subcommands():
         lines.append(f'.SY "pitplan {sub.name}"')
         for option in sub.options:
-            if option.spellings != ("-h", "--help"):
-                spelling = max(option.spellings, key=len)
-                value = f" {value_of(option.value)}" if option.value else ""
+            if option.option_strings != ["-h", "--help"]:
+                spelling = max(option.option_strings, key=len)
+                value = f" {value_of(option)}" if has_value(option) else ""
                 lines.append(f'.BI {roff(spelling)} "{value}"' if option.required else f".OP {roff(spelling)}{value}")
         lines += [f".I {on_the_line(argument)}" for argument in sub.arguments]
     return [*lines, ".SY pitplan", '.BR \\-\\-version " | " \\-\\-help', ".YS"]
@@ -115,15 +116,11 @@ def subcommand_lines(known: Parts, more: dict[str, list[str]]) -> list[str]:
     return lines
 
 
-def name_of(part: Union[CompletedArgument, Option]) -> str:
-    return part.name if isinstance(part, CompletedArgument) else max(part.spellings, key=len).lstrip("-")
-
-
-def part_lines(found: Iterable[tuple[str, Union[CompletedArgument, Option]]], more: dict[str, list[str]]) -> list[str]:
+def part_lines(found: Iterable[tuple[str, Action]], more: dict[str, list[str]]) -> list[str]:
     """Arguments or options, each with its words and the subcommands that take it in these words."""
     named: dict[str, dict[str, dict[str, list[str]]]] = {}
     for sub, part in found:
-        headings = named.setdefault(name_of(part), {})
+        headings = named.setdefault(max(part.option_strings, key=len, default=name_of(part)).lstrip("-"), {})
         headings.setdefault(heading(part), {}).setdefault(described(part), []).append(f"\\fB{sub}\\fR")
     lines = []
     for name, headings in named.items():
@@ -137,16 +134,16 @@ def part_lines(found: Iterable[tuple[str, Union[CompletedArgument, Option]]], mo
 
 def option_lines(known: Parts, more: dict[str, list[str]]) -> list[str]:
     """All options; those of all subcommands are last."""
-    own = [(sub.name, option) for sub in known.subcommands() for option in sub.options if "--help" not in option.spellings]
+    own = [(sub.name, option) for sub in known.subcommands() for option in sub.options if "--help" not in option.option_strings]
     lines = part_lines(own, more)
     for option in options_of(known.top):
-        lines += [".TP", heading(option), sentence(option.help)]
+        lines += [".TP", heading(option), sentence(help_of(option))]
     return lines
 
 
 def argument_lines(known: Parts, more: dict[str, list[str]]) -> list[str]:
     own = [(sub.name, argument) for sub in known.subcommands() for argument in sub.arguments]
-    return part_lines([(sub, argument) for sub, argument in own if len(argument.words) != 1], more)
+    return part_lines([(sub, argument) for sub, argument in own if len(words_of(argument)) != 1], more)
 
 
 SECTIONS = {"@subcommands": subcommand_lines, "@arguments": argument_lines, "@options": option_lines}

@@ -88,15 +88,8 @@ def marks(grid: Grid, cells: NDArray[Any]) -> NDArray[Any]:
 
 
 def of_table(frame: pd.DataFrame, grid: Grid, project: Project, source: str = "table") -> FixedBlocks:
-    """Returns the blocks that `[constraints]` names in a checked table; none without this section.
-
-    Raises
-    ------
-    PlanError
-        If a file is not usable, or a block is both must-mine and excluded.
-    MissingPackage
-        If the package that reads a file is not installed.
-    """
+    """Returns the blocks that `[constraints]` names in a checked table; none without this section. Raises PlanError if a file is not usable, or a
+    block is both must-mine and excluded, and MissingPackage if the package that reads a file is not installed."""
     rules = project.constraints
     if rules is None:
         return NOTHING

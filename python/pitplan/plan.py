@@ -400,22 +400,9 @@ class Plan:
 
 
 def prepared(project: Project, table: Union[pd.DataFrame, Table, None] = None, progress: Progress = silent) -> Plan:
-    """Reads the block model of a checked project, and prepares the mine: grid, block values and slope precedences.
-
-    Parameters
-    ----------
-    project : Project
-        The project.
-    table : DataFrame or Table, optional
-        One row per block, in place of the file of the project, under the column names that the project gives; or a table that was read and checked.
-    progress : Progress
-        Reports the steps; silent by default.
-
-    Raises
-    ------
-    PlanError
-        If the input is not usable, with file, row and column.
-    """
+    """Reads the block model of a checked project, and prepares the mine: grid, block values and slope precedences. `table` has one row per block, in
+    place of the file of the project, under the column names that the project gives; or it was read and checked. Raises PlanError, with file, row and
+    column, if the input is not usable."""
     model = preparation.take(preparation.read_table(project, table, progress), preparation.OF_PLAN)
     with progress.step("computing block values"):
         plan = plan_of(model)
@@ -477,7 +464,7 @@ def notes_of(plan: Plan, price: str) -> list[str]:
         *notes_of_cutoff(plan),
         *(pattern.sentence() for pattern in plan.domains.patterns),
         *plan.values.notes,
-        *notes_of_classes(plan, price),
+        *resource_classes.notes_of(plan.table, project, plan.values.mineralised_waste(BASE_PRICE)[grid.rows], price),
         *summary.of_prices(plan.values.pays, project.metals, grades, project.economics.currency),
         *notes_of_bench_costs(plan),
         *plan.fixed.notes,
@@ -501,12 +488,6 @@ def notes_of_cutoff(plan: Plan) -> list[str]:
         f"{len(plan.values.ore):,} potential ore blocks have a processing node{more}; "
         "the cut-off is re-evaluated at every revenue factor"
     ]
-
-
-def notes_of_classes(plan: Plan, price: str) -> list[str]:
-    """The tonnes of each resource class, and those that would pay but are treated as waste."""
-    pays = plan.values.mineralised_waste(BASE_PRICE)[plan.grid.rows]
-    return resource_classes.notes_of(plan.table, plan.project, pays, price)
 
 
 def notes_of_bench_costs(plan: Plan) -> list[str]:

@@ -96,7 +96,7 @@ def test_a_path_whose_kind_is_unknown_is_an_error():
     top = argparse.ArgumentParser()
     top.add_argument("place", type=Path, metavar="SOMEWHERE")
     with pytest.raises(KeyError, match="SOMEWHERE"):
-        completions.argument_of(top._actions[-1])
+        completions.kind_of(top._actions[-1])
 
 
 @pytest.mark.skipif(not shutil.which("fish"), reason="fish is not installed")

@@ -15,7 +15,7 @@ from pitplan.commands import writing
 from pitplan.commands.writing import BLOCK_PICTURES, FIGURES, PUSHBACK_PICTURES, SCHEDULE_PICTURES
 
 # The project has rock types.
-PICTURES = writing.PICTURES | writing.GEOLOGY_PICTURES | writing.CURVE_PICTURES
+PICTURES = writing.PICTURES | writing.GEOLOGY_PICTURES
 ORE = {"cu": lambda i, j, k: 6 * ((i, j, k) == (2, 2, 1)), "cu2": lambda i, j, k: 3 * ((i, j, k) == (2, 2, 1))}
 MORE = """[pushbacks]
 count = 1

@@ -22,7 +22,7 @@ from pitplan import BudgetUsedUp, PlanError, ProgramError, load
 from pitplan.cli import main
 from pitplan.commands import drawing
 from pitplan.commands.plans import write_plan
-from pitplan.commands.writing import CURVE_PICTURES, GEOLOGY_PICTURES, PICTURES
+from pitplan.commands.writing import GEOLOGY_PICTURES, PICTURES
 from pitplan.core import cell_outlines, libraries
 from pitplan.core.atomic_files import hash_of, write_json
 from pitplan.core.progress import Progress, silent
@@ -42,7 +42,7 @@ def test_shells_write_tables_pictures_and_a_page_that_needs_no_other_file(solved
     pitplan.write_shells(replace(project, solver="program"), writing=pitplan.Writing(Progress(told), verifies=False))
     assert "drawing .." in told.getvalue()
     names = {*files_in(folder)}
-    pictures = {*PICTURES.values(), *GEOLOGY_PICTURES.values(), *CURVE_PICTURES.values()}
+    pictures = {*PICTURES.values(), *GEOLOGY_PICTURES.values()}
     assert (
         names
         == {

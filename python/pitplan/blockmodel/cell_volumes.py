@@ -135,17 +135,8 @@ def demand_one_size(sides: np.ndarray, project: Project, source: str) -> None:
 
 
 def volume_notes(cells: np.ndarray, block: np.ndarray, volume: float) -> list[str]:
-    """Returns a note on the volume that cells fill of their blocks, and a warning if cells overlap or blocks are not full.
-
-    Parameters
-    ----------
-    cells : float array
-        Volumes of the cells in cubic metres.
-    block : int array
-        The block of each cell, from 0.
-    volume : float
-        That of a block.
-    """
+    """Returns a note on the volume that cells fill of their blocks, and a warning if cells overlap or blocks are not full. `cells` are volumes in
+    cubic metres, `block` is the block of each cell, from 0, and `volume` that of a block."""
     share = np.bincount(block, cells) / volume
     full = f"the cells fill {cells.sum():,.0f} of the {len(share) * volume:,.0f} m3 of their blocks"
     over = int(np.count_nonzero(share > MOST_FILLED))

@@ -127,25 +127,12 @@ def is_definition(page: bytes, words: Words) -> bool:
 
 
 def read(file: Path, codes: Sequence[str] = ()) -> tuple[pd.DataFrame, str]:
-    """Reads the block model of a file.
+    """Reads the block model of a file; returns one row per record, and what was recognised, for a planner. `codes` are fields that are texts: whole
+    numbers among them are 3, not 3.0.
 
-    Parameters
-    ----------
-    codes : sequence of str
-        Fields that are texts: whole numbers among them are 3, not 3.0.
-
-    Returns
-    -------
-    frame : DataFrame
-        One row per record. XC, YC, ZC, XINC, YINC and ZINC are the columns `x`, `y`, `z`, `xinc`, `yinc`, `zinc`, in metres; other fields keep their
-        names. Implicit fields have their value in each row. Absent numbers are nan, absent texts empty.
-    kind : str
-        What was recognised, for a planner.
-
-    Raises
-    ------
-    PlanError
-        With the file, and the field or the page, if it is no block model of Datamine, is cut or damaged, or is rotated.
+    XC, YC, ZC, XINC, YINC and ZINC are the columns `x`, `y`, `z`, `xinc`, `yinc`, `zinc`, in metres; other fields keep their names. Implicit fields
+    have their value in each row. Absent numbers are nan, absent texts empty. Raises PlanError, with the file, and the field or the page, if it is no
+    block model of Datamine, is cut or damaged, or is rotated.
     """
     try:
         with open(file, "rb") as handle:

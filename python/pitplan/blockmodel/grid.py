@@ -452,20 +452,9 @@ class Axis:
 
 
 def of_table(frame: pd.DataFrame, project: Project, source: str = "table", any_size: bool = False) -> Grid:
-    """Returns the grid of a checked table, with the azimuth of the project or otherwise that of the centroids.
-
-    Parameters
-    ----------
-    source : str
-        How errors name the table.
-    any_size : bool
-        Whether the grid may have more cells than the solver takes.
-
-    Raises
-    ------
-    PlanError
-        If a centroid lies off the grid, a cell occurs twice, the azimuth is not that of the centroids, or the grid is too large.
-    """
+    """Returns the grid of a checked table, with the azimuth of the project or otherwise that of the centroids. Errors name the table by `source`;
+    with `any_size` the grid may have more cells than the solver takes. Raises PlanError if a centroid lies off the grid, a cell occurs twice, the
+    azimuth is not that of the centroids, or the grid is too large."""
     rules = project.grid
     if rules.azimuth:
         return laid(frame, project, source, any_size, azimuth=rules.azimuth)

@@ -16,16 +16,7 @@ import pandas as pd
 from pitplan.config.economics import GRADE_SIGNS
 from pitplan.config.table import GridRules
 from pitplan.core.numeric_fields import TableSource, holds_texts, is_numeric
-from pitplan.core.text_tables import (
-    NUMBER,
-    UNREADABLE,
-    Layout,
-    TableFormat,
-    demand_text,
-    is_parquet,
-    opened,
-    unreadable,
-)
+from pitplan.core.text_tables import NUMBER, UNREADABLE, TableFormat, demand_text, is_parquet, opened, unreadable
 from pitplan.errors import PlanError
 
 from .grid import Places, azimuth_of, of_centres
@@ -53,11 +44,11 @@ class NullGuess:
 
 
 def without_nulls(
-    frame: pd.DataFrame, columns: Iterable[str], layout: Layout
+    frame: pd.DataFrame, columns: Iterable[str], form: TableFormat
 ) -> tuple[pd.DataFrame, dict[str, NullGuess]]:
     """Returns a table with nan for the nulls of columns of numbers, and what was taken for null by column."""
     found, result = {}, frame.copy()
-    declared = declared_defaults(layout)
+    declared = declared_defaults(form)
     for name in columns:
         words = words_of(frame[name])
         if words:
@@ -101,9 +92,9 @@ def number_of(values: np.ndarray, declared: Sequence[float]) -> float | None:
     return least if is_far or least in declared else None
 
 
-def declared_defaults(layout: Layout) -> list[float]:
+def declared_defaults(form: TableFormat) -> list[float]:
     """Returns the negative numbers that a header of Vulcan declares as defaults."""
-    defaults = [row for row in layout.below() if row and "default" in row[0].lower()]
+    defaults = [row for row in form.below() if row and "default" in row[0].lower()]
     return [float(it) for row in defaults for it in row if NUMBER.fullmatch(it) and it.startswith("-")]
 
 
@@ -205,8 +196,10 @@ def columns_of(frame: pd.DataFrame, hints: Optional[Mapping[str, str]] = None) -
         for key, found in named.items()
         if key in ("id", "rock_type", "domain", "class") or is_number(frame, found.column)
     }
-    if "rock_percent" in named and not is_share(frame, named["rock_percent"].column):
-        del named["rock_percent"]
+    if "rock_percent" in named:
+        share = frame[named["rock_percent"].column]
+        if not (share.between(0, 100) | share.isna()).all():
+            del named["rock_percent"]
     taken = {guess.column for group in (centres, sizes, named) for guess in group.values()}
     metals = [
         metal
@@ -216,7 +209,8 @@ def columns_of(frame: pd.DataFrame, hints: Optional[Mapping[str, str]] = None) -
     texts = tuple(
         name for name in map(str, frame.columns) if not is_number(frame, name) and is_called_like_an_amount(name)
     )
-    return GuessedColumns(centres, sizes if len(sizes) == 3 else {}, named, first_of_each(metals), texts)
+    first = {metal.metal: metal for metal in reversed(metals)}
+    return GuessedColumns(centres, sizes if len(sizes) == 3 else {}, named, tuple(first.values())[::-1], texts)
 
 
 def is_called_like_an_amount(name: str) -> bool:
@@ -231,11 +225,6 @@ def plain_of(name: str) -> str:
 
 def is_number(frame: pd.DataFrame, name: str) -> bool:
     return bool(pd.api.types.is_numeric_dtype(frame[name]))
-
-
-def is_share(frame: pd.DataFrame, name: str) -> bool:
-    """Returns whether the numbers of a column may be percents."""
-    return bool(((frame[name] >= 0) & (frame[name] <= 100) | frame[name].isna()).all())
 
 
 def by_name(plain: dict[str, str], names: str) -> Optional[Guess]:
@@ -302,10 +291,6 @@ def unit_in(hint: str) -> str:
     return next((UNITS[word.replace("/", "")] for word in words if word.replace("/", "") in UNITS and word != "g"), "")
 
 
-def first_of_each(found: list[MetalGuess]) -> tuple[MetalGuess, ...]:
-    return tuple({guess.metal: guess for guess in reversed(found)}.values())[::-1]
-
-
 UNUSED = "unused"
 # The keys of cell sizes along the axes.
 SIZE_ROLES = {"xinc": "x", "yinc": "y", "zinc": "z"}
@@ -340,14 +325,6 @@ class Role:
 
     key: str
     unit: str = ""
-
-    @property
-    def is_metal(self) -> bool:
-        return bool(self.unit)
-
-    @property
-    def needs_numbers(self) -> bool:
-        return self.key not in OF_CODES
 
     @property
     def text(self) -> str:
@@ -395,13 +372,8 @@ def demand_each_once(roles: Mapping[str, Role]) -> None:
 
 
 def with_roles(columns: GuessedColumns, roles: Mapping[str, Role], frame: pd.DataFrame) -> GuessedColumns:
-    """Returns guessed columns with other roles for some. A column whose role another one gets is not used.
-
-    Raises
-    ------
-    PlanError
-        If a column does not exist, or a cell size is set without the other two.
-    """
+    """Returns guessed columns with other roles for some. A column whose role another one gets is not used. Raises PlanError if a column does not
+    exist, or a cell size is set without the other two."""
     names = list(map(str, frame.columns))
     for column, role in roles.items():
         if column not in names:
@@ -430,7 +402,7 @@ def changed(
 
 
 def metals_of(columns: GuessedColumns, roles: Mapping[str, Role], names: list[str]) -> tuple[MetalGuess, ...]:
-    wanted = [MetalGuess(role.key, column, role.unit, WHY) for column, role in roles.items() if role.is_metal]
+    wanted = [MetalGuess(role.key, column, role.unit, WHY) for column, role in roles.items() if role.unit]
     taken = {it.metal for it in wanted}
     kept = [it for it in columns.metals if it.column not in roles and it.metal not in taken]
     return tuple(sorted([*kept, *wanted], key=lambda it: names.index(it.column)))
@@ -466,7 +438,6 @@ class GuessedModel:
     rows: int
 
     def values(self, column: str) -> np.ndarray:
-        """Returns the numbers of a column."""
         return self.frame[column].to_numpy(dtype=np.float64)
 
     def numbers(self, key: str) -> np.ndarray:
@@ -614,7 +585,7 @@ class TableRows:
         """Returns the table without nulls in all columns except some, and what was guessed of the nulls."""
         if fixed not in self.cleaned:
             wanted = [name for name in self.frame if name not in fixed]
-            clean, nulls = without_nulls(self.frame, wanted, self.form.layout)
+            clean, nulls = without_nulls(self.frame, wanted, self.form)
             self.cleaned[fixed] = numbers_where_all_are(clean), nulls
         return self.cleaned[fixed]
 
@@ -640,7 +611,7 @@ def model_of(rows: TableRows, roles: Optional[Mapping[str, Role]] = None) -> Gue
     rough = with_roles(columns_of(rows.frame), roles, rows.frame)
     fixed = frozenset(guess.column for group in (rough.centres, rough.sizes) for guess in group.values())
     clean, nulls = rows.without_nulls_but(fixed)
-    hints = hints_of(list(clean.columns), rows.form.layout.below())
+    hints = hints_of(list(clean.columns), rows.form.below())
     columns = with_roles(columns_of(clean, hints), roles, clean)
     demand_roles(rows, clean, roles)
     if "id" in columns.named:
@@ -653,7 +624,7 @@ def model_of(rows: TableRows, roles: Optional[Mapping[str, Role]] = None) -> Gue
 def demand_roles(rows: TableRows, frame: pd.DataFrame, roles: Mapping[str, Role]) -> None:
     """Raises PlanError, with the row, if a column has text and its role needs numbers."""
     source = TableSource.of(str(rows.file), rows.form.header_row, rows.form.first_row)
-    for name in [name for name, role in roles.items() if role.needs_numbers and holds_texts(frame[name])]:
+    for name in [name for name, role in roles.items() if role.key not in OF_CODES and holds_texts(frame[name])]:
         filled_numbers(frame[name], source, name, may_fill=False)
 
 

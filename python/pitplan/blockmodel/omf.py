@@ -9,6 +9,7 @@ from __future__ import annotations
 
 import json
 import struct
+import uuid
 import zlib
 from dataclasses import dataclass
 from pathlib import Path
@@ -46,25 +47,12 @@ def is_omf(file: Path, head: bytes) -> bool:
 
 
 def read(file: Path, codes: Sequence[str] = ()) -> tuple[pd.DataFrame, str]:
-    """Reads the block model of a file.
+    """Reads the block model of a file; returns one row per cell, and what was recognised, for a planner. `codes` are attributes that are texts: whole
+    numbers among them are 3, not 3.0.
 
-    Parameters
-    ----------
-    codes : sequence of str
-        Attributes that are texts: whole numbers among them are 3, not 3.0.
-
-    Returns
-    -------
-    frame : DataFrame
-        One row per cell: centroids `x`, `y`, `z` and sizes `xinc`, `yinc`, `zinc` in metres, as floats, then the attributes in their order.
-        Missing numbers are nan, missing texts empty.
-    kind : str
-        What was recognised, for a planner.
-
-    Raises
-    ------
-    PlanError
-        With the file and the object, if it is not OMF 1, is cut or damaged, has no volume or several, or its grid is inclined or too large.
+    Centroids `x`, `y`, `z` and sizes `xinc`, `yinc`, `zinc`, in metres, are floats; the attributes follow in their order. Missing numbers are nan,
+    missing texts empty. Raises PlanError, with the file and the object, if it is not OMF 1, is cut or damaged, has no volume or several, or its grid
+    is inclined or too large.
     """
     try:
         with open(file, "rb") as handle:
@@ -257,17 +245,11 @@ def cells_of(archive: Archive, geometry: dict[str, Any], where: str) -> TensorCe
     if count > MOST_CELLS:
         raise PlanError(f"{archive.file}: {where}: found {count:,} cells, expected at most {MOST_CELLS:,}: reblock it")
     axes = np.stack(list(axes_of(archive, geometry, where)))
-    project = archive.objects.get(str(archive.project)) or archive.objects.get(dashed(archive.project))
+    project = archive.objects.get(archive.project) or archive.objects.get(str(uuid.UUID(archive.project)))
     corner = vector(archive, geometry.get("origin", [0, 0, 0]), f"{where}: origin")
     if isinstance(project, dict):
         corner = corner + vector(archive, project.get("origin", [0, 0, 0]), "project: origin")
     return TensorCells(tuple(side.astype(np.float64) for side in sides), axes, corner, upright(archive, axes, where))
-
-
-def dashed(identifier: str) -> str:
-    """Returns a UUID of 32 digits as it is written in JSON."""
-    ends = (0, 8, 12, 16, 20, 32)
-    return "-".join(identifier[start:end] for start, end in zip(ends, ends[1:]))
 
 
 def axes_of(archive: Archive, geometry: dict[str, Any], where: str) -> Iterator[np.ndarray]:

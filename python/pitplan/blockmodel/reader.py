@@ -23,7 +23,6 @@ from pitplan.core.text_tables import (
     UNREADABLE,
     USUAL,
     Fields,
-    Layout,
     Mixed,
     TableFormat,
     demand_columns,
@@ -131,15 +130,9 @@ class Table:
 
 
 def read(project: Project) -> Table:
-    """Returns the table of `project.table.file` (text, .gz, .zip, .parquet, .omf or .dm), with the columns that the project names.
-
-    Raises
-    ------
-    PlanError
-        With file, row and column, if a column is missing or a field is not usable.
-    MissingPackage
-        If the package that reads Parquet is not installed.
-    """
+    """Returns the table of `project.table.file` (text, .gz, .zip, .parquet, .omf or .dm), with the columns that the project names. Raises
+    PlanError, with file, row and column, if a column is missing or a field is not usable, and MissingPackage if the package that reads Parquet is
+    not installed."""
     columns = project.table
     codes, wanted = text_columns(project), file_columns(project)
     if text_tables.is_parquet(columns.file):
@@ -166,7 +159,7 @@ def read_whole(file: Path) -> tuple[pd.DataFrame, TableFormat]:
     """Returns all columns of a file without a project, and its format. Raises PlanError if it is not a table."""
     if read_model := model_reader(file):
         frame, kind = read_model(file, ())
-        return frame, TableFormat(",", ".", USUAL, *ROWS, layout=Layout(",", kind=kind))
+        return frame, TableFormat(",", ".", USUAL, *ROWS, recognised=kind)
     form = recognised(file)
     frame = read_columns(file, form)
     if form.separator != "," and form.decimal == "." and has_decimal_commas(frame, list(frame.columns)):
@@ -179,8 +172,7 @@ def recognised(file: Path, encoding: Optional[str] = None, separator: Optional[s
     """Returns the format of a text, as far as it is not given. Raises PlanError if the file cannot be read."""
     named = encoding or encoding_of(file)
     errors = MIXED if encoding is None and named == USUAL else "strict"
-    found = layout_of(first_lines(file, named, errors), separator)
-    return TableFormat(found.separator, found.decimal, named, found.header_row, found.first_row, errors, found)
+    return replace(layout_of(first_lines(file, named, errors), separator), encoding=named, errors=errors)
 
 
 def format_of(file: Path, columns: TableColumns) -> TableFormat:
@@ -204,7 +196,8 @@ def read_as_written(
     fields = Fields(
         [name for name in codes if name == columns.id or name not in wanted],
         [name for name in codes if name != columns.id and name in wanted],
-        {name: text_nulls(columns.rules.nulls.of(name)) for name in numbers},
+        # A column whose other fields are null codes in words is one of numbers.
+        {name: [it for it in columns.rules.nulls.of(name) if not numbers_of_codes([it])] for name in numbers},
     )
     frame = read_columns(file, form, fields)
     form = replace(form, otherwise=Mixed.count - before)
@@ -222,13 +215,8 @@ def with_points(column: pd.Series, nulls: Sequence[str]) -> pd.Series:
     return texts.str.replace(",", ".", regex=False) if (is_number | texts.isin(nulls)).all() else column
 
 
-def text_nulls(nulls: Sequence[str]) -> list[str]:
-    """Returns the null codes that are not numbers, so that a column with such codes is one of numbers."""
-    return [code for code in nulls if not numbers_of_codes([code])]
-
-
 def notes_of(form: TableFormat, columns: TableColumns) -> list[str]:
-    found = [form.layout.said] if form.layout.said else []
+    found = [form.recognised] if form.recognised else []
     if columns.separator is None and form.separator != ",":
         found.append(f"the fields are separated by {NAMES[form.separator]}; [table] separator sets another separator")
     if columns.decimal is None and form.decimal != ".":

@@ -126,13 +126,14 @@ def of_counts(table: Table, project: Project, counts: tuple[int, int, int]) -> L
 
 def of_corner(table: Table, project: Project, rules: Reblock) -> Lattice:
     """Combines the rows whose centroids lie in blocks of a size from a corner."""
-    columns, places = project.table, []
-    demand_apart(table, project)
-    x, y, z = (table.frame[name].to_numpy() for name in (columns.x, columns.y, columns.z))
+    axes, places = [project.table.x, project.table.y, project.table.z], []
+    twice = table.frame.duplicated(axes).to_numpy()
+    demand_none(twice, table.source, ", ".join(axes), "another row has the same centroid")
+    x, y, z = (table.frame[name].to_numpy() for name in axes)
     frame = Frame(rules.corner[0], rules.corner[1], project.grid.azimuth or 0.0)
     # A turned grid counts from the corner.
     edge = [0.0, 0.0, rules.corner[2]] if frame.azimuth else list(rules.corner)
-    for k, (name, along) in enumerate(zip((columns.x, columns.y, columns.z), (*frame.along(x, y), z))):
+    for k, (name, along) in enumerate(zip(axes, (*frame.along(x, y), z))):
         steps = (along - edge[k]) / rules.size[k]
         between = np.abs(steps - np.rint(steps)) * rules.size[k] <= project.grid.tolerance
         size, corner = (metres(it[k]) for it in (rules.size, rules.corner))
@@ -148,13 +149,6 @@ def lattice_of(edge: Sequence[float], size: Sequence[float], places: Sequence[np
     """Returns the lattice from its edge at the west, the south and the floor."""
     (x, y, z), (east, north, up), (column, row, level) = edge, size, places
     return Lattice((x + east / 2, y + north / 2, z + up / 2), (east, north, up), (column, row, level), frame)
-
-
-def demand_apart(table: Table, project: Project) -> None:
-    """Raises PlanError for two rows with one centroid."""
-    columns = [project.table.x, project.table.y, project.table.z]
-    twice = table.frame.duplicated(columns).to_numpy()
-    demand_none(twice, table.source, ", ".join(columns), "another row has the same centroid")
 
 
 def parts_of(tonnes: np.ndarray, lattice: Lattice) -> tuple[np.ndarray, Parts]:

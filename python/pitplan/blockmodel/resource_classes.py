@@ -52,15 +52,8 @@ def demand_accepted(frame: pd.DataFrame, project: Project, source: str) -> None:
 
 
 def notes_of(frame: pd.DataFrame, project: Project, pays: np.ndarray, price: str) -> list[str]:
-    """Returns the tonnes and the treatment of each class, and a warning if classes are waste only by default.
-
-    Parameters
-    ----------
-    frame : DataFrame
-        The blocks.
-    pays : array of bool
-        Whether each block is treated as waste and would pay for its processing at `price`, which the notes name.
-    """
+    """Returns the tonnes and the treatment of each class, and a warning if classes are waste only by default. `pays` says of each block whether it is
+    treated as waste and would pay for its processing at `price`, which the notes name."""
     if project.table.resource_class is None:
         return []
     numbers, codes = codes_of(frame, project)

@@ -136,7 +136,6 @@ def has_no_blanks(fields: np.ndarray) -> bool:
 
 
 def numbers_of_codes(nulls: Iterable[str]) -> list[float]:
-    """Returns the null codes that are numbers."""
     found = pd.to_numeric(pd.Series(list(nulls), dtype=object), errors="coerce")
     return [float(it) for it in found.dropna()]
 

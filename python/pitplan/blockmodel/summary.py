@@ -46,15 +46,8 @@ def of_tonnes(tonnes: np.ndarray, grid: Grid) -> list[str]:
 
 
 def of_prices(pays: np.ndarray, metals: Sequence[Metal], grades: Sequence[np.ndarray], currency: str) -> list[str]:
-    """Warns if processing pays in no block with metal, or if a price in USD is usual in another unit.
-
-    Parameters
-    ----------
-    pays : bool array
-        Whether a block pays for its processing.
-    grades : sequence of float array
-        Of each metal the grade of each block.
-    """
+    """Warns if processing pays in no block with metal, or if a price in USD is usual in another unit. `pays` says of each block whether it pays for
+    its processing; `grades` has of each metal the grade of each block."""
     with_metal = int(np.any([grade > 0 for grade in grades], axis=0).sum())
     if not with_metal:
         return []

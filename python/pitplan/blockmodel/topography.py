@@ -237,11 +237,8 @@ def cut_by_topography(
     reader is not installed.
     """
     read, found = surveyed(file, file.state, (grid.shape, grid.origin, grid.size, grid.azimuth))
-    place = grid.rows % grid.per_level
-    if (found.covered[place] <= SUM_ERROR).all():
-        raise PlanError(f"{file.path}: covers no block: {beside(read.points, grid)}")
-    demand_one_height(found, grid, file.path)
-    share = found.share[grid.shape[0] - 1 - grid.rows // grid.per_level, place]
+    demand_usable(found, read, grid, file.path)
+    share = found.share[grid.shape[0] - 1 - grid.rows // grid.per_level, grid.rows % grid.per_level]
     before = frame[project.table.tonnes].to_numpy()
     after = np.where(share < 1, (before * share).round(TONNES_PLACES), before)
     if not after.any():
@@ -269,7 +266,10 @@ def surveyed(file: SurveyFile, state: tuple[tuple[int, int], ...], box: GridBox)
     return read, below(triangles, grid)
 
 
-def demand_one_height(found: Below, grid: Grid, file: Path) -> None:
+def demand_usable(found: Below, read: Topography, grid: Grid, file: Path) -> None:
+    """Raises PlanError if a topography covers no block of the rows, or has several heights at a place."""
+    if (found.covered[grid.rows % grid.per_level] <= SUM_ERROR).all():
+        raise PlanError(f"{file}: covers no block: {beside(read.points, grid)}")
     twice = np.flatnonzero(found.covered > 1 + SLIP)
     if len(twice):
         x, y, _ = grid.centres(twice[:1])
@@ -365,12 +365,9 @@ def by_volumes(grid: Grid, original: SurveyFile, surface: SurveyFile) -> GroundS
     """Returns the shares by the volumes below both surfaces. A column that a surface does not cover lies wholly below it."""
     box = (grid.shape, grid.origin, grid.size, grid.azimuth)
     (_, ground), (read, mined) = (surveyed(file, file.state, box) for file in (original, surface))
-    level, place = grid.shape[0] - 1 - grid.rows // grid.per_level, grid.rows % grid.per_level
-    if (mined.covered[place] <= SUM_ERROR).all():
-        raise PlanError(f"{surface.path}: covers no block: {beside(read.points, grid)}")
-    demand_one_height(mined, grid, surface.path)
-    whole = ground.share[level, place]
-    return GroundShares(whole, np.minimum(whole, mined.share[level, place]), tuple(read.notes))
+    demand_usable(mined, read, grid, surface.path)
+    place = grid.shape[0] - 1 - grid.rows // grid.per_level, grid.rows % grid.per_level
+    return GroundShares(ground.share[place], np.minimum(ground.share[place], mined.share[place]), tuple(read.notes))
 
 
 def by_centres(grid: Grid, file: SurveyFile) -> GroundShares:

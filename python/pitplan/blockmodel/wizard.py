@@ -6,7 +6,7 @@ from __future__ import annotations
 import json
 import os
 from collections.abc import Callable, Mapping
-from dataclasses import dataclass, field
+from dataclasses import dataclass
 from pathlib import Path
 from typing import Any, Optional
 
@@ -102,7 +102,7 @@ def overview(model: GuessedModel) -> Overview:
     grades = [grade_of(model, metal) for metal in model.columns.metals]
     said += [f"{grade.line}, {metal.why}" for grade, metal in zip(grades, model.columns.metals)]
     said += not_used(model.unused)
-    said += [model.form.layout.said] if model.form.layout.said else []
+    said += [model.form.recognised] if model.form.recognised else []
     said += format_notes(model)
     said += volume_lines(model)
     said += [doubt for grade in grades for doubt in grade.doubts] + warnings_of(model)
@@ -240,32 +240,24 @@ CLASSES = {"1": "measured", "2": "indicated", "3": "inferred"}
 Draw = Callable[[GuessedModel, Path], None]
 
 
-@dataclass(frozen=True)
-class Choices:
-    """What a planner chooses for a new project.
-
-    Attributes
-    ----------
-    roles : dict of str to Role
-        By column, in place of the guess.
-    replaces : bool
-        Whether an existing project is replaced.
-    """
-
-    roles: Mapping[str, Role] = field(default_factory=dict)
-    replaces: bool = False
-
-
-def write_project(file: Path, out: Path, draw: Optional[Draw] = None, choices: Choices = Choices()) -> WrittenProject:
-    """Writes a project for a table, and a figure of the block model if `draw` is given, which writes it to a path.
+def write_project(
+    file: Path,
+    out: Path,
+    draw: Optional[Draw] = None,
+    *,
+    roles: Optional[Mapping[str, Role]] = None,
+    replaces: bool = False,
+) -> WrittenProject:
+    """Writes a project for a table, and a figure of the block model if `draw` is given, which writes it to a path. `roles` are by column in place
+    of the guess.
 
     Returns the overview of the block model, with warnings about what is doubtful in it. Raises PlanError if the table cannot be read, if no
     columns of centroids, tonnes or grades are found, if a column cannot have the role that is chosen, and if `out` exists, unless it is replaced.
     """
     # A table that is missing is refused where it is read, and named before the project.
-    if file.exists() and out.exists() and not choices.replaces:
+    if file.exists() and out.exists() and not replaces:
         raise PlanError(f"{out}: already exists: name another file with --out, or replace it with --replace")
-    model = read(file, choices.roles)
+    model = read(file, roles)
     text, found = project_of(model, out)
     with staged_file(out) as place:
         place.write_text(text, encoding="utf-8")

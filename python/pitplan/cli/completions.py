@@ -3,6 +3,7 @@
 from __future__ import annotations
 
 import argparse
+from argparse import Action
 from dataclasses import dataclass
 from pathlib import Path
 from typing import Iterator
@@ -16,56 +17,17 @@ PATHS = {"FILE": FILE, "TABLE": FILE, "PLACE": FILE, "FOLDER": FOLDER, "TARGET":
 
 
 @dataclass(frozen=True)
-class CompletedArgument:
-    """An argument of a subcommand, or the value of an option.
-
-    Attributes
-    ----------
-    name : str
-        As help calls it.
-    help : str
-        What it is.
-    kind : str
-        FILE, FOLDER, PROJECT (a file that ends in .toml), WORDS, KEYS (those of a project) or NOTHING.
-    words : tuple of str
-        Those that it may be, if it has WORDS.
-    repeats : bool
-        Whether several may follow each other.
-    is_optional : bool
-        Whether it may be left out.
-    """
-
-    name: str
-    help: str
-    kind: str
-    words: tuple[str, ...] = ()
-    repeats: bool = False
-    is_optional: bool = False
-
-
-@dataclass(frozen=True)
-class Option:
-    """An option: its spellings, what it does, the value that it takes, if any, and whether it may be repeated or must be given."""
-
-    spellings: tuple[str, ...]
-    help: str
-    value: CompletedArgument | None
-    repeats: bool
-    required: bool
-
-
-@dataclass(frozen=True)
 class CompletedSubcommand:
-    """A subcommand: its name, what it does, its arguments in order, and its options."""
+    """A subcommand: its name, what it does, its arguments in order, and its options, `--help` last."""
 
     name: str
     does: str
-    arguments: tuple[CompletedArgument, ...]
-    options: tuple[Option, ...]
+    arguments: tuple[Action, ...]
+    options: tuple[Action, ...]
 
     @property
     def spellings(self) -> list[str]:
-        return [spelling for option in self.options for spelling in option.spellings]
+        return [spelling for option in self.options for spelling in option.option_strings]
 
 
 def script(shell: str) -> str:
@@ -81,19 +43,15 @@ def subcommands_of(top: Parser) -> list[CompletedSubcommand]:
     """Returns the subcommands of a parser. The arguments and options of a subcommand's own subcommands count as its own."""
     found = []
     for name, sub in nested(top).items():
-        kinds = nested(sub)
-        arguments = [argument_of(action) for action in sub._actions if not action.option_strings]
-        options = list(options_of(sub))
-        for kind in kinds.values():
-            arguments += [argument_of(action) for action in kind._actions if not action.option_strings]
-            options += [option for option in options_of(kind) if option not in options]
+        parsers = [sub, *nested(sub).values()]
+        arguments = [it for each in parsers for it in each._actions if not it.option_strings]
+        options = {tuple(it.option_strings): it for each in parsers for it in options_of(each)}
         does = (sub.description or "").partition(". ")[0].rstrip(".")
-        found.append(CompletedSubcommand(name, does, tuple(arguments), tuple(options)))
+        found.append(CompletedSubcommand(name, does, tuple(arguments), tuple(options.values())))
     return found
 
 
 def nested(top: Parser) -> dict[str, Parser]:
-    """Returns the parsers of subcommands, by their names."""
     return {
         name: sub
         for action in top._actions
@@ -102,34 +60,41 @@ def nested(top: Parser) -> dict[str, Parser]:
     }
 
 
-def options_of(top: Parser) -> tuple[Option, ...]:
+def options_of(top: Parser) -> tuple[Action, ...]:
     """Returns the options of a parser, `--help` last."""
-    found = [
-        Option(
-            tuple(action.option_strings),
-            help_of(action),
-            None if action.nargs == 0 else argument_of(action),
-            isinstance(action, argparse._AppendAction),
-            action.required,
-        )
-        for action in top._actions
-        if action.option_strings
-    ]
-    return (*(it for it in found if "--help" not in it.spellings), *(it for it in found if "--help" in it.spellings))
+    found = [it for it in top._actions if it.option_strings]
+    return tuple(sorted(found, key=lambda it: "--help" in it.option_strings))
 
 
-def argument_of(action: argparse.Action) -> CompletedArgument:
-    """Returns the argument of an action. A path must have a name of PATHS."""
-    name = action.metavar if isinstance(action.metavar, str) else action.dest.upper()
-    repeats = action.nargs in ("+", "*")
-    if action.choices is not None:
-        return CompletedArgument(name, help_of(action), WORDS, tuple(action.choices), repeats)
-    kind = PATHS[name] if action.type is Path else KEYS if name == "KEY=VALUE" else NOTHING
-    return CompletedArgument(name, help_of(action), kind, (), repeats, action.nargs == "?")
+def name_of(action: Action) -> str:
+    """Returns the name of an argument, or of the value of an option, as help has it."""
+    return action.metavar if isinstance(action.metavar, str) else action.dest.upper()
 
 
-def help_of(action: argparse.Action) -> str:
+def help_of(action: Action) -> str:
     return (action.help or "").replace("%%", "%")
+
+
+def kind_of(action: Action) -> str:
+    """Returns what completes an argument, or the value of an option. A path must have a name of PATHS."""
+    if action.choices is not None:
+        return WORDS
+    if action.type is Path:
+        return PATHS[name_of(action)]
+    return KEYS if name_of(action) == "KEY=VALUE" else NOTHING
+
+
+def words_of(action: Action) -> tuple[str, ...]:
+    return tuple(action.choices or ())
+
+
+def has_value(option: Action) -> bool:
+    return option.nargs != 0
+
+
+def repeats(argument: Action) -> bool:
+    """Returns whether several values may follow each other."""
+    return argument.nargs in ("+", "*")
 
 
 BASH = """# Completion of pitplan for bash, written by `pitplan completion bash`.
@@ -187,34 +152,35 @@ complete -F _pitplan pitplan
 """
 
 
-def of_bash(subcommands: list[CompletedSubcommand], top: tuple[Option, ...]) -> str:
+def of_bash(subcommands: list[CompletedSubcommand], top: tuple[Action, ...]) -> str:
     """Returns the script for bash. An option that takes neither words nor a path completes nothing."""
     cases: dict[str, list[str]] = {}
     for sub in subcommands:
         for option in sub.options:
-            if option.value is not None:
-                cases.setdefault(bash_action(option.value), []).extend(f'"{sub.name} {it}"' for it in option.spellings)
+            if has_value(option):
+                cases.setdefault(bash_action(option), []).extend(f'"{sub.name} {it}"' for it in option.option_strings)
     values = [f"    {' | '.join(patterns)})\n        {action}\n        ;;" for action, patterns in cases.items()]
     options = []
     for sub in subcommands:
-        valued = " ".join(it for option in sub.options if option.value for it in option.spellings)
+        valued = " ".join(it for option in sub.options if has_value(option) for it in option.option_strings)
         options.append(f'    {sub.name}) options="{" ".join(sub.spellings)}" valued="{valued}" ;;')
     arguments = [
-        f'        "{sub.name} "{"*" if argument.repeats else place}) {bash_action(argument)} ;;'
+        f'        "{sub.name} "{"*" if repeats(argument) else place}) {bash_action(argument)} ;;'
         for sub in subcommands
         for place, argument in enumerate(sub.arguments)
     ]
-    words = [*(sub.name for sub in subcommands), *(it for option in top for it in option.spellings)]
+    words = [*(sub.name for sub in subcommands), *(it for option in top for it in option.option_strings)]
     filled = BASH.replace("SUBCOMMANDS", " ".join(words)).replace("VALUES", "\n".join(values))
     return filled.replace("OPTIONS", "\n".join(options)).replace("ARGUMENTS", "\n".join(arguments))
 
 
-def bash_action(argument: CompletedArgument) -> str:
-    if argument.kind == WORDS:
-        return f'_pitplan_words "{" ".join(argument.words)}" && return'
-    if argument.kind == KEYS:
+def bash_action(argument: Action) -> str:
+    kind = kind_of(argument)
+    if kind == WORDS:
+        return f'_pitplan_words "{" ".join(words_of(argument))}" && return'
+    if kind == KEYS:
         return "_pitplan_keys && return"
-    return "return" if argument.kind == NOTHING else f"_pitplan_paths {argument.kind} && return"
+    return "return" if kind == NOTHING else f"_pitplan_paths {kind} && return"
 
 
 ZSH = """#compdef pitplan
@@ -252,13 +218,13 @@ fi
 """
 
 
-def of_zsh(subcommands: list[CompletedSubcommand], top: tuple[Option, ...]) -> str:
+def of_zsh(subcommands: list[CompletedSubcommand], top: tuple[Action, ...]) -> str:
     """Returns the script for zsh, by `_arguments`, as a function to load or a file to source."""
     listed = [f"            {quoted(colons(sub.name) + ':' + colons(sub.does))}" for sub in subcommands]
     arguments = []
     for sub in subcommands:
         specs = [
-            f"{quoted('*' if it.repeats else str(place))}:{zsh_value(it)}" for place, it in enumerate(sub.arguments, 1)
+            f"{quoted('*' if repeats(it) else str(place))}:{zsh_value(it)}" for place, it in enumerate(sub.arguments, 1)
         ]
         specs += [zsh_option(option) for option in sub.options]
         arguments.append(
@@ -268,18 +234,19 @@ def of_zsh(subcommands: list[CompletedSubcommand], top: tuple[Option, ...]) -> s
     return filled.replace("SUBCOMMANDS", "\n".join(listed)).replace("ARGUMENTS", "\n".join(arguments))
 
 
-def zsh_option(option: Option) -> str:
+def zsh_option(option: Action) -> str:
     """Returns an option as `_arguments` takes it: those that exclude it, its spellings, its help, and its value."""
-    ends = "--help" in option.spellings or "--version" in option.spellings
-    exclude = "(- *)" if ends else f"({' '.join(option.spellings)})" if len(option.spellings) > 1 else ""
-    spelled = f"{{{','.join(option.spellings)}}}" if len(option.spellings) > 1 else option.spellings[0]
-    value = f":{zsh_value(option.value)}" if option.value else ""
-    text = option.help.replace("[", "\\[").replace("]", "\\]")
-    before = quoted("*" if option.repeats else exclude) if option.repeats or exclude else ""
+    spellings, is_repeated = option.option_strings, isinstance(option, argparse._AppendAction)
+    ends = "--help" in spellings or "--version" in spellings
+    exclude = "(- *)" if ends else f"({' '.join(spellings)})" if len(spellings) > 1 else ""
+    spelled = f"{{{','.join(spellings)}}}" if len(spellings) > 1 else spellings[0]
+    value = f":{zsh_value(option)}" if has_value(option) else ""
+    text = help_of(option).replace("[", "\\[").replace("]", "\\]")
+    before = quoted("*" if is_repeated else exclude) if is_repeated or exclude else ""
     return f"{before}{spelled}{quoted(f'[{text}]')}{value}"
 
 
-def zsh_value(argument: CompletedArgument) -> str:
+def zsh_value(argument: Action) -> str:
     """Returns the name of a value and what completes it; a space completes nothing."""
     action = {
         FILE: "_files",
@@ -287,8 +254,8 @@ def zsh_value(argument: CompletedArgument) -> str:
         PROJECT: '_files -g "*.toml"',
         KEYS: "_pitplan_keys",
         NOTHING: " ",
-    }.get(argument.kind)
-    return quoted(f"{colons(argument.name)}:{action or '(' + ' '.join(argument.words) + ')'}")
+    }.get(kind_of(argument))
+    return quoted(f"{colons(name_of(argument))}:{action or '(' + ' '.join(words_of(argument)) + ')'}")
 
 
 def colons(text: str) -> str:
@@ -307,9 +274,9 @@ end
 """
 
 
-def of_fish(subcommands: list[CompletedSubcommand], top: tuple[Option, ...]) -> str:
+def of_fish(subcommands: list[CompletedSubcommand], top: tuple[Action, ...]) -> str:
     lines = [
-        f"complete -c pitplan -n __fish_use_subcommand{fish_spellings(option)} -d {fish_quoted(option.help)}"
+        f"complete -c pitplan -n __fish_use_subcommand{fish_spellings(option)} -d {fish_quoted(help_of(option))}"
         for option in top
     ]
     for sub in subcommands:
@@ -323,27 +290,27 @@ def fish_lines(sub: CompletedSubcommand) -> Iterator[str]:
     """Yields the lines of a subcommand: its arguments, in any number, and its options."""
     begin = f"complete -c pitplan -n '__fish_seen_subcommand_from {sub.name}'"
     for argument in sub.arguments:
-        if argument.kind != NOTHING:
+        if kind_of(argument) != NOTHING:
             yield f"{begin}{fish_value(argument)}"
     for option in sub.options:
-        value = f" -r{fish_value(option.value)}" if option.value else ""
-        yield f"{begin}{fish_spellings(option)}{value} -d {fish_quoted(option.help)}"
+        value = f" -r{fish_value(option)}" if has_value(option) else ""
+        yield f"{begin}{fish_spellings(option)}{value} -d {fish_quoted(help_of(option))}"
 
 
-def fish_value(argument: CompletedArgument) -> str:
+def fish_value(argument: Action) -> str:
     """Returns what completes a value: words or paths."""
-    suffix = "(__fish_complete_suffix .toml)"
+    kind, suffix = kind_of(argument), "(__fish_complete_suffix .toml)"
     words = {
         FOLDER: "(__fish_complete_directories)",
         PROJECT: suffix,
         KEYS: "(__pitplan_keys)",
-        WORDS: " ".join(argument.words),
-    }.get(argument.kind)
-    return " -F" if argument.kind == FILE else f" -fa {fish_quoted(words)}" if words else " -f"
+        WORDS: " ".join(words_of(argument)),
+    }.get(kind)
+    return " -F" if kind == FILE else f" -fa {fish_quoted(words)}" if words else " -f"
 
 
-def fish_spellings(option: Option) -> str:
-    return "".join(f" -l {it[2:]}" if it.startswith("--") else f" -s {it[1:]}" for it in option.spellings)
+def fish_spellings(option: Action) -> str:
+    return "".join(f" -l {it[2:]}" if it.startswith("--") else f" -s {it[1:]}" for it in option.option_strings)
 
 
 def fish_quoted(text: str) -> str:

@@ -22,14 +22,8 @@ REQUIRED = {it.module: it.package for it in LIBRARIES if not it.purpose}
 
 
 def main(arguments: Optional[Sequence[str]] = None) -> int:
-    """Runs one subcommand.
-
-    Returns
-    -------
-    int
-        0 if it is done; 1 if it is refused, with a sentence on standard error; 2 if its arguments are wrong or missing; 130 if it was
-        interrupted. `scenario` ends with the status of its scenario.
-    """
+    """Runs one subcommand. Returns 0 if it is done; 1 if it is refused, with a sentence on standard error; 2 if its arguments are wrong or missing;
+    130 if it was interrupted. `scenario` ends with the status of its scenario."""
     return ended("pitplan", lambda: run(parsed(arguments)), (PlanError, minelib.MinelibError))
 
 

@@ -135,8 +135,8 @@ def init(options: Namespace) -> None:
     from pitplan.blockmodel.guesses import roles_of_words
 
     project_file = options.out or options.table.parent / "project.toml"
-    choices = wizard.Choices(roles_of_words(options.role), options.replace)
-    written = wizard.write_project(options.table, project_file, draw_block_model if options.figures else None, choices)
+    draw, roles = draw_block_model if options.figures else None, roles_of_words(options.role)
+    written = wizard.write_project(options.table, project_file, draw, roles=roles, replaces=options.replace)
     print_notes(written.lines)
     print(json.dumps(written.as_json, indent=2, ensure_ascii=False) if options.json else project_file)
 
@@ -347,7 +347,7 @@ def serve(options: Namespace) -> None:
 
     demand_modules({"starlette": "python3-starlette", "uvicorn": "python3-uvicorn"}, "pitplan serve")
     from ..errors import PlanError
-    from ..web.server import Proxy, Settings, serve
+    from ..web.server import Proxy, serve
 
     if (options.host is None) != (options.socket is None):
         given, other = ("--host", "--socket") if options.host else ("--socket", "--host")
@@ -357,8 +357,8 @@ def serve(options: Namespace) -> None:
     if options.socket and options.port:
         raise PlanError(f"--port {options.port}: the server listens at --socket {options.socket}: give one of both")
     proxy = Proxy(options.host, options.socket) if options.host else None
-    inputs = tuple(options.inputs)
-    serve(Settings(options.folder, options.port, not options.no_browser, __version__, proxy, inputs))
+    is_opened = not options.no_browser
+    serve(options.folder, options.port, __version__, proxy, opens=is_opened, inputs=tuple(options.inputs))
 
 
 def schema(options: Namespace) -> None:

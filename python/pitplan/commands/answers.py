@@ -34,26 +34,9 @@ UNROUNDED = ("bound",)
 
 
 def write(answer: Answer, folder: Union[str, Path], writing: Optional[Writing] = None) -> Path:
-    """Writes the files of an answer that is known, with the block model and the project if they were made in Python.
-
-    Parameters
-    ----------
-    answer : Shells, Pushbacks or Schedule
-    folder : str or Path
-        Where the files go.
-    writing : Writing, optional
-        How they are written. Steps are reported by the plan's progress unless it has its own.
-
-    Returns
-    -------
-    Path
-        The folder.
-
-    Raises
-    ------
-    PlanError
-        If a result differs from its independent recalculation, a file would replace an input, or the folder cannot be written.
-    """
+    """Writes the files of an answer that is known, with the block model and the project if they were made in Python; returns the folder. Steps are
+    reported by the plan's progress unless `writing` has its own. Raises PlanError if a result differs from its independent recalculation, a file
+    would replace an input, or the folder cannot be written."""
     folder, writing, pushbacks = Path(folder), writing or Writing(), answer.as_pushbacks
     plan, solver = pushbacks.planned if pushbacks else answer.as_shells.plan, answer.as_shells.solution.solver
     if solver is None:
@@ -66,13 +49,8 @@ def write(answer: Answer, folder: Union[str, Path], writing: Optional[Writing] =
 
 
 def write_answer(answer: Answer, run: Run) -> None:
-    """Writes the tables and the record of an answer, and pictures, workbook and report if they are wanted.
-
-    Raises
-    ------
-    PlanError
-        If a result differs from its independent recalculation.
-    """
+    """Writes the tables and the record of an answer, and pictures, workbook and report if they are wanted. Raises PlanError if a result differs from
+    its independent recalculation."""
     stage, progress, shells = run.stage, run.writing.progress, answer.as_shells
     with progress.step("computing the tables of shells"):
         tables = answer.tables()

@@ -111,7 +111,6 @@ class Runs:
 
     Attributes
     ----------
-    kind : str
     verifies : bool
         Recalculate the results of each independently.
     rules : list of Rule

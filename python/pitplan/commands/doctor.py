@@ -35,7 +35,6 @@ class Finding:
 
     Attributes
     ----------
-    part : str
     found : str
         Its version or place; empty if it is missing or cannot be used.
     is_required : bool
@@ -145,7 +144,6 @@ def schedule_program() -> Finding:
 
 
 def of_library(wanted: Library) -> Finding:
-    """Returns a library of Python, which is imported."""
     part, is_required = wanted.module, not wanted.purpose
     try:
         module = importlib.import_module(wanted.module)
@@ -202,7 +200,6 @@ def free_space() -> Finding:
 
 
 def as_records(found: list[Finding]) -> list[dict[str, Any]]:
-    """Returns findings as JSON has them."""
     return [asdict(it) for it in found]
 
 
@@ -212,11 +209,8 @@ def lines_of(found: list[Finding]) -> list[str]:
     lines = [f"{it.part:<{width}}{it.found}" for it in found if it.found]
     lacking = [it for it in found if it.remedy]
     for heading, is_wrong in ((REQUIRED, True), (OPTIONAL, False)):
-        said = [f"  {it.part}: {it.remedy}{purpose_of(it)}" for it in lacking if it.is_wrong is is_wrong]
+        mine = [it for it in lacking if it.is_wrong is is_wrong]
+        said = [f"  {it.part}: {it.remedy}{f' ({it.purpose})' if it.purpose else ''}" for it in mine]
         lines += ["", heading, *said] if said else []
     wrong = [it.part for it in lacking if it.is_wrong]
     return [*lines, "", f"pitplan cannot run: {', '.join(wrong)}" if wrong else "pitplan can run"]
-
-
-def purpose_of(finding: Finding) -> str:
-    return f" ({finding.purpose})" if finding.purpose else ""

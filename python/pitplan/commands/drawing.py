@@ -17,38 +17,15 @@ from pitplan.pits.answer import Answer
 from pitplan.pits.shells import Shells
 from pitplan.scheduling.pushback_schedule import PushbackSchedule
 
-from .writing import (
-    BLOCK_PICTURES,
-    CURVE_PICTURES,
-    GEOLOGY_PICTURES,
-    PICTURES,
-    PRICE_PICTURES,
-    PUSHBACK_PICTURES,
-    SCHEDULE_PICTURES,
-)
+from .writing import BLOCK_PICTURES, GEOLOGY_PICTURES, PICTURES, PRICE_PICTURES, PUSHBACK_PICTURES, SCHEDULE_PICTURES
 
 # The name of a figure, and what draws it into a file.
 Drawing = tuple[str, Callable[[Path], object]]
 
 
 def draw(answer: Answer, tables: dict[str, pd.DataFrame], stage: Path, processes: Optional[int] = None) -> list[str]:
-    """Draws the pictures of shells, and those of pushbacks and schedules if there are any, at the same time.
-
-    Parameters
-    ----------
-    answer : Shells, Pushbacks or Schedule
-    tables : dict
-        Its tables.
-    stage : Path
-        The folder of the pictures.
-    processes : int, optional
-        The most processes at a time; see `Writing`.
-
-    Returns
-    -------
-    list of str
-        The names of the written files, in each format.
-    """
+    """Draws the pictures of shells, and those of pushbacks and schedules if there are any, at the same time: by at most `processes` processes, as in
+    `Writing`. Returns the names of the written files, in each format."""
     shells = answer.as_shells
     figures = shells.plan.project.figures
     formats = figures.formats if figures else ()
@@ -68,11 +45,10 @@ def of_shells(shells: Shells, tables: dict[str, pd.DataFrame]) -> Iterator[Drawi
     if kinds:
         yield GEOLOGY_PICTURES["geology"], partial(geology.write_sections, scene, kinds)
     curves = partial(pits.write, tables["grade_tonnage"], project.metals[0])
-    yield CURVE_PICTURES["grade_tonnage"], curves
+    yield PICTURES["grade_tonnage"], curves
 
 
 def of_pushbacks(answer: Answer) -> Iterator[Drawing]:
-    """Yields the figures of pushbacks, if there are any."""
     if answer.as_pushbacks is not None:
         scene = pushbacks.scene_of(answer.as_pushbacks)
         yield PUSHBACK_PICTURES["pushback_plans"], partial(pushbacks.write_plans, scene)
@@ -80,7 +56,6 @@ def of_pushbacks(answer: Answer) -> Iterator[Drawing]:
 
 
 def of_schedule(answer: Answer, years: pd.DataFrame) -> Iterator[Drawing]:
-    """Yields the figures of a schedule, if there is one."""
     made = answer.as_schedule
     if made is None:
         return

@@ -4,7 +4,7 @@ from __future__ import annotations
 
 import os
 from pathlib import Path
-from typing import Iterable, Iterator, Optional, Union
+from typing import Iterable, Optional, Union
 
 from pitplan.config.project import inputs_beside, load
 from pitplan.core import staging
@@ -50,13 +50,7 @@ def remedy(project: Path) -> str:
 
 
 def file_of(out: Optional[Place], default: Path, folder: Folder) -> Path:
-    """Returns the file to write: `out`, or the default if it is None.
-
-    Raises
-    ------
-    PlanError
-        If `out` is a folder, an input, or a file of a plan.
-    """
+    """Returns the file to write: `out`, or the default if it is None. Raises PlanError if `out` is a folder, an input, or a file of a plan."""
     if out is None:
         return default
     path = Path(out)
@@ -68,13 +62,8 @@ def file_of(out: Optional[Place], default: Path, folder: Folder) -> Path:
 
 
 def folder_of(out: Optional[Place], default: Path, folder: Folder, written: Iterable[str] = ()) -> Path:
-    """Returns the folder to write into: `out`, or the default if it is None. `written` are the names of files that go there.
-
-    Raises
-    ------
-    PlanError
-        If `out` is a file, or a written file would replace an input or a file of a plan.
-    """
+    """Returns the folder to write into: `out`, or the default if it is None. `written` are the names of files that go there. Raises PlanError if
+    `out` is a file, or a written file would replace an input or a file of a plan."""
     if out is None:
         return default
     path = Path(out)
@@ -86,31 +75,16 @@ def folder_of(out: Optional[Place], default: Path, folder: Folder, written: Iter
 
 def demand_free(targets: Iterable[Path], folder: Folder) -> None:
     """Raises PlanError if a target is an input or a file of the plan, or of another plan in whose folder it lies."""
-    inputs = {*inputs_of(folder)}
+    # The record gives the project relative to the folder, and the other inputs relative to the project.
+    project = folder.path / folder.record["project"]
+    inputs = {project, *(project.parent / name for name in folder.record["inputs"])}
     for target in targets:
-        kept = {*files_of(folder), *files_around(target)}
+        around = [above for above in target.resolve().parents if (above / names.RECORD).is_file()]
+        kept = {place / name for place in (folder.path, *around) for name in KEPT}
+        kept |= {folder.path / name for name in folder.record["files"]}
         for what, paths in (("an input", {*inputs, *inputs_beside(target.parent)}), ("a file", kept)):
             if any(is_same(target, path) for path in paths):
                 raise PlanError(f"{target}: found {what} of the plan, which is not overwritten: give another --out")
-
-
-def inputs_of(folder: Folder) -> Iterator[Path]:
-    """The inputs of a plan. Its record gives the project relative to the folder, and the others relative to the project."""
-    project = folder.path / folder.record["project"]
-    yield project
-    yield from (project.parent / name for name in folder.record["inputs"])
-
-
-def files_of(folder: Folder) -> Iterator[Path]:
-    """The files of a plan that no export replaces."""
-    yield from (folder.path / name for name in {*KEPT, *folder.record["files"]})
-
-
-def files_around(target: Path) -> Iterator[Path]:
-    """The files of other plans in whose folders a target lies."""
-    for above in target.resolve().parents:
-        if (above / names.RECORD).is_file():
-            yield from (above / name for name in KEPT)
 
 
 def is_same(one: Path, other: Path) -> bool:

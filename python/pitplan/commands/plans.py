@@ -84,18 +84,8 @@ def missing_sections(project: Project) -> list[str]:
 
 
 def write_plan(project: Project, folder: Path, progress: Progress = silent) -> dict[str, Any]:
-    """Writes the program's files, blocks.csv and plan.json.
-
-    Returns
-    -------
-    dict
-        The record plan.json.
-
-    Raises
-    ------
-    PlanError
-        If the input is not usable. Nothing is written then.
-    """
+    """Writes the program's files, blocks.csv and plan.json; returns the record plan.json. Raises PlanError if the input is not usable. Nothing is
+    written then."""
     project = read(project)
     with locked(project, folder):
         plan = prepared(project, progress=progress)
@@ -217,15 +207,8 @@ def write_pit(
 
 
 def compared(run: Run, factor: float) -> tuple[pd.DataFrame, pd.DataFrame]:
-    """Solves the pit of a factor, with the fixed blocks and without them.
-
-    Returns
-    -------
-    table : DataFrame
-        One row for each of the two.
-    blocks : DataFrame
-        One row for each block, with the factors at which it is in either pit.
-    """
+    """Solves the pit of a factor, with the fixed blocks and without them. Returns one row for each of the two, and one row for each block with the
+    factors at which it is in either pit."""
     plan = run.mine.plan
     keeping = Shells.solved(plan, run.mine)
     free = Shells(plan, replace(run.mine.free_shells(plan.project.shells.revenue_factors), of=plan.key))

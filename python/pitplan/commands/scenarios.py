@@ -47,20 +47,8 @@ if TYPE_CHECKING:
 
 
 def solve_scenario(folder: Union[str, Path], number: int) -> Outcome:
-    """Solves one scenario of a folder that `write_scenarios` has prepared.
-
-    Parameters
-    ----------
-    folder : str or Path
-        The folder.
-    number : int
-        The scenario, from 1.
-
-    Returns
-    -------
-    Outcome
-        The status, with the reason if it is not 0. No PlanError is raised.
-    """
+    """Solves one scenario, by its number from 1, of a folder that `write_scenarios` has prepared. Returns the status, with the reason if it is not 0.
+    No PlanError is raised."""
     return solve(str(folder), number)
 
 
@@ -74,18 +62,8 @@ PICTURE_OF_VALUES = f"{FIGURES}/schedule_values.png"
 
 
 def write_pits(shared: Shared, request: Request, writing: Writing) -> list[str]:
-    """Writes probabilities, tables and pictures of the pits of all scenarios, and gathered.json, which lists what was verified.
-
-    Returns
-    -------
-    list of str
-        Notes for the planner.
-
-    Raises
-    ------
-    PlanError
-        If an answer is missing, or a result differs from its independent recalculation.
-    """
+    """Writes probabilities, tables and pictures of the pits of all scenarios, and gathered.json, which lists what was verified; returns notes for the
+    planner. Raises PlanError if an answer is missing, or a result differs from its independent recalculation."""
     progress, factor = writing.progress, run.shown_factor(shared, request)
     removed = in_all_formats(PICTURES.values())
     with staged(shared.folder, whole=removed, subfolders=layout.FOLDERS) as stage:
@@ -102,15 +80,8 @@ def write_pits(shared: Shared, request: Request, writing: Writing) -> list[str]:
 
 
 def write_schedules(shared: Shared, request: Request, writing: Writing) -> list[str]:
-    """Writes tables and the picture of the schedules of all scenarios and of the one for all; as `write_pits`.
-
-    Raises
-    ------
-    PlanError
-        As `write_pits` does.
-    MissingPackage
-        Without the library.
-    """
+    """Writes tables and the picture of the schedules of all scenarios and of the one for all; as `write_pits`. Raises PlanError as that does, and
+    MissingPackage without the library."""
     run.demand_no_factor(request)
     load_library("a schedule by block")
     # It imports the library itself.
@@ -142,18 +113,8 @@ def notes_of_missing(missing: dict[int, str]) -> list[str]:
 
 
 def note_verified(shared: Shared, missing: dict[int, str], writing: Writing, stage: Path) -> list[str]:
-    """Recalculates the answers and their tables independently, and writes gathered.json with the rules that hold.
-
-    Returns
-    -------
-    list of str
-        A note if the recalculation was skipped.
-
-    Raises
-    ------
-    PlanError
-        If a result differs.
-    """
+    """Recalculates the answers and their tables independently, and writes gathered.json with the rules that hold. Returns a note if the recalculation
+    was skipped. Raises PlanError if a result differs."""
     rules: list[str] = []
     if writing.verifies:
         rules = verified(lambda: planaudit.verify_scenarios(shared.folder, stage), writing.progress)
@@ -300,6 +261,5 @@ def gather(folder: Place, request: Request = Request(), writing: Writing = Writi
 
 
 def gathered(folder: Path, request: Request, writing: Writing) -> list[str]:
-    """Gathers the answers of a folder; returns notes on them."""
     shared = read_shared(folder)
     return write_schedules(shared, request, writing) if shared.is_by_block else write_pits(shared, request, writing)

@@ -68,18 +68,8 @@ def write_sensitivity(
 
 
 def write_cases(found: Sensitivity, folder: Path, writing: Writing) -> pd.DataFrame:
-    """Writes tables, pictures and the record of all cases into the folder of their answers.
-
-    Returns
-    -------
-    DataFrame
-        One row for each case.
-
-    Raises
-    ------
-    PlanError
-        If a result differs from its independent recalculation.
-    """
+    """Writes tables, pictures and the record of all cases into the folder of their answers; returns one row for each case. Raises PlanError if a
+    result differs from its independent recalculation."""
     cases, project, progress = sensitivity.table(found), found.project, writing.progress
     pairs = rules_of(project).pairs
     figures = [names.TORNADO, names.SPIDER, *map(names.grid_of, pairs), names.HILL_FIGURE]

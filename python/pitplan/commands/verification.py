@@ -9,7 +9,7 @@ import sys
 from collections.abc import Callable, Iterator
 from contextlib import contextmanager, suppress
 from pathlib import Path
-from typing import TYPE_CHECKING, Optional, Union
+from typing import TYPE_CHECKING, Union
 
 import planaudit
 from pitplan.core import paths
@@ -45,18 +45,7 @@ def demand(rules: list[Rule]) -> None:
 
 
 def verified(check: Callable[[], list[Rule]], progress: Progress) -> list[str]:
-    """Recalculates results independently.
-
-    Returns
-    -------
-    list of str
-        The rules that hold, each with its name.
-
-    Raises
-    ------
-    PlanError
-        If a result differs.
-    """
+    """Recalculates results independently; returns the rules that hold, each with its name. Raises PlanError if a result differs."""
     with progress.step("verifying"), as_plan_errors():
         rules = check()
         planaudit.demand(rules)
@@ -73,13 +62,8 @@ def is_apart(blocks: int) -> bool:
 
 
 class AuditProcess:
-    """A process that reads the project and the table of a run, and verifies its results when they are staged.
-
-    Parameters
-    ----------
-    stage : Path
-        The folder in which the files of the run are staged; it holds the project as it is run.
-    """
+    """A process that reads the project and the table of a run, and verifies its results when they are staged. The stage holds the project as it is
+    run."""
 
     def __init__(self, stage: Path) -> None:
         words = [sys.executable, "-P", "-m", "planaudit", "--json", "--wait", "--final", str(stage.parent), str(stage)]
@@ -102,15 +86,7 @@ class AuditProcess:
             print(file=self.child.stdin, flush=True)
 
     def rules(self) -> list[Rule]:
-        """Waits for its end and returns the rules.
-
-        Raises
-        ------
-        AuditError
-            As `planaudit.verify` does.
-        PlanError
-            If it ends without a result.
-        """
+        """Waits for its end and returns the rules. Raises AuditError as `planaudit.verify` does, and PlanError if it ends without a result."""
         printed, said = self.child.communicate()
         try:
             found = json.loads(printed)
@@ -122,7 +98,7 @@ class AuditProcess:
             raise (PackageError if found["package"] else AuditError)(found["error"], found["details"])
         return [Rule(it["name"], it["holds"], tuple(it["differences"]), it["count"]) for it in found["rules"]]
 
-    def end(self) -> None:
+    def close(self) -> None:
         """Ends it, unless it has ended."""
         self.child.kill()
         # Pipes that are closed already cannot be read.
@@ -131,27 +107,10 @@ class AuditProcess:
 
 
 @contextmanager
-def reading_ahead(stage: Path, is_wanted: bool) -> Iterator[Optional[AuditProcess]]:
-    """Yields the process that reads ahead, if it is wanted, and ends it after the body."""
-    process = AuditProcess(stage) if is_wanted else None
-    try:
-        yield process
-    finally:
-        if process is not None:
-            process.end()
-
-
-@contextmanager
 def verifying(run: Run) -> Iterator[None]:
-    """Recalculates all staged results independently, of a large model while the body draws and writes, and records the rules that hold.
-
-    Raises
-    ------
-    PlanError
-        If a rule does not hold, or the verification ends without a result.
-    MissingPackage
-        If a package that reads an input is not installed.
-    """
+    """Recalculates all staged results independently, of a large model while the body draws and writes, and records the rules that hold. Raises
+    PlanError if a rule does not hold, or the verification ends without a result, and MissingPackage if a package that reads an input is not
+    installed."""
     record, stage, progress = run.record, run.stage, run.writing.progress
     record["project"] = os.path.relpath(run.project.path, stage.parent)
     record["verified"] = []

@@ -20,15 +20,7 @@ SHEETS = ("methods", "schedule", YEARS, "pushbacks", "shells")
 
 
 def write(schedule: Schedule, tables: dict[str, pd.DataFrame], stage: Path) -> None:
-    """Writes the workbook: cash flow by line and reserves of the schedule that is shown, with formulas, then the tables.
-
-    Parameters
-    ----------
-    schedule : Schedule
-    tables : dict
-        Its tables.
-    stage : Path
-    """
+    """Writes the workbook: cash flow by line and reserves of the schedule that is shown, with formulas, then the tables."""
     project, method = schedule.plan.project, schedule.shown
     lines, values = (it[it["method"] == method] for it in (tables["cash_flow"], tables["valuation"]))
     sheets = material_sheets(schedule, tables) | other_sheets(schedule, tables)

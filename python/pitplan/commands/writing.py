@@ -4,7 +4,7 @@ from __future__ import annotations
 
 import os
 import threading
-from contextlib import contextmanager, suppress
+from contextlib import closing, contextmanager, nullcontext, suppress
 from dataclasses import asdict, dataclass, replace
 from importlib import import_module
 from pathlib import Path
@@ -26,7 +26,7 @@ from pitplan.solver.problem import Mine
 
 from ..errors import InputWarning, PlanError, ResultWarning
 from ..plan import Plan, prepared
-from .verification import AuditProcess, is_apart, reading_ahead
+from .verification import AuditProcess, is_apart
 
 # A project, or the path of its project.toml; and a folder.
 Source = Union[str, Path, Project]
@@ -34,34 +34,24 @@ Place = Union[str, Path]
 
 
 def figures(*stems: str) -> dict[str, str]:
-    """The files of figures by their names."""
     return {stem: f"{layout.FIGURES}/{stem}.png" for stem in stems}
 
 
-PICTURES = figures("pit_by_pit", "years", "plans", "sections")
+PICTURES = figures("pit_by_pit", "years", "plans", "sections", "grade_tonnage")
 # With rock types or resource classes.
 GEOLOGY_PICTURES = figures("geology")
 PUSHBACK_PICTURES = figures("pushback_plans", "pushback_sections")
-CURVE_PICTURES = figures("grade_tonnage")
 SCHEDULE_PICTURES = figures("schedule_gantt", "schedule_tonnes", "schedule_value")
 # With [price_paths].
 PRICE_PICTURES = figures("price_paths")
 BLOCK_PICTURES = figures("block_schedule")
-FIGURES = tuple(
-    (
-        (PICTURES | GEOLOGY_PICTURES | CURVE_PICTURES | PUSHBACK_PICTURES)
-        | (SCHEDULE_PICTURES | BLOCK_PICTURES | PRICE_PICTURES)
-    ).values()
-)
+OF_PLANS = PICTURES | GEOLOGY_PICTURES | PUSHBACK_PICTURES | SCHEDULE_PICTURES | BLOCK_PICTURES | PRICE_PICTURES
+FIGURES = tuple(OF_PLANS.values())
 # The project and the block model if they were made in Python.
 PROJECT, MODEL = f"{layout.INPUTS}/project.toml", f"{layout.INPUTS}/block_model.csv"
 # The files that every run writes or removes.
 ALWAYS = (*mine_files.IN_FOLDER, names.RECORD, names.TABLE, project_writer.AS_RUN)
-WRITTEN = {
-    *ALWAYS,
-    *names.OF_SOME,
-    *FIGURES,
-}
+WRITTEN = {*ALWAYS, *names.OF_SOME, *FIGURES}
 WRITTEN |= {names.SENSITIVITY, names.SENSITIVITY_RECORD, names.TORNADO, names.SPIDER, *registry.WRITTEN}
 WRITTEN |= {names.HILL, names.HILL_FIGURE, names.HILL_WORKBOOK}
 
@@ -157,27 +147,10 @@ def locked(project: Project, folder: Path) -> Iterator[None]:
 
 @contextmanager
 def begun(project: Project, folder: Path, writing: Writing, planned: Optional[Project] = None) -> Iterator[Run]:
-    """Plans a project and yields the run, whose staged files are moved to the folder if no error is raised. The project is one of them.
-    No other run writes into the folder at the same time.
-
-    Parameters
-    ----------
-    project : Project
-        The project as given, which is recorded.
-    folder : Path
-        Where the files go.
-    writing : Writing
-        How they are written.
-    planned : Project, optional
-        The project that is planned, for example with other factors. Default: `project`.
-
-    Raises
-    ------
-    PlanError
-        If the input is not usable, a file would replace an input, or another run writes into the folder.
-    ProgramError
-        If there is no solver.
-    """
+    """Plans a project and yields the run, whose staged files are moved to the folder if no error is raised. The project is one of them. No other run
+    writes into the folder at the same time. `planned` is the project that is planned, for example with other factors; by default it is the one that
+    is given and recorded. Raises PlanError if the input is not usable, a file would replace an input, or another run writes into the folder, and
+    ProgramError if there is no solver."""
     with locked(project, folder):
         solver = chosen(project.solver)
         # With reblocking the rows are many times those of the blocks, and no command uses them.
@@ -200,7 +173,8 @@ def staged_run(plan: Plan, solver: Solver, folder: Path, writing: Writing) -> It
         demand_within(project, plan.grid)
         with progress.step("writing blocks and precedences" if solver.by == PROGRAM else "listing precedences"):
             mine = problem.ready(plan, solver, stage / layout.SOLVER)
-        with reading_ahead(stage, writing.verifies and is_apart(len(plan.table))) as audit:
+        reads_ahead = writing.verifies and is_apart(len(plan.table))
+        with closing(AuditProcess(stage)) if reads_ahead else nullcontext() as audit:
             yield Run(project, mine, plan.record(mine.pairs) | {"solver": asdict(solver)}, stage, writing, audit)
 
 

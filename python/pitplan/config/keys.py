@@ -581,7 +581,7 @@ def read_part(record: Callable[..., Record], section: Section, others: Mapping[s
 
 def given(it: Key, section: Section) -> Iterator[Any]:
     """Yields the value of a key; nothing if the section leaves it out. Raises PlanError if it is wrong, or must be given."""
-    if it.of_processes and section.source.has_processes:
+    if it.of_processes and "processes" in section.source.data:
         if section.has(it.name):
             raise section.wrong(it.name, f"give {it.of_processes} of each of the [[processes]], not this")
     elif it.short and section.has(it.short) and it.kind.record:

@@ -17,21 +17,12 @@ EXAMPLE = "such as economics.mining_cost=2.6 or metals.copper.price=9000"
 
 
 def overridden(data: dict[str, Any], assignments: Iterable[str]) -> dict[str, Any]:
-    """Returns the sections of a project with some keys set.
+    """Returns the sections of a project, as TOML has them, with some keys set. Raises PlanError if an assignment has no `=`, or names an entry that
+    is not there.
 
-    Parameters
-    ----------
-    data : dict
-        The sections, as TOML has them.
-    assignments : iterable of str
-        Each `KEY=VALUE`. KEY names the section and the key, with points between: `economics.mining_cost`. An entry of a list of sections is
-        named by its `name`, or by its number from 1: `metals.copper.price`, `slopes.domains.2.angle`. VALUE is TOML; another word,
-        such as AUD, is a text.
-
-    Raises
-    ------
-    PlanError
-        If an assignment has no `=`, or names an entry that is not there.
+    Each assignment is `KEY=VALUE`. KEY names the section and the key, with points between: `economics.mining_cost`. An entry of a list of sections is
+    named by its `name`, or by its number from 1: `metals.copper.price`, `slopes.domains.2.angle`. VALUE is TOML; another word, such as AUD, is a
+    text.
     """
     found = deepcopy(data)
     for assignment in assignments:
@@ -75,24 +66,9 @@ def existing(entry: Any, part: str, where: str) -> Any:
 
 
 def scaled(data: dict[str, Any], path: str, by: Decimal, where: str) -> dict[str, Any]:
-    """Returns the sections of a project with the numbers of a key times a factor.
-
-    Parameters
-    ----------
-    data : dict
-        The sections, as TOML has them.
-    path : str
-        Section and key with points between, as of `overridden`: `processes.mill.cost`.
-    by : Decimal
-        All numbers of a table by rock type or of a list change, and the second ones of pairs.
-    where : str
-        What errors begin with.
-
-    Raises
-    ------
-    PlanError
-        If there is no such key, or it has no number.
-    """
+    """Returns the sections of a project, as TOML has them, with the numbers of a key times a factor: all numbers of a table by rock type or of a
+    list, and the second ones of pairs. `path` has section and key with points between, as of `overridden`: `processes.mill.cost`. Errors begin with
+    `where`. Raises PlanError if there is no such key, or it has no number."""
     found = deepcopy(data)
     *sections, key = path.split(".")
     entry = at(found, sections, f"{where} {path}")

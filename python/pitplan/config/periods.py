@@ -197,13 +197,8 @@ NESTED = ("feed", "stockpiles", "dumps")
 
 
 def sections_of(path: Path) -> list[Section]:
-    """Reads the entries of a CSV file with a header. A key by name has points in it, as `capacity.mill`; an empty field is left out.
-
-    Raises
-    ------
-    PlanError
-        With file, row and column, if the file cannot be read, has no rows, or a field is not a number.
-    """
+    """Reads the entries of a CSV file with a header. A key by name has points in it, as `capacity.mill`; an empty field is left out. Raises
+    PlanError, with file, row and column, if the file cannot be read, has no rows, or a field is not a number."""
     try:
         with open(path, encoding="utf-8-sig", newline="") as file:
             text = file.read(MOST_LETTERS + 1)

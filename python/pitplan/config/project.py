@@ -320,15 +320,11 @@ def inputs_beside(folder: Path) -> tuple[Path, ...]:
 
 
 def validated(project: Project) -> Project:
-    """Checks a project that was made or changed in Python, as `load` checks a file.
+    """Checks a project that was made or changed in Python, as `load` checks a file. Raises PlanError, with the section and the key, if a value is one
+    that no file may have.
 
-    The project is written as TOML and read back, so that one place checks types, ranges, units and keys. Numbers become those that a file
-    has: a price of 9000.0 is Decimal("9000.0"), and revenue factors rise. The reference factor is not added.
-
-    Raises
-    ------
-    PlanError
-        If a value is one that no file may have, with the section and the key.
+    The project is written as TOML and read back, so that one place checks types, ranges, units and keys. Numbers become those that a file has: a
+    price of 9000.0 is Decimal("9000.0"), and revenue factors rise. The reference factor is not added.
     """
     source = f"{project.path} as changed in Python"
     return planned_as(project, of_data(toml_text.parsed(project.to_toml(), source), project.path, source))

@@ -121,7 +121,6 @@ class Nulls:
     )
 
     def of(self, column: str) -> tuple[str, ...]:
-        """Returns the null codes of a column."""
         rule = self.by_column.get(column)
         return self.values if rule is None else (*self.values, *rule.values)
 
@@ -150,10 +149,6 @@ class Box:
     y: Optional[tuple[float, float]] = key(SPAN, "from and to", None)
     z: Optional[tuple[float, float]] = key(SPAN, "from and to", None)
 
-    @property
-    def by_axis(self) -> dict[str, tuple[float, float]]:
-        return {axis: span for axis, span in vars(self).items() if span}
-
 
 @dataclass(frozen=True)
 class RowRules:
@@ -168,7 +163,9 @@ class RowRules:
         EXPRESSION, "expression; rows for which it is false are left out", None, otherwise="all rows"
     )
     clip: Mapping[str, tuple[float, float]] = new(
-        inline(Box).then(lambda it: it.by_axis, write=lambda it, _: dict(it)),
+        inline(Box).then(
+            lambda it: {axis: span for axis, span in vars(it).items() if span}, write=lambda it, _: dict(it)
+        ),
         "`{ x = [4000, 5000], y = [..], z = [..] }`; rows with a centroid beyond are left out",
         {},
         "m",

@@ -176,10 +176,6 @@ class ProjectSource:
         return at_line(self.name, line_of(self.text, at) if self.text else None, why, at)
 
     @property
-    def has_processes(self) -> bool:
-        return "processes" in self.data
-
-    @property
     def metals(self) -> tuple[str, ...]:
         found = self.data.get("metals")
         entries = [it for it in found if isinstance(it, dict)] if isinstance(found, list) else []
@@ -242,17 +238,8 @@ NOTHING: Mapping[str, str] = MappingProxyType({})
 
 
 class Section:
-    """One table of a TOML file. `finish` refuses keys that nothing asked for.
-
-    Parameters
-    ----------
-    source : ProjectSource or str
-        The project that it is of, or its name in errors.
-    name : str
-        As errors have it: `metals 2`; empty for the top of the file.
-    data : dict
-        Its keys and values.
-    """
+    """One table of a TOML file, by its name in errors: `metals 2`, empty for the top of the file. `source` is the project that it is of, or its name
+    in errors. `finish` refuses keys that nothing asked for."""
 
     def __init__(self, source: Union[ProjectSource, str], name: str, data: Any) -> None:
         self.source = ProjectSource(source) if isinstance(source, str) else source
@@ -304,20 +291,9 @@ class Section:
 
 
 def as_toml(value: Any, key: str) -> Any:
-    """Returns a value as a TOML file has it: dicts, lists, texts, true and false, whole numbers and decimals.
-
-    Parameters
-    ----------
-    value : object
-        A mapping, list, tuple, array, path or plain value. A float is the shortest decimal that reads back as it: 0.1 is one tenth.
-    key : str
-        Names the value in errors.
-
-    Raises
-    ------
-    PlanError
-        If the value is of a type that no project has.
-    """
+    """Returns a value as a TOML file has it: dicts, lists, texts, true and false, whole numbers and decimals. The value is a mapping, list, tuple,
+    array, path or plain value. A float is the shortest decimal that reads back as it: 0.1 is one tenth. Raises PlanError, with the key, if the value
+    is of a type that no project has."""
     if isinstance(value, Mapping):
         return {str(name): as_toml(item, f"{key}.{name}") for name, item in value.items() if item is not None}
     if isinstance(value, (str, bool, Decimal)):

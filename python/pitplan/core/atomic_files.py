@@ -19,7 +19,8 @@ from . import staging
 def staged(
     folder: Path, last: str = "", whole: tuple[str, ...] = (), subfolders: tuple[str, ...] = ()
 ) -> Iterator[Path]:
-    """Yields a new folder to write into, whose files move to `folder` if no error is raised.
+    """Yields a new folder to write into, whose files move to `folder` if no error is raised. Raises PlanError if a folder cannot be made or written,
+    lies on another file system, or is in place of a file. Then nothing in it has changed.
 
     Parameters
     ----------
@@ -31,11 +32,6 @@ def staged(
         Files that belong together. Those of an earlier run that this run has not written are removed, since they show other results.
     subfolders : tuple of str
         Folders that the new folder has from the start. An empty one is not moved.
-
-    Raises
-    ------
-    PlanError
-        If a folder cannot be made or written, lies on another file system, or is in place of a file. Then nothing in it has changed.
     """
     try:
         with staging.made(folder), staging.stage_in(folder) as stage:

@@ -41,7 +41,11 @@ def rings(mask: np.ndarray) -> list[list[Point]]:
     while following:
         ring = one_ring(following)
         found.append(
-            [p for before, p, after in zip([ring[-1], *ring], ring, [*ring[1:], ring[0]]) if bends(before, p, after)]
+            [
+                p
+                for before, p, after in zip([ring[-1], *ring], ring, [*ring[1:], ring[0]])
+                if left_turn(before, p, after)
+            ]
         )
     return found
 
@@ -63,8 +67,5 @@ def one_ring(following: dict[Point, list[Point]]) -> list[Point]:
 
 
 def left_turn(a: Point, b: Point, c: Point) -> int:
+    """Returns a number above 0 if a line turns left at its second point, 0 if it goes straight on."""
     return (b[0] - a[0]) * (c[1] - b[1]) - (b[1] - a[1]) * (c[0] - b[0])
-
-
-def bends(a: Point, b: Point, c: Point) -> bool:
-    return left_turn(a, b, c) != 0

@@ -92,13 +92,8 @@ class Expression:
     tree: ast.Expression = field(compare=False, repr=False)
 
     def of(self, frame: pd.DataFrame) -> np.ndarray:
-        """Returns the value of each row: numbers to nine decimals, texts or truths.
-
-        Raises
-        ------
-        ExpressionError
-            If a column is missing, or texts and numbers are mixed.
-        """
+        """Returns the value of each row: numbers to nine decimals, texts or truths. Raises ExpressionError if a column is missing, or texts and
+        numbers are mixed."""
         for name in self.columns:
             if name not in frame:
                 raise ExpressionError(f"there is no column {name}")

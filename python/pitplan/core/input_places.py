@@ -26,13 +26,8 @@ def folders() -> Optional[list[Path]]:
 
 
 def fault(path: Path, is_folder: bool = False) -> Optional[str]:
-    """Returns why a path may be no input; None if it may. It may not lead out of the folders by `..` or a symbolic link, nor be a device or a pipe.
-
-    Parameters
-    ----------
-    is_folder : bool
-        The input is a folder, not a file.
-    """
+    """Returns why a path may be no input, a file or with `is_folder` a folder; None if it may. It may not lead out of the folders by `..` or a
+    symbolic link, nor be a device or a pipe."""
     allowed = folders()
     if allowed is None:
         return None

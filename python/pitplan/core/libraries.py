@@ -83,7 +83,8 @@ class Library:
 
     @property
     def remedy(self) -> str:
-        if self.package and not is_apart():
+        has_debian = not in_environment() or any(place.endswith("dist-packages") for place in sys.path)
+        if self.package and has_debian:
             return f"apt-get install {self.package}"
         # Debian's pip refuses to install outside of a virtual environment.
         return f"pip install {self.module.rpartition('.')[2]}{'' if in_environment() else ' in a virtual environment'}"
@@ -92,11 +93,6 @@ class Library:
 def in_environment() -> bool:
     """Returns whether Python runs in a virtual environment."""
     return sys.prefix != sys.base_prefix
-
-
-def is_apart() -> bool:
-    """Returns whether Python runs in a virtual environment without the packages of Debian."""
-    return in_environment() and not any(place.endswith("dist-packages") for place in sys.path)
 
 
 LIBRARIES = (

@@ -27,22 +27,9 @@ def run_all(tasks: Sequence[Task], most: Optional[int] = None) -> None:
 
 
 def each_done(tasks: Sequence[Task], most: Optional[int] = None) -> Iterator[int]:
-    """Runs tasks that write files, and yields the number of each when it is done.
-
-    A task sees the memory of this process. What it changes there is lost.
-
-    Parameters
-    ----------
-    most : int, optional
-        The most processes at a time; 1 runs all tasks in this process. Default: the number of processors.
-
-    Raises
-    ------
-    Exception
-        The error of a task. No process is left then.
-    ProgramError
-        If a process was killed.
-    """
+    """Runs tasks that write files, and yields the number of each when it is done. At most `most` processes run at a time, by default one per
+    processor; 1 runs all tasks in this process. A task sees the memory of this process. What it changes there is lost. Raises the error of a task,
+    and ProgramError if a process was killed; no process is left then."""
     count = min(len(tasks), most or cores())
     # A daemon, such as a process of a pool, may have no processes of its own.
     if count <= 1 or not hasattr(os, "fork") or multiprocessing.current_process().daemon:

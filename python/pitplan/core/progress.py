@@ -65,10 +65,9 @@ def warn(notes: Iterable[str], category: type[PlanWarning]) -> None:
 def caller() -> int:
     """How many calls up from `warn` the package was called."""
     level, frame = 1, sys._getframe(1)
-    while frame.f_back is not None and is_passed(str(frame.f_globals.get("__name__", ""))):
+    while frame.f_back is not None:
+        module = str(frame.f_globals.get("__name__", ""))
+        if module.split(".")[0] != PACKAGE and module not in PASSED:
+            break
         level, frame = level + 1, frame.f_back
     return level
-
-
-def is_passed(module: str) -> bool:
-    return module.split(".")[0] == PACKAGE or module in PASSED

@@ -23,13 +23,7 @@ def of_per_mille(count: int) -> float:
 
 
 def per_mille(factor: SupportsFloat) -> int:
-    """Returns a revenue factor in thousandths, as the solver takes it.
-
-    Raises
-    ------
-    ValueError
-        If the factor has more than three decimals.
-    """
+    """Returns a revenue factor in thousandths, as the solver takes it. Raises ValueError if the factor has more than three decimals."""
     found = round(float(factor) * PER_MILLE)
     if of_per_mille(found) != float(factor):
         raise ValueError(f"{factor} has more than three decimals")

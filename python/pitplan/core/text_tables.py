@@ -16,7 +16,7 @@ from collections import Counter
 from collections.abc import Iterator, Mapping, Sequence
 from concurrent.futures import ThreadPoolExecutor
 from contextlib import contextmanager, suppress
-from dataclasses import dataclass, field
+from dataclasses import dataclass, field, replace
 from itertools import islice
 from pathlib import Path
 from statistics import median
@@ -57,59 +57,62 @@ WITH_COMMA, WITH_POINT = re.compile(r"[-+]?\d*,\d+([eE][-+]?\d+)?"), re.compile(
 OF_VULCAN = re.compile(r"\s*variable (descriptions?|types?|defaults?)\b", re.IGNORECASE)
 OF_LEAPFROG = re.compile(r"leapfrog|block model:|base point:", re.IGNORECASE)
 OF_DATAMINE = ({"XC", "YC", "ZC"}, {"IJK", "XINC", "XMORIG"})
+# The encoding without a byte-order mark or a key, and that of bytes which are not of this encoding.
+USUAL, OTHERWISE = "utf-8-sig", "cp1252"
 
 
 @dataclass(frozen=True)
-class Layout:
-    """The layout of a table.
+class TableFormat:
+    """The format of a table's text.
 
     Attributes
     ----------
-    separator : str
-        What separates the fields; a blank stands for a run of blanks.
-    decimal : str
-        The decimal mark of the first rows.
+    separator, decimal, encoding : str
+        A blank as separator stands for a run of blanks.
     header_row, first_row : int
-        The lines of the names and of the first row.
+        The lines of the names and of the first row, from 1.
+    errors : str
+        What `codecs` does with bytes that are not of the encoding.
     above : tuple of str
-        The lines above the first row.
-    package : str
-        The package that wrote the table, "" if it is not recognised.
-    kind : str
-        What a file that is no text was recognised as.
+        The lines above the first row, where they were recognised.
+    recognised : str
+        How the file was recognised, such as "Vulcan CSV, 4 header lines"; "" for a plain table.
+    otherwise : int
+        Bytes that were read as Windows-1252, since they are not UTF-8.
     """
 
     separator: str
     decimal: str = "."
+    encoding: str = USUAL
     header_row: int = 1
     first_row: int = 2
+    errors: str = "strict"
     above: tuple[str, ...] = ()
-    package: str = ""
-    kind: str = ""
+    recognised: str = ""
+    otherwise: int = 0
 
     @property
-    def said(self) -> str:
-        """How the file was recognised, such as "Vulcan CSV, 4 header lines"; "" for a plain table."""
-        if self.kind:
-            return self.kind
-        count = self.first_row - 1
-        return ", ".join(
-            [*([f"{self.package} CSV"] if self.package else []), *([f"{count} header lines"] if count > 1 else [])]
-        )
+    def skipped(self) -> list[int]:
+        """The lines, from 0, that are no names and no rows."""
+        return [*range(self.header_row - 1), *range(self.header_row, self.first_row - 1)]
+
+    @property
+    def has_blanks(self) -> bool:
+        return self.separator == BLANKS
 
     def below(self) -> list[list[str]]:
         """Returns the fields of the header lines below the names."""
         return [fields_of(line, self.separator) for line in self.above[self.header_row :]]
 
 
-def layout_of(lines: Sequence[str], separator: Optional[str] = None) -> Layout:
-    """Returns the layout of the text that begins with these lines. `separator` is that of the project, if it names one."""
+def layout_of(lines: Sequence[str], separator: Optional[str] = None) -> TableFormat:
+    """Returns the format of the text that begins with these lines. `separator` is that of the project, if it names one."""
     found = [it for sign in ([separator] if separator else SEPARATORS) if (it := layout_by(lines, sign))]
     if not found and separator is None:
         found = [it for it in [layout_by(lines, BLANKS)] if it]
     if found:
         return max(found, key=lambda it: len(fields_of(lines[it.header_row - 1], it.separator)))
-    return Layout(separator or most_frequent(lines[0] if lines else ""))
+    return TableFormat(separator or most_frequent(lines[0] if lines else ""))
 
 
 def most_frequent(line: str) -> str:
@@ -118,8 +121,8 @@ def most_frequent(line: str) -> str:
     return max(SEPARATORS, key=plain.count)
 
 
-def layout_by(lines: Sequence[str], separator: str) -> Optional[Layout]:
-    """Returns the layout with a separator; None if no line has as many names as the rows have fields."""
+def layout_by(lines: Sequence[str], separator: str) -> Optional[TableFormat]:
+    """Returns the format with a separator; None if no line has as many names as the rows have fields."""
     if separator != BLANKS and not any(separator in line for line in lines):
         return None
     fields = [fields_of(line, separator) for line in lines]
@@ -128,21 +131,18 @@ def layout_by(lines: Sequence[str], separator: str) -> Optional[Layout]:
         return None
     width = Counter(map(len, rows)).most_common(1)[0][0]
     rows = [row for row in rows if len(row) == width]
-    names = next((k for k, row in enumerate(fields) if len(row) == width and are_names(row)), None)
+    are_names = (len(row) == width and sum(map(bool, row)) > 1 and not numbers_in(row) for row in fields)
+    names = next((k for k, is_row in enumerate(are_names) if is_row), None)
     if names is None:
         return None
     usual = median(map(numbers_in, rows))
     below = islice(range(names + 1, len(fields)), MOST_BELOW)
     first = next((k for k in below if not is_header(fields[k], usual)), names + 1)
-    above = tuple(lines[:first])
-    return Layout(
-        separator,
-        decimal_of(rows, separator),
-        names + 1,
-        first + 1,
-        above,
-        package_of(above[:names], fields[names:first]),
-    )
+    package = package_of(lines[:names], fields[names:first])
+    said = [f"{package} CSV"] if package else []
+    said += [f"{first} header lines"] if first > 1 else []
+    form = TableFormat(separator, decimal_of(rows, separator), USUAL, names + 1, first + 1)
+    return replace(form, above=tuple(lines[:first]), recognised=", ".join(said))
 
 
 def fields_of(line: str, separator: str) -> list[str]:
@@ -155,10 +155,6 @@ def fields_of(line: str, separator: str) -> list[str]:
         return [field.strip() for field in next(csv.reader([line], delimiter=separator), [])]
     except csv.Error:
         return []
-
-
-def are_names(row: list[str]) -> bool:
-    return sum(bool(name) for name in row) > 1 and numbers_in(row) == 0
 
 
 def numbers_in(row: list[str]) -> int:
@@ -199,8 +195,6 @@ UNREADABLE = (OSError, EOFError, zipfile.BadZipFile, zlib.error, lzma.LZMAError)
 LOCKED = 1
 # How files begin that Excel writes, new and old.
 PACKED = (b"PK\x03\x04", b"\xd0\xcf\x11\xe0")
-# The encoding without a byte-order mark or a key, and that of bytes which are not of this encoding.
-USUAL, OTHERWISE = "utf-8-sig", "cp1252"
 # The most letters of a line: a packed file may hold one that no memory holds.
 MOST_IN_A_LINE = 10_000_000
 # The error handler of `codecs` that reads these bytes.
@@ -225,43 +219,6 @@ def as_windows_1252(error: UnicodeError) -> tuple[str, int]:
 
 
 codecs.register_error(MIXED, as_windows_1252)
-
-
-@dataclass(frozen=True)
-class TableFormat:
-    """The format of a table's text.
-
-    Attributes
-    ----------
-    separator, decimal, encoding : str
-        A blank as separator stands for a run of blanks.
-    header_row, first_row : int
-        The lines of the names and of the first row, from 1.
-    errors : str
-        What `codecs` does with bytes that are not of the encoding.
-    layout : Layout
-        The layout that was recognised.
-    otherwise : int
-        Bytes that were read as Windows-1252, since they are not UTF-8.
-    """
-
-    separator: str
-    decimal: str
-    encoding: str
-    header_row: int = 1
-    first_row: int = 2
-    errors: str = "strict"
-    layout: Layout = Layout(",")
-    otherwise: int = 0
-
-    @property
-    def skipped(self) -> list[int]:
-        """The lines, from 0, that are no names and no rows."""
-        return [*range(self.header_row - 1), *range(self.header_row, self.first_row - 1)]
-
-    @property
-    def has_blanks(self) -> bool:
-        return self.separator == BLANKS
 
 
 def guessed_separator(file: Path, encoding: str) -> str:
@@ -621,13 +578,8 @@ class NotPlain(Exception):
 
 
 def read_parts(file: Path, form: TableFormat, options: Mapping[str, Any]) -> Optional[list[pd.DataFrame]]:
-    """Returns the parts of a table in order; None if it is small or not plain.
-
-    Parameters
-    ----------
-    options : mapping
-        Those of `pandas.read_csv`; `dtype` has the columns of texts.
-    """
+    """Returns the parts of a table in order; None if it is small or not plain. The options are those of `pandas.read_csv`; `dtype` has the columns of
+    texts."""
     if form.encoding != USUAL or form.decimal != "." or form.has_blanks or file.suffix in (".gz", ".zip"):
         return None
     try:

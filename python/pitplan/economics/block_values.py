@@ -62,15 +62,11 @@ class Steps:
     cost: np.ndarray
 
     def on(self, block: np.ndarray) -> Steps:
-        """The same steps on given nodes, whose blocks rise and repeat as often as they have nodes.
+        """The same steps on given nodes, whose blocks rise and repeat as often as they have nodes. Raises PlanError if a block has more steps than
+        nodes.
 
-        The steps of a block take its first nodes. Its other nodes cost and yield nothing, and only such nodes depend on them. So at every
-        factor the smallest pit has the same blocks and the same steps as without these nodes.
-
-        Raises
-        ------
-        PlanError
-            If a block has more steps than nodes.
+        The steps of a block take its first nodes. Its other nodes cost and yield nothing, and only such nodes depend on them. So at every factor the
+        smallest pit has the same blocks and the same steps as without these nodes.
         """
         rank = np.arange(len(self.block)) - np.searchsorted(self.block, self.block)
         at = np.searchsorted(block, self.block) + rank
@@ -104,15 +100,6 @@ def best_way(ways: tuple[Way, ...], factor: float) -> np.ndarray:
 def value_in(way: Way, factor: float) -> np.ndarray:
     """Returns the value of each cell in a process at a revenue factor, without mining, in billionths."""
     return at_factor(factor, way.revenue, way.cost)
-
-
-def most_steps(ways: tuple[Way, ...]) -> np.ndarray:
-    """Returns the block of each node that the steps may take if no cell has more revenue in any process: one per process with a revenue.
-
-    Each step has more revenue than the one before, so a block has no more steps than such processes.
-    """
-    counts = np.sum([way.revenue > 0 for way in ways], axis=0)
-    return np.repeat(np.arange(len(counts)), counts)
 
 
 def steps_of(ways: tuple[Way, ...]) -> Steps:
@@ -408,23 +395,16 @@ class Values:
         return total(gain, product(self.mining, -1000))
 
     def with_shared_nodes(self) -> Values:
-        """Returns the same with nodes that serve every scenario in which no block has more revenue in any process than here."""
-        return replace(self, shared=most_steps(self.by_process)) if self.cutoff == "per_revenue_factor" else self
+        """Returns the same with nodes that serve every scenario in which no block has more revenue in any process than here: of each block one per
+        process with a revenue, since each step has more revenue than the one before."""
+        counts = np.sum([way.revenue > 0 for way in self.by_process], axis=0)
+        nodes = np.repeat(np.arange(len(counts)), counts)
+        return replace(self, shared=nodes) if self.cutoff == PER_REVENUE_FACTOR else self
 
 
 def values_of(frame: pd.DataFrame, grid: Grid, project: Project, source: str = "table") -> Values:
-    """Returns the values of the blocks of a checked table, exact except for one rounding to the decimals of the project.
-
-    Parameters
-    ----------
-    source : str
-        How errors name the table.
-
-    Raises
-    ------
-    PlanError
-        If a rock type has no cost, an amount is 10^11 or more, or there are too many nodes.
-    """
+    """Returns the values of the blocks of a checked table, exact except for one rounding to the decimals of the project. Errors name the table by
+    `source`. Raises PlanError if a rock type has no cost, an amount is 10^11 or more, or there are too many nodes."""
     rows = ValuedRows(frame, grid, project, source, Exact.of_floats(frame[project.table.tonnes].to_numpy()))
     feed = rows.feed()
     weighed = [replace(rows, project=way).weighed(feed) for way in project.by_process]
@@ -435,7 +415,11 @@ def values_of(frame: pd.DataFrame, grid: Grid, project: Project, source: str = "
     best = best_way(ways, BASE_PRICE)
     mining, rounding = rows.millionths(rows.mining(), "mining cost")
     hauled, of_haulage = rows.hauled(feed)
-    roundings = {title(what, name): done for it, name in zip(weighed, names) for what, done in it.roundings.items()}
+    roundings = {
+        f"{what} of {name}" if name else what: done
+        for it, name in zip(weighed, names)
+        for what, done in it.roundings.items()
+    }
     values = Values(
         mining=grid.spread(mining),
         by_process=ways,
@@ -481,10 +465,6 @@ def greatest_gains(frame: pd.DataFrame, grid: Grid, project: Project, source: st
         found |= mask & np.array(at_factor(factor, weighed.revenue, weighed.cost) > 0, dtype=bool)
     is_waste = resource_classes.waste_of(frame, project)
     return found if is_waste is None else found & ~is_waste
-
-
-def title(what: str, process: str) -> str:
-    return f"{what} of {process}" if process else what
 
 
 def demand_few_nodes(values: Values, grid: Grid) -> None:

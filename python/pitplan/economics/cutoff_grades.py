@@ -81,8 +81,9 @@ class RockCosts:
         def lacks(head: float) -> float:
             return needed - max(head - tail, 0.0) * share_at(recovery, head)
 
-        # There the recovery is the greatest, which covers the cost.
-        high = max(needed / greatest(recovery) + tail, last_grade(recovery)) + SUM_ERROR
+        # From the last grade on the recovery is the greatest, which covers the cost.
+        last = float(recovery.points[-1][0]) if isinstance(recovery, Curve) else 0.0
+        high = max(needed / greatest(recovery) + tail, last) + SUM_ERROR
         return float(brentq(lacks, 0.0, high, xtol=ROOT_ERROR)) if lacks(0.0) > 0 else 0.0
 
     def equivalent(self, metal: Metal, premiums: dict[str, float]) -> float:
@@ -99,11 +100,6 @@ class RockCosts:
 def greatest(recovery: Recovery) -> float:
     """Returns the greatest recovery at any grade, at which recoveries by grade end."""
     return float(recovery.points[-1][1]) if isinstance(recovery, Curve) else float(recovery)
-
-
-def last_grade(recovery: Recovery) -> float:
-    """Returns the grade from which on the recovery is the greatest."""
-    return float(recovery.points[-1][0]) if isinstance(recovery, Curve) else 0.0
 
 
 def share_at(recovery: Recovery, head: float) -> float:

@@ -84,7 +84,6 @@ class YearlyMoney:
         return {name: found[name] for name in self.columns}
 
     def spent(self, years: int) -> np.ndarray:
-        """Returns the capex of each year."""
         found = np.zeros(years)
         for year, amount in self.capex:
             if year <= years:

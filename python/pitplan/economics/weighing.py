@@ -132,10 +132,12 @@ class Roads:
 
     @staticmethod
     def of(grid: Grid, rules: Haulage) -> Roads:
-        metres = (
-            flat_lengths(grid, rules)[grid.rows % grid.per_level]
-            + ramp_lengths(grid, rules)[grid.rows // grid.per_level]
-        )
+        x, y, _ = grid.centres(np.arange(grid.per_level))
+        flat = np.hypot(x - float(rules.pit_exit[0]), y - float(rules.pit_exit[1]))
+        floors = Exact.of_floats(grid.toes().round(ELEVATION_PLACES))
+        rise = floors.minus(Exact.of(rules.pit_exit[2], len(floors.whole))).floats()
+        ramp = np.abs(rise) / float(rules.ramp_gradient)
+        metres = flat[grid.rows % grid.per_level] + ramp[grid.rows // grid.per_level]
         return Roads(Exact(np.rint(metres * 10**LENGTH_PLACES).astype(np.int64), LENGTH_PLACES), rules)
 
     @property
@@ -162,19 +164,6 @@ class Hauled:
     road: np.ndarray
     waste: np.ndarray
     ore_more: np.ndarray
-
-
-def flat_lengths(grid: Grid, rules: Haulage) -> np.ndarray:
-    """Returns the horizontal metres from the exit to the centre of each column of blocks, shape (rows x columns,)."""
-    x, y, _ = grid.centres(np.arange(grid.per_level))
-    return np.hypot(x - float(rules.pit_exit[0]), y - float(rules.pit_exit[1]))
-
-
-def ramp_lengths(grid: Grid, rules: Haulage) -> np.ndarray:
-    """Returns the horizontal metres of the ramp from each level's floor to the elevation of the exit, from the top."""
-    floors = Exact.of_floats(grid.toes().round(ELEVATION_PLACES))
-    rise = floors.minus(Exact.of(rules.pit_exit[2], len(floors.whole))).floats()
-    return np.asarray(np.abs(rise) / float(rules.ramp_gradient))
 
 
 def reference_level(money: Economics, grid: Grid) -> int:
@@ -348,14 +337,8 @@ class ValuedRows:
         return found
 
     def weighed(self, feed: Feed) -> Weighed:
-        """Returns revenue and cost in the project's own process.
-
-        Raises
-        ------
-        PlanError
-            If a rock type has no cost, an amount is 10^11 or more, or hauling ore is so much cheaper than waste, or price participation credits so
-            much, that a cost falls below 0.
-        """
+        """Returns revenue and cost in the project's own process. Raises PlanError if a rock type has no cost, an amount is 10^11 or more, or hauling
+        ore is so much cheaper than waste, or price participation credits so much, that a cost falls below 0."""
         costs, metals = self.project.economics, self.project.metals
         metal = {m.name: self.recovered(m, feed) for m in metals}
         revenue = selling = self.every(Decimal(0))

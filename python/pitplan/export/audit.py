@@ -25,7 +25,7 @@ from pitplan.core.progress import Progress
 from pitplan.core.revenue_factors import factor_text, with_exact_factors
 from pitplan.errors import PlanError
 from pitplan.export.planner_table import project_of
-from pitplan.plan import Plan, prepared
+from pitplan.plan import prepared
 from pitplan.results import names
 from pitplan.results.folder import Folder
 from pitplan.solver import mine_files, program
@@ -71,13 +71,6 @@ def read_nodes(blocks: Path) -> tuple[np.ndarray, np.ndarray]:
     return revenue, cost
 
 
-def prepared_again(folder: Folder, progress: Progress) -> Plan:
-    """Returns the plan that the library solved. Raises PlanError if an input has changed since."""
-    project = project_of(folder)
-    shells = replace(project.shells, revenue_factors=tuple(folder.record["revenue_factors"]))
-    return prepared(replace(project, shells=shells), progress=progress)
-
-
 def write_mine(stage: Path, folder: Folder, factor: float, progress: Progress) -> None:
     """Writes model, precedences and, if there are any, fixed blocks at a revenue factor. Raises PlanError if an input has changed since, or a
     value does not fit a model."""
@@ -88,7 +81,9 @@ def write_mine(stage: Path, folder: Folder, factor: float, progress: Progress) -
             if f"{SOLVER}/{name}" in folder.record["files"]:
                 shutil.copyfile(solver / name, stage / copy)
     else:
-        plan = prepared_again(folder, progress)
+        project = project_of(folder)
+        shells = replace(project.shells, revenue_factors=tuple(folder.record["revenue_factors"]))
+        plan = prepared(replace(project, shells=shells), progress=progress)
         nodes = plan.values.nodes()
         mine_files.write_precedences(stage / PREC, plan, plan.precedences)
         if plan.settled is not None:
@@ -99,24 +94,9 @@ def write_mine(stage: Path, folder: Folder, factor: float, progress: Progress) -
 
 
 def write(stage: Path, folder: Folder, factor: float, progress: Progress) -> None:
-    """Writes the audit of a shell: model, precedences, certificate, pit, hashes, record, and the script that checks them.
-
-    Parameters
-    ----------
-    stage : Path
-        The folder to write into.
-    folder : Folder
-        The folder of the plan.
-    factor : float
-        Revenue factor of the shell.
-
-    Raises
-    ------
-    ProgramError
-        If the program refuses the mine.
-    PlanError
-        If the audited pit is not the shell of the plan, or an input of a plan that the library solved has changed.
-    """
+    """Writes the audit of a shell, by its revenue factor, into a stage: model, precedences, certificate, pit, hashes, record, and the script that
+    checks them. Raises ProgramError if the program refuses the mine, and PlanError if the audited pit is not the shell of the plan, or an input of a
+    plan that the library solved has changed."""
     write_mine(stage, folder, factor, progress)
     shutil.copyfile(CHECKER, stage / CHECKER.name)
     options: list[str | Path] = ["--model", stage / MODEL, "--prec", stage / PREC]

@@ -66,18 +66,8 @@ def words_of(texts: Iterable[str], parts: int) -> np.ndarray:
 
 
 def write_dm(path: Path, folder: Folder, shape: Shape) -> list[str]:
-    """Writes the blocks of blocks.csv by IJK, with the prototype of the grid. `shape` is not used.
-
-    Returns
-    -------
-    notes : list of str
-        The names of columns that were shortened, and the columns that did not fit.
-
-    Raises
-    ------
-    PlanError
-        If the grid is rotated.
-    """
+    """Writes the blocks of blocks.csv by IJK, with the prototype of the grid. `shape` is not used. Returns the names of columns that were shortened,
+    and the columns that did not fit. Raises PlanError if the grid is rotated."""
     if folder.grid.azimuth:
         why = f"the grid north has azimuth {folder.grid.azimuth:.10g}, and rotated models are not written"
         raise PlanError(f"dm: {why}: export to omf or csv")

@@ -67,22 +67,11 @@ def lines_of_stage(stage: Stage, grid: Grid) -> Iterator[ClosedLine]:
 
 
 def write_dxf(path: Path, folder: Folder, shape: Shape) -> list[str]:
-    """Writes toes and crests of the pits of a shape, or the ground with the pits in it.
+    """Writes toes and crests of the pits of a shape, or the ground with the pits in it; returns a sentence on the volume of each surface. Raises
+    MissingPackage without ezdxf, and PlanError as `stages_of` and `mesh.of_stage`.
 
-    Toes and crests are in the layers TOE_z and CREST_z, where z is the floor of the bench in metres. The ground is in BENCH_z, and in GROUND
-    where nothing is mined. The pushback or year precedes these names.
-
-    Returns
-    -------
-    list of str
-        A sentence on the volume of each surface.
-
-    Raises
-    ------
-    MissingPackage
-        Without ezdxf.
-    PlanError
-        As `stages_of` and `mesh.of_stage`.
+    Toes and crests are in the layers TOE_z and CREST_z, where z is the floor of the bench in metres. The ground is in BENCH_z, and in GROUND where
+    nothing is mined. The pushback or year precedes these names.
     """
     ezdxf = load("ezdxf", "python3-ezdxf", "export --to dxf")
     drawing = ezdxf.new("R2010", units=6)
@@ -122,16 +111,9 @@ BREAK, END = "0, 0.000, 0.000, 0.000,", "0, 0.000, 0.000, 0.000, END"
 
 
 def write_gpkg(path: Path, folder: Folder, shape: Shape) -> None:
-    """Writes a GeoPackage with a layer `lines`: closed 3D lines with `kind` (toe or crest), `bench` (elevation of its floor, metres) and the
-    revenue factor, pushback or year. Coordinates are those of the table; the layer names no coordinate system.
-
-    Raises
-    ------
-    MissingPackage
-        Without GDAL.
-    PlanError
-        As `stages_of`, or if the file cannot be written.
-    """
+    """Writes a GeoPackage with a layer `lines`: closed 3D lines with `kind` (toe or crest), `bench` (elevation of its floor, metres) and the revenue
+    factor, pushback or year. Coordinates are those of the table; the layer names no coordinate system. Raises MissingPackage without GDAL, and
+    PlanError as `stages_of`, or if the file cannot be written."""
     ogr, gdal = (load(f"osgeo.{name}", GDAL, "export --to gpkg") for name in ("ogr", "gdal"))
     with options(gdal, DATE):
         ogr.UseExceptions()
@@ -177,16 +159,9 @@ def closed(line: ClosedLine) -> list[list[float]]:
 
 
 def write_str(path: Path, folder: Folder, shape: Shape) -> None:
-    """Writes a Surpac string file: name, axis, then per point the number of its string, north, east, elevation, and as descriptions the kind of
-    line, the floor of the bench, and the revenue factor, pushback or year.
-
-    Toes have odd numbers from 1, one per revenue factor, pushback or year; crests have the next even number.
-
-    Raises
-    ------
-    PlanError
-        As `stages_of`, or if more than MOST_STRINGS numbers are needed.
-    """
+    """Writes a Surpac string file: name, axis, then per point the number of its string, north, east, elevation, and as descriptions the kind of line,
+    the floor of the bench, and the revenue factor, pushback or year. Toes have odd numbers from 1, one per revenue factor, pushback or year; crests
+    have the next even number. Raises PlanError as `stages_of`, or if more than MOST_STRINGS numbers are needed."""
     lines, numbers = [f"{plain(path.stem)},,toes and crests,", AXIS], dict[float, int]()
     for line in lines_of(folder, shape):
         number = 2 * numbers.setdefault(line.stage.number, len(numbers)) + (1 if line.kind == TOE else 2)

@@ -67,18 +67,8 @@ class TriangleMesh:
 
 
 def heights_of(rock: np.ndarray, stage: Stage, grid: Grid) -> Heights:
-    """Returns the heights before and after a stage.
-
-    Parameters
-    ----------
-    rock : array of bool, shape (levels, rows, columns)
-        Whether a cell holds rock; levels from the top.
-
-    Raises
-    ------
-    PlanError
-        If rock remains above a mined cell.
-    """
+    """Returns the heights before and after a stage. `rock` says which cells hold rock, shape (levels, rows, columns); levels from the top. Raises
+    PlanError if rock remains above a mined cell."""
     levels = rock.shape[0]
     before = np.where(rock.any(axis=0), levels - rock.argmax(axis=0), NONE)
     floor = stage.mined[::-1].argmax(axis=0)
@@ -112,18 +102,8 @@ def stepped(heights: Heights) -> TriangleMesh:
 
 
 def domains(heights: Heights, axis: int, step: int) -> tuple[np.ndarray, np.ndarray, np.ndarray]:
-    """Returns the walls between a higher column and a lower one next to it.
-
-    Parameters
-    ----------
-    axis, step : int
-        Where the walls face: east (1, 1), west (1, -1), north (0, 1) or south (0, -1).
-
-    Returns
-    -------
-    tuple of array
-        The lower corner of each wall, its four corners from there, and its bench.
-    """
+    """Returns the walls between a higher column and a lower one next to it: the lower corner of each wall, its four corners from there, and its
+    bench. `axis` and `step` say where the walls face: east (1, 1), west (1, -1), north (0, 1) or south (0, -1)."""
     of_here, of_there = (slice(None, -1), slice(1, None))[::step]
     here, there = (np.moveaxis(heights.after, axis, 0)[part] for part in (of_here, of_there))
     was = np.moveaxis(heights.before, axis, 0)[of_there]
@@ -146,7 +126,9 @@ def smoothed(surface: TriangleMesh) -> TriangleMesh:
     """Returns the mesh smoothed by Taubin's method (1995), which nearly preserves volumes. Corners move by at most MOST along each axis; those at
     the rim of the mesh, which are the sides of the model, stay.
     """
-    sides = sides_of(surface.faces)
+    # The sides of block faces, which are pairs of consecutive triangles, without their diagonals.
+    first, second = surface.faces[::2], surface.faces[1::2]
+    sides = np.concatenate([first[:, [0, 1]], first[:, [1, 2]], second[:, [1, 2]], second[:, [2, 0]]])
     edges, uses = np.unique(np.sort(sides, axis=1), axis=0, return_counts=True)
     ends = np.concatenate([edges, edges[:, ::-1]])
     beside = np.bincount(ends[:, 0], minlength=len(surface.corners))[:, None]
@@ -160,12 +142,6 @@ def smoothed(surface: TriangleMesh) -> TriangleMesh:
     return replace(surface, corners=moved)
 
 
-def sides_of(faces: np.ndarray) -> np.ndarray:
-    """Returns the sides of block faces, which are pairs of consecutive triangles, without their diagonals."""
-    first, second = faces[::2], faces[1::2]
-    return np.concatenate([first[:, [0, 1]], first[:, [1, 2]], second[:, [1, 2]], second[:, [2, 0]]])
-
-
 def volume_under(surface: TriangleMesh) -> float:
     """Returns the volume between a mesh and the floor of the model, in cells. Vertical faces add none."""
     a, b, c = (surface.corners[surface.faces[:, k]] for k in range(3))
@@ -174,17 +150,8 @@ def volume_under(surface: TriangleMesh) -> float:
 
 
 def of_stage(rock: np.ndarray, stage: Stage, grid: Grid, smooth: bool) -> tuple[TriangleMesh, str]:
-    """Returns the mesh of a stage, and a sentence on the volume between it and the original ground and on that of the mined cells.
-
-    Parameters
-    ----------
-    smooth : bool
-        Smooth the steps of blocks.
-
-    Raises
-    ------
-    PlanError
-        If rock remains above a mined cell, or the two volumes differ by more than the share MESH_VOLUME.
+    """Returns the mesh of a stage, with `smooth` without the steps of blocks, and a sentence on the volume between it and the original ground and on
+    that of the mined cells. Raises PlanError if rock remains above a mined cell, or the two volumes differ by more than the share MESH_VOLUME.
     """
     heights = heights_of(rock, stage, grid)
     untouched = Heights(heights.before, heights.before)
@@ -210,13 +177,8 @@ PACKAGE = "python3-vtk9"
 
 
 def image_of(grid: Grid, cells: dict[str, np.ndarray], purpose: str) -> Any:
-    """Returns vtkImageData in metres with named arrays, shape (cells,). A rotated grid has its direction matrix.
-
-    Raises
-    ------
-    MissingPackage
-        Without VTK; `purpose` is what needs it.
-    """
+    """Returns vtkImageData in metres with named arrays, shape (cells,). A rotated grid has its direction matrix. Raises MissingPackage without VTK;
+    `purpose` is what needs it."""
     vtk = load("vtk", PACKAGE, purpose)
     levels, rows, columns = grid.shape
     west, _, south, _, floor, _ = grid.extent()
@@ -266,37 +228,21 @@ def save(writer: Any, path: Path, data: Any) -> None:
 
 
 def write_stl(path: Path, folder: Folder, shape: Shape) -> list[str]:
-    """Writes the surface of a pit as STL, in metres, or of each pushback or year into the folder `path`.
-
-    Returns
-    -------
-    list of str
-        A sentence on the volume of each surface.
-
-    Raises
-    ------
-    MissingPackage
-        Without VTK.
-    PlanError
-        If the pit is empty, or the volume of a surface differs from that of its blocks.
+    """Writes the surface of a pit as STL, in metres, or of each pushback or year into the folder `path`. Returns a sentence on the volume of each
+    surface. Raises MissingPackage without VTK, and PlanError if the pit is empty, or the volume of a surface differs from that of its blocks.
     """
-    vtk = load("vtk", PACKAGE, "export --to stl")
-    return write_each(path, folder, shape, "stl", writer_of=lambda: ascii_writer(vtk))
+    writer = load("vtk", PACKAGE, "export --to stl").vtkSTLWriter()
+    writer.SetFileTypeToASCII()
+    return write_each(path, folder, shape, "stl", writer=writer)
 
 
 def write_obj(path: Path, folder: Folder, shape: Shape) -> list[str]:
     """Writes the same as Wavefront OBJ."""
-    vtk = load("vtk", PACKAGE, "export --to obj")
-    return write_each(path, folder, shape, "obj", writer_of=vtk.vtkOBJWriter)
+    writer = load("vtk", PACKAGE, "export --to obj").vtkOBJWriter()
+    return write_each(path, folder, shape, "obj", writer=writer)
 
 
-def ascii_writer(vtk: Any) -> Any:
-    writer = vtk.vtkSTLWriter()
-    writer.SetFileTypeToASCII()
-    return writer
-
-
-def write_each(path: Path, folder: Folder, shape: Shape, kind: str, *, writer_of: Any) -> list[str]:
+def write_each(path: Path, folder: Folder, shape: Shape, kind: str, *, writer: Any) -> list[str]:
     """Writes a file per stage; returns a sentence on each. The pit of a stage in which nothing is mined has no file."""
     said = []
     for stage in stages_of(folder, shape):
@@ -307,7 +253,7 @@ def write_each(path: Path, folder: Folder, shape: Shape, kind: str, *, writer_of
         surface, told = (
             of_ground(folder, stage, shape) if shape.surface == GROUND else of_pit(place.name, folder, stage)
         )
-        save(writer_of(), place, surface)
+        save(writer, place, surface)
         said.append(f"{place.name}: {told}")
     return said
 

@@ -28,14 +28,9 @@ WRITTEN_AS = {"utf-8-sig": "utf-8"}
 
 
 def write(path: Path, folder: Folder) -> None:
-    """Writes the table in its own text format, with the columns FOUND after the planner's. A planner's column of such a name becomes
-    planner_NAME, as in blocks.csv. Of the header lines the names are written alone; rows that are no blocks have zeros.
-
-    Raises
-    ------
-    PlanError
-        If the project or its table cannot be read or has changed since the folder was written, or the table is not a text file.
-    """
+    """Writes the table in its own text format, with the columns FOUND after the planner's. A planner's column of such a name becomes planner_NAME, as
+    in blocks.csv. Of the header lines the names are written alone; rows that are no blocks have zeros. Raises PlanError if the project or its table
+    cannot be read or has changed since the folder was written, or the table is not a text file."""
     project = project_of(folder)
     demand_text(project.table.file, "export --to table")
     frame, form = as_text(project.table.file, project)

@@ -309,7 +309,6 @@ class CashFlowSheet:
 
     @property
     def capex(self) -> str:
-        """The reference to the capex of a period."""
         return "[capex]" if self.has("capex") else "0"
 
     def free(self) -> Iterator[SheetLine]:

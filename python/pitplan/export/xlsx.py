@@ -33,13 +33,8 @@ def write(
     first: Sequence[Callable[[Any], None]] = (),
     head: Callable[[str], str] = str,
 ) -> None:
-    """Writes a sheet per table, by its name, with a frozen header, after those that `first` adds; `head` makes the header of a column.
-
-    Raises
-    ------
-    MissingPackage
-        Without openpyxl.
-    """
+    """Writes a sheet per table, by its name, with a frozen header, after those that `first` adds; `head` makes the header of a column. Raises
+    MissingPackage without openpyxl."""
     openpyxl = load("openpyxl", "python3-openpyxl", "a workbook")
     styles = load("openpyxl.styles", "python3-openpyxl", "a workbook")
     book = openpyxl.Workbook()

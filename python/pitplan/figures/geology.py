@@ -155,7 +155,6 @@ def write_block_model(model: GuessedModel, path: Path) -> None:
 
 
 def histograms_of(model: GuessedModel) -> list[tuple[str, str]]:
-    """Returns the columns of the histograms, and their units."""
     grades = [(metal.column, GRADE_SIGNS[metal.unit]) for metal in model.columns.metals]
     weights = [
         (model.columns.named[key].column, {"density": "t/m3", "tonnes": "t"}[key])

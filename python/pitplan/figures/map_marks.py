@@ -84,8 +84,10 @@ def nice_length(most: float) -> float:
     return float(max(step * power for step in (1, 2, 5) if step * power <= most * (1 + SUM_ERROR)))
 
 
-def mark_sections(ax: Axes, grid: Grid, north_of: float, east_of: float) -> None:
-    """Draws the lines of sections with letters at their ends: A from west to east, B from south to north."""
+def mark_section_cells(ax: Axes, grid: Grid, row: int, column: int) -> None:
+    """Draws the lines of sections through the centres of a row from the south and a column from the west, with letters at their ends: A from west to
+    east, B from south to north."""
+    east_of, north_of = (float(axis) for axis in grid.middles(np.array(row * grid.shape[2] + column))[:2])
     west, east, south, north, _, _ = grid.extent()
     look = {"color": SECTION, "linewidth": 1.1, "linestyle": (0, (6, 3))}
     ax.plot([west, east], [north_of, north_of], **look)
@@ -100,35 +102,17 @@ def mark_sections(ax: Axes, grid: Grid, north_of: float, east_of: float) -> None
         ax.annotate(name, at, xytext=shift, ha="center", **words)
 
 
-def mark_section_cells(ax: Axes, grid: Grid, row: int, column: int) -> None:
-    """Draws the lines of sections through the centres of a row from the south and a column from the west."""
-    east, north = (float(axis) for axis in grid.middles(np.array(row * grid.shape[2] + column))[:2])
-    mark_sections(ax, grid, float(north), float(east))
-
-
 def floor_of(grid: Grid, mined: np.ndarray) -> np.ndarray:
-    """Returns the elevation of the pit floor in metres, shape (rows, columns); nan where nothing is mined.
-
-    Parameters
-    ----------
-    mined : array of bool, shape (levels, rows, columns)
-        Whether a cell is mined; levels from the top.
-    """
+    """Returns the elevation of the pit floor in metres, shape (rows, columns); nan where nothing is mined. `mined` says which cells are mined, shape
+    (levels, rows, columns); levels from the top."""
     level = np.arange(grid.shape[0])[:, None, None]
     deepest = np.where(mined, level, -1).max(axis=0)
     return np.where(deepest >= 0, grid.extent()[5] - (deepest + 1) * grid.size[2], np.nan)
 
 
 def contours(ax: Axes, grid: Grid, floor: np.ndarray, over: bool = False) -> int:
-    """Draws contours of the pit floor by benches, some with their elevation; returns the number of benches between two contours.
-
-    Parameters
-    ----------
-    floor : array of float, shape (rows, columns)
-        Elevation of the pit floor in metres; nan outside the pit.
-    over : bool
-        Whether they are drawn over other lines; then they are dotted.
-    """
+    """Draws contours of the pit floor by benches, some with their elevation, dotted if they are drawn over other lines; returns the number of benches
+    between two contours. `floor` is the elevation in metres, nan outside the pit, shape (rows, columns)."""
     west, _, south, _, _, _ = grid.extent()
     size = np.array(grid.size[:2])
     benches = np.unique(floor[np.isfinite(floor)])[::-1]

@@ -297,7 +297,8 @@ def draw_pushbacks(schedule: PushbackSchedule, way: str, ax: Axes) -> None:
 def draw_gantt(schedule: PushbackSchedule, way: str, ax: Axes) -> None:
     """Draws a bar per bench and year, darker the larger the share of the bench."""
     shares, benches = schedule.shares[way], schedule.benches
-    row = gantt_rows(schedule)
+    # Above the first row of a pushback is space for its label.
+    row = np.arange(len(benches)) + 2.0 * (benches.pushback - 1) + 1
     bench, year = np.nonzero(shares)
     tints = pushback_tints(int(benches.pushback.max()))[benches.pushback[bench] - 1]
     tints[:, 3] = PALEST + (1 - PALEST) * shares[bench, year]
@@ -324,12 +325,6 @@ def finish_gantt(schedule: PushbackSchedule, way: str, ax: Axes, more: str = "")
 def longest_of(schedule: PushbackSchedule) -> int:
     """Returns the years of the method that takes most."""
     return max(shares.shape[1] for shares in schedule.shares.values())
-
-
-def gantt_rows(schedule: PushbackSchedule) -> np.ndarray:
-    """Returns the row of each bench from the top of the figure, with space for the label of a pushback above its first."""
-    pushback = schedule.benches.pushback
-    return np.arange(len(pushback)) + 2.0 * (pushback - 1) + 1
 
 
 def pushback_tints(count: int) -> np.ndarray:

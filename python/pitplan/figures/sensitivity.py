@@ -33,10 +33,14 @@ PER_CENT = FuncFormatter(lambda share, _: f"{100 * share:+.0f} %" if share else 
 
 def write_all(table: pd.DataFrame, pairs: tuple[tuple[str, str], ...], currency: str, folder: Path) -> None:
     """Writes the tornado, the spider plot, and a grid per pair."""
-    write_tornado(table, currency, folder / names.TORNADO)
-    write_spider(table, currency, folder / names.SPIDER)
+    with figure_file(folder / names.TORNADO, 9, 1.6 + 0.5 * max(len(singles(table)), 2)) as figure:
+        plot_tornado(table, currency, figure.subplots())
+    with figure_file(folder / names.SPIDER, 9, 5) as figure:
+        plot_spider(table, currency, figure.subplots())
     for pair in pairs:
-        write_grid(table, pair, currency, folder / names.grid_of(pair))
+        wide, high = grid_of(table, *pair).shape[::-1]
+        with figure_file(folder / names.grid_of(pair), 2.6 + 0.95 * wide, 1.6 + 0.55 * high) as figure:
+            plot_grid(table, pair, currency, figure.subplots())
 
 
 def singles(table: pd.DataFrame) -> dict[str, pd.Series]:
@@ -46,11 +50,6 @@ def singles(table: pd.DataFrame) -> dict[str, pd.Series]:
         str(name): pd.concat([rows.set_index("change")["npv"], pd.Series({0.0: as_given})]).sort_index()
         for name, rows in alone.groupby("parameter", sort=False)
     }
-
-
-def write_tornado(table: pd.DataFrame, currency: str, path: Path) -> None:
-    with figure_file(path, 9, 1.6 + 0.5 * max(len(singles(table)), 2)) as figure:
-        plot_tornado(table, currency, figure.subplots())
 
 
 def plot_tornado(table: pd.DataFrame, currency: str, axes: Axes) -> Axes:
@@ -75,11 +74,6 @@ def plot_tornado(table: pd.DataFrame, currency: str, axes: Axes) -> Axes:
     return axes
 
 
-def write_spider(table: pd.DataFrame, currency: str, path: Path) -> None:
-    with figure_file(path, 9, 5) as figure:
-        plot_spider(table, currency, figure.subplots())
-
-
 def plot_spider(table: pd.DataFrame, currency: str, axes: Axes) -> Axes:
     """Draws the NPV of each parameter by its change, through the base case; returns `axes`."""
     curves, (size, unit) = singles(table), money_unit(float(table["npv"].abs().max()), currency)
@@ -102,12 +96,6 @@ def grid_of(table: pd.DataFrame, one: str, other: str) -> pd.DataFrame:
     curves = singles(table)
     grid[0.0], grid.loc[0.0] = curves[one].reindex(grid.index), curves[other].reindex([*grid.columns, 0.0])
     return grid.sort_index().sort_index(axis=1)
-
-
-def write_grid(table: pd.DataFrame, pair: tuple[str, str], currency: str, path: Path) -> None:
-    wide, high = grid_of(table, *pair).shape[::-1]
-    with figure_file(path, 2.6 + 0.95 * wide, 1.6 + 0.55 * high) as figure:
-        plot_grid(table, pair, currency, figure.subplots())
 
 
 def plot_grid(table: pd.DataFrame, pair: tuple[str, str], currency: str, axes: Axes) -> Axes:

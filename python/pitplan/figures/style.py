@@ -96,12 +96,10 @@ def also_as(formats: tuple[str, ...]) -> Iterator[None]:
 
 
 def files_of(drawn: dict[str, str], formats: tuple[str, ...]) -> list[str]:
-    """Returns the names of figures in each of their formats."""
     return [str(Path(name).with_suffix(f".{kind}")) for name in drawn.values() for kind in ("png", *formats)]
 
 
 def finish(figure: Figure, path: Path) -> None:
-    """Writes a figure in each format."""
     # Once laid out it is drawn once. With an engine, savefig would first draw it without ink.
     engine = figure.get_layout_engine()
     if engine is not None:

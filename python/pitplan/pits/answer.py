@@ -32,12 +32,10 @@ class Answer(ABC):
 
     @property
     def as_pushbacks(self) -> Optional[Pushbacks]:
-        """The pushbacks, if there are any."""
         return None
 
     @property
     def as_schedule(self) -> Optional[Schedule]:
-        """The schedule, if it is one."""
         return None
 
     @property

@@ -39,20 +39,9 @@ class Cutoff:
 
 
 def grade_tonnage(plan: Plan, parts: dict[str, Mask]) -> pd.DataFrame:
-    """Returns one row per part, resource class, metal and cut-off grade of that metal.
-
-    Parameters
-    ----------
-    plan : Plan
-    parts : dict of str to array
-        By name whether each cell belongs to a part, shape (cells,).
-
-    Returns
-    -------
-    DataFrame
-        Columns: part; class ("all" without classes); metal; cutoff_grade in situ; mark; tonnes at or above it, their grade_METAL and
-        in_situ_METAL.
-    """
+    """Returns one row per part, resource class, metal and cut-off grade of that metal. `parts` has by name whether each cell belongs to a part, shape
+    (cells,). Columns: part; class ("all" without classes); metal; cutoff_grade in situ; mark; tonnes at or above it, their grade_METAL and
+    in_situ_METAL."""
     classes = classes_of(plan)
     cutoffs = {metal.name: cutoffs_of(plan, metal) for metal in plan.project.metals}
     rows = [

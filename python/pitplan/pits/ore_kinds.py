@@ -38,13 +38,7 @@ def of_cells(plan: Plan, cells: NDArray[np.int64]) -> NDArray[np.float64]:
 
 
 def accepted(plan: Plan, cells: NDArray[np.int64]) -> NDArray[np.bool_]:
-    """Returns whether each dump accepts each cell, shape (cells, dumps).
-
-    Raises
-    ------
-    PlanError
-        If none accepts some rock, with its codes and tonnes.
-    """
+    """Returns whether each dump accepts each cell, shape (cells, dumps). Raises PlanError, with its codes and tonnes, if none accepts some rock."""
     found = accepting(plan, cells)
     demand_accepted(plan, cells[~found.any(axis=1) & (plan.values.tonnes[cells] > 0)])
     return found

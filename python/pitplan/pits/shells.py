@@ -292,12 +292,10 @@ class Shells(Answer):
 
     @property
     def as_shells(self) -> Shells:
-        """Itself."""
         return self
 
     @property
     def all_notes(self) -> list[str]:
-        """The notes that the record has."""
         return self.notes
 
     def tables(self) -> dict[str, pd.DataFrame]:
@@ -388,20 +386,9 @@ def of_outlines(
     total: Callable[[NDArray[Any], NDArray[Any]], NDArray[Any]],
     mineralised: dict[str, NDArray[Any]],
 ) -> dict[str, NDArray[Any]]:
-    """Returns tonnes, grades and cash flow of shells or pushbacks, without time.
-
-    Parameters
-    ----------
-    plan : Plan
-    cells : Cells
-        Their amounts.
-    outline : array, shape (cells,)
-        The shell or pushback of each cell; 0: none.
-    total : callable
-        Sums an array over the cells of each shell or pushback, as the first array says.
-    mineralised : dict
-        The column of mineralised waste; empty without resource classes.
-    """
+    """Returns tonnes, grades and cash flow of shells or pushbacks, without time. `outline` is the shell or pushback of each cell, 0 for none, shape
+    (cells,). `total` sums an array over the cells of each, as the first array says. `mineralised` is the column of mineralised waste; empty without
+    resource classes."""
     ore = np.where(cells.ore, outline, 0)
     tonnes, feed_tonnes, in_situ = total(outline, cells.tonnes), total(ore, cells.feed), total(ore, cells.tonnes)
     columns = {

@@ -38,17 +38,8 @@ def between(low: float, high: float) -> list[float]:
 
 
 def refined(factors: tuple[float, ...], share: float, tonnes_at: TonnesAt) -> tuple[float, ...]:
-    """Returns revenue factors with others between them, until no shell adds more than a share of the last one's tonnes, or only a thousandth of
-    the revenue factor does.
-
-    Parameters
-    ----------
-    factors : tuple of float
-        Rising; the result has all of them.
-    share : float
-        1: the given factors alone.
-    tonnes_at : callable
-    """
+    """Returns rising revenue factors with others between them, until no shell adds more than a share of the last one's tonnes, or only a thousandth
+    of the revenue factor does. A share of 1 adds none."""
     if share >= 1:
         return factors
     known = tonnes_at(tuple(sorted({LEAST_FACTOR, *factors})))
@@ -82,19 +73,8 @@ class Skin:
 
 
 def of_pit(plan: Plan, share: Decimal) -> Skin:
-    """Returns the pit skin: the part of the plan's largest shell outside the largest inner shell that leaves at least a share of the tonnes.
-
-    Parameters
-    ----------
-    plan : Plan
-    share : Decimal
-        Least share of the tonnes that the skin holds. It holds more if the shells grow in large steps.
-
-    Raises
-    ------
-    ProgramError
-        If the solver refuses.
-    """
+    """Returns the pit skin: the part of the plan's largest shell outside the largest inner shell that leaves at least a share of the tonnes. The skin
+    holds more if the shells grow in large steps. Raises ProgramError if the solver refuses."""
     last = plan.project.shells.revenue_factors[-1]
     with problem.temporary(plan) as mine:
 

@@ -40,7 +40,6 @@ class PushbackBenches:
         return len(self.pushback)
 
     def of(self, name: str) -> np.ndarray:
-        """Returns one amount of each bench."""
         return self.amounts[:, self.names.index(name)]
 
     @cached_property

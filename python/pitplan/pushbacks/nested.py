@@ -142,7 +142,6 @@ class Pushbacks(Answer):
 
     @property
     def as_pushbacks(self) -> Pushbacks:
-        """Itself."""
         return self
 
     def tables(self) -> dict[str, pd.DataFrame]:
@@ -235,20 +234,9 @@ def selected(plan: Plan, mine: Mine) -> tuple[Plan, list[str]]:
 
 
 def divide(planned: Plan, mine: Optional[Mine] = None) -> Pushbacks:
-    """Divides a pit into pushbacks: that of the plan's last revenue factor if the project names one, otherwise the one that `shells` selects.
-
-    Parameters
-    ----------
-    mine : Mine, optional
-        The mine of the plan. Default: it is made for this call.
-
-    Raises
-    ------
-    PlanError
-        If the pit is empty, there would be more than 100 pushbacks, or their number is not that of the added mining costs.
-    ProgramError
-        If the solver refuses.
-    """
+    """Divides a pit into pushbacks: that of the plan's last revenue factor if the project names one, otherwise the one that `shells` selects. `mine`
+    is that of the plan; by default it is made for this call. Raises PlanError if the pit is empty, there would be more than 100 pushbacks, or their
+    number is not that of the added mining costs, and ProgramError if the solver refuses."""
     if mine is None:
         with problem.temporary(planned) as made:
             return divide(planned, made)

@@ -209,7 +209,6 @@ def between(least: Optional[float], most: Optional[float]) -> str:
 
 
 def periods(project: Project) -> Iterator[tuple[str, str]]:
-    """Yields what each entry of `[[periods]]` changes."""
     start = 0
     for entry in project.shells.calendar.periods:
         end = start + entry.years
@@ -314,8 +313,6 @@ CRITERIA = {
 
 
 def of_run(project: Project, record: dict[str, Any], known: dict[str, Topic]) -> Iterator[tuple[str, list[str]]]:
-    """Yields criteria with what the run knows."""
-
     def lines(*names: str) -> list[str]:
         return [f"{item}: {value}" for name in names if name in known for item, value in known[name].rows]
 
@@ -326,7 +323,7 @@ def of_run(project: Project, record: dict[str, Any], known: dict[str, Topic]) ->
         "Cut-off parameters",
         [
             f"a block is ore if its revenue exceeds the cost of processing and selling it, decided {when}",
-            *of_schedule(record),
+            *(["cut-off grades by process and year: cutoffs.csv"] if "tables/cutoffs.csv" in record["files"] else []),
         ],
     )
     shell = selected_shell(project, record)
@@ -340,7 +337,3 @@ def of_run(project: Project, record: dict[str, Any], known: dict[str, Topic]) ->
     yield "Audits or reviews", [
         f"pits are optimal by a machine-checked proof of the solver; other numbers were {checked}"
     ]
-
-
-def of_schedule(record: dict[str, Any]) -> list[str]:
-    return ["cut-off grades by process and year: cutoffs.csv"] if "tables/cutoffs.csv" in record["files"] else []

@@ -94,13 +94,11 @@ class Display:
                 heading = "mill feed" if is_diluted and name == "feed_tonnes" else column.heading
                 heading = heading.replace("METAL", subject).replace("PROCESS", subject)
                 size, unit = units.of(table[name], column, metals.get(subject))
-                places = column.shown_places if column.unit is not WHOLE_YEARS or is_whole(table[name]) else 2
+                places = column.unit.places if column.places is None else column.places
+                if column.unit is WHOLE_YEARS and (table[name] % 1 != 0).any():
+                    places = 2
                 found.append(ShownColumn(name, heading if unit is None else f"{heading}, {unit}", size, places))
         return found
-
-
-def is_whole(values: pd.Series) -> bool:
-    return bool((values % 1 == 0).all())
 
 
 @dataclass(frozen=True)

@@ -48,20 +48,9 @@ class SensitivityFolder:
 def sensitivity_beside(
     project: Project, inputs: dict[str, str], folder: Optional[Path]
 ) -> tuple[Optional[SensitivityFolder], str]:
-    """Returns the sensitivity to show, and if none exists the reason, or "" if none was run.
-
-    Parameters
-    ----------
-    inputs : dict of str to str
-        Hashes of the inputs of the plan, by file.
-    folder : Path, optional
-        The folder of the sensitivity. Default: sensitivity in the project's output folder.
-
-    Raises
-    ------
-    PlanError
-        If `folder` is given and has no sensitivity, or one of other inputs.
-    """
+    """Returns the sensitivity to show, and if none exists the reason, or "" if none was run. `inputs` has the hashes of the inputs of the plan, by
+    file; `folder` is that of the sensitivity, by default sensitivity in the project's output folder. Raises PlanError if `folder` is given and has no
+    sensitivity, or one of other inputs."""
     place = project.folder / "sensitivity" if folder is None else folder
     for name in (SENSITIVITY_RECORD, SENSITIVITY):
         if not (place / name).is_file():
@@ -94,27 +83,13 @@ def differing_as_run(project: Project, folder: Path, record: dict[str, Any]) -> 
 
 
 def write(path: Path, folder: Path, project: Project, sensitivity: Optional[Path] = None) -> None:
-    """Writes the report of a folder.
-
-    Parameters
-    ----------
-    path : Path
-        The file to write.
-    folder : Path
-        The folder of a plan, with record, tables and figures.
-    project : Project
-        The project of the run.
-    sensitivity : Path, optional
-        The folder of the sensitivity to show. Default: that in the project's output folder, if it is of the same inputs.
-
-    Raises
-    ------
-    PlanError
-        As `sensitivity_beside`.
-    """
+    """Writes the report of a folder, which has record, tables and figures of a plan, with the sensitivity of `sensitivity_beside`. Raises PlanError
+    as that does."""
     record = read_record(folder)
     found, missing = sensitivity_beside(project, record["inputs"], sensitivity)
     warnings = [note for note in record["notes"] if note.startswith("WARNING")]
+    # A folder of an earlier release has no text of the project that was run.
+    text = folder / project_writer.AS_RUN if project_writer.AS_RUN in record["files"] else project.path
     page = TEMPLATES.get_template("report.html").render(
         **of_answer(folder, project, record),
         **in_words(folder, project, record, found),
@@ -129,8 +104,8 @@ def write(path: Path, folder: Path, project: Project, sensitivity: Optional[Path
         rate=project.shells.discount_rate,
         discounting=IN_WORDS[project.shells.discounting],
         has_fixed=project.constraints is not None,
-        project_file=project_writer.AS_RUN if project_writer.AS_RUN in record["files"] else project.path.name,
-        project_text=text_of(folder, project, record),
+        project_file=text.name,
+        project_text=without_comments(text.read_text(encoding="utf-8")),
         count=len(record["shells"]["revenue_factors"]),
         not_verified=NOT_VERIFIED,
         inputs=record["inputs"],
@@ -155,12 +130,6 @@ def in_words(
         "risks": risks(project, record, shells.loc[selected], cases),
         "table_one": table_one(project, record),
     }
-
-
-def text_of(folder: Path, project: Project, record: dict[str, Any]) -> str:
-    """Returns the text of the project that was run; for a folder of an earlier release that of its file."""
-    path = folder / project_writer.AS_RUN if project_writer.AS_RUN in record["files"] else project.path
-    return without_comments(path.read_text(encoding="utf-8"))
 
 
 def without_comments(text: str) -> str:

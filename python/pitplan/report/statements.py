@@ -395,17 +395,8 @@ def of_feed(lines: WrittenTable, project: Project) -> list[Figure]:
 
 
 def risks(project: Project, record: dict[str, Any], shell: pd.Series, cases: Optional[pd.DataFrame]) -> list[str]:
-    """Returns sentences for the section on risks.
-
-    Parameters
-    ----------
-    record : dict
-        plan.json.
-    shell : Series
-        The row of the selected shell in shells.csv.
-    cases : DataFrame, optional
-        sensitivity.csv, with the base case first; None without one.
-    """
+    """Returns sentences for the section on risks. `record` is plan.json, `shell` the row of the selected shell in shells.csv, and `cases`
+    sensitivity.csv, with the base case first; None without one."""
     found = [note.removeprefix("WARNING: ") for note in record["notes"] if note.startswith("WARNING")]
     found += of_classes(project, shell)
     found += of_sensitivity(cases, project.economics.currency)

@@ -120,19 +120,16 @@ def model_of(folder: Folder) -> dict[str, Any]:
         "selected": folder.record["shells"]["selected"],
         "shell": encoded(grid.spread(shell, AIR)),
         "shell_colours": colours("viridis_r", np.linspace(0.02, 1, len(factors))),
-        "metals": [metal_of(folder, metal, solid) for metal in folder.record["metals"]],
+        "metals": [
+            {"name": it["name"], "sign": it["sign"], **tinted(folder, np.where(solid, blocks[it["column"]], 0.0))}
+            for it in folder.record["metals"]
+        ],
         "amounts": [value_of(folder, solid)],
         "grade_colours": colours("YlOrRd", np.linspace(0, 1, 256)),
         "kinds": kinds_of(folder),
         "stages": [stage_of(folder, *stage) for stage in STAGES if stage[0] in blocks],
         "rows": compressed(rows_of(folder).encode("utf-8")),
     }
-
-
-def metal_of(folder: Folder, metal: dict[str, Any], solid: np.ndarray) -> dict[str, Any]:
-    """Returns a byte of grade per cell, and the grade of the largest byte."""
-    grade = np.where(solid, folder.blocks[metal["column"]].to_numpy(), 0.0)
-    return {"name": metal["name"], "sign": metal["sign"], **tinted(folder, grade)}
 
 
 def value_of(folder: Folder, solid: np.ndarray) -> dict[str, Any]:

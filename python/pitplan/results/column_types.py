@@ -4,6 +4,7 @@ from __future__ import annotations
 
 import re
 from dataclasses import dataclass, replace
+from itertools import chain
 from typing import Optional
 
 from pitplan.config.periods import PERIOD, YEAR
@@ -73,15 +74,6 @@ class Column:
     when: str = ""
     places: Optional[int] = None
 
-    @property
-    def shown_places(self) -> int:
-        """Decimals where it is shown."""
-        return self.unit.places if self.places is None else self.places
-
-    def matches(self, name: str) -> bool:
-        """Returns whether a column of a file is this one."""
-        return re.fullmatch(re.sub("[A-Z]+", ".+", self.name), name) is not None
-
 
 @dataclass(frozen=True)
 class TableDeclaration:
@@ -98,8 +90,9 @@ class TableDeclaration:
         if name == PERIOD:
             found = self.find(YEAR)
             return found and replace(found, heading=PERIOD)
-        exact = [it for it in self.columns if it.name == name]
-        return next(iter(exact or [it for it in self.columns if it.matches(name)]), None)
+        exact = (it for it in self.columns if it.name == name)
+        alike = (it for it in self.columns if re.fullmatch(re.sub("[A-Z]+", ".+", it.name), name))
+        return next(chain(exact, alike), None)
 
     def column(self, name: str) -> Column:
         """Returns a column by its name, as `find` does. Raises KeyError if the table has none."""

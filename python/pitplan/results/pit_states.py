@@ -77,13 +77,8 @@ class Stage:
 
 
 def stages_of(folder: Folder, shape: Shape) -> list[Stage]:
-    """Returns the stages of a shape, in order; for the ground of pushbacks and years with one before mining.
-
-    Raises
-    ------
-    PlanError
-        If the folder has no pushbacks or years, or the pit of the revenue factor is empty.
-    """
+    """Returns the stages of a shape, in order; for the ground of pushbacks and years with one before mining. Raises PlanError if the folder has no
+    pushbacks or years, or the pit of the revenue factor is empty."""
     if shape.of == FACTOR:
         mined = folder.mined(shape.revenue_factor)
         if not mined.any():

@@ -15,7 +15,7 @@ from pitplan.config.periods import YEAR
 from pitplan.config.project import Project
 from pitplan.core.magnitude import scaled
 
-from .column_types import AMOUNT, COUNT, GRADE, METAL, NUMBER, SHARE, TEXT, Unit
+from .column_types import AMOUNT, COUNT, GRADE, METAL, NUMBER, SHARE, TEXT
 from .columns import DISCOUNTING, OUTLINE, TABLES, unit_of
 
 SHELL, PUSHBACK = "shell", "pushback"
@@ -128,7 +128,9 @@ def heads_of(project: Project) -> Callable[[str], str]:
 
 def unit_in(name: str, project: Project) -> Optional[str]:
     """Returns the unit of a column of written tables; None of codes, counts, and columns of the planner whose unit is unknown."""
-    found, currency = any_unit(name), project.economics.currency
+    # Of tables that are rounded to decimals first.
+    found = unit_of(name) or next((column.unit for table in TABLES if (column := table.find(name))), None)
+    currency = project.economics.currency
     own = own_unit(name, project)
     if found is None or own is not None:
         return own
@@ -149,12 +151,6 @@ def unit_in(name: str, project: Project) -> Optional[str]:
         AMOUNT.text: "unit of the amount",
     }
     return signs.get(found.text, found.text)
-
-
-def any_unit(name: str) -> Optional[Unit]:
-    """Returns the unit of a column of any table, first of those that are rounded to decimals; None if none has it."""
-    others = (column.unit for table in TABLES if (column := table.find(name)))
-    return unit_of(name) or next(others, None)
 
 
 def own_unit(name: str, project: Project) -> Optional[str]:

@@ -65,18 +65,8 @@ class SlopeDomains:
 
 
 def domains_of(domain_code: np.ndarray, grid: Grid, slopes: Slopes) -> SlopeDomains:
-    """Returns the slopes of a project.
-
-    Parameters
-    ----------
-    domain_code : array of str, shape (cells,)
-        The slope domain of each cell, "" if it is unknown.
-
-    Raises
-    ------
-    PlanError
-        If a domain of blocks has no slopes.
-    """
+    """Returns the slopes of a project. `domain_code` has the slope domain of each cell, "" if it is unknown, shape (cells,). Raises PlanError if a
+    domain of blocks has no slopes."""
     patterns = tuple(pattern_of(domain, grid.size, slopes, grid.azimuth) for domain in slopes.domains)
     return laid(patterns, pattern_codes(domain_code, slopes), grid)
 

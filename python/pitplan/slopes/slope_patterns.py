@@ -286,22 +286,8 @@ def from_grid_north(domain: SlopeDomain, azimuth: float) -> SlopeDomain:
 
 
 def pattern_of(asked_domain: SlopeDomain, size: BlockSize, slopes: Slopes, azimuth: float = 0.0) -> Pattern:
-    """Returns the precedences of one entry of `[[slopes.domains]]` with their slope errors, on a grid whose north has an azimuth.
-
-    Parameters
-    ----------
-    asked_domain : SlopeDomain
-        The entry.
-    size : tuple of float
-        Block size east, north and up, metres.
-    azimuth : float
-        Of the grid's north, degrees clockwise.
-
-    Raises
-    ------
-    PlanError
-        If `never_steeper` cannot be met.
-    """
+    """Returns the precedences of one entry of `[[slopes.domains]]` with their slope errors, on a grid whose north has an azimuth, degrees clockwise.
+    `size` is the block size east, north and up, metres. Raises PlanError if `never_steeper` cannot be met."""
     domain = from_grid_north(asked_domain, azimuth)
     where = "other domains" if domain.domains is None else f"domain {', '.join(domain.domains)}"
     if domain.pattern:

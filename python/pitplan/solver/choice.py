@@ -44,16 +44,8 @@ class Solver:
 
 
 def chosen(by: Optional[str] = None) -> Solver:
-    """Returns the solver of this name. Default: the one that PITSHELL_LIBRARY or, after it, PITSHELL names; otherwise the library if it is
-    installed, otherwise the program.
-
-    Raises
-    ------
-    ProgramError
-        If there is no such solver.
-    PlanError
-        If the name is unknown.
-    """
+    """Returns the solver of this name. Default: the one that PITSHELL_LIBRARY or, after it, PITSHELL names; otherwise the library if it is installed,
+    otherwise the program. Raises ProgramError if there is no such solver, and PlanError if the name is unknown."""
     by = by or preferred()
     if by not in BY:
         raise PlanError(f"solver: found {by}, expected one of {', '.join(BY)}")

@@ -57,22 +57,8 @@ def identity() -> dict[str, str]:
 
 
 def shells(nodes: tuple[np.ndarray, np.ndarray], rows: PrecedenceRows, factors: tuple[float, ...]) -> Solution:
-    """Returns the nested shells.
-
-    Parameters
-    ----------
-    nodes : pair of int64 arrays, shape (nodes,)
-        Revenue and cost of each node in millionths.
-    rows : PrecedenceRows
-        The precedences.
-    factors : tuple of float
-        Revenue factors, rising.
-
-    Raises
-    ------
-    ProgramError
-        If the library refuses.
-    """
+    """Returns the nested shells at revenue factors, rising. `nodes` has revenue and cost of each node in millionths, int64 arrays of shape (nodes,).
+    Raises ProgramError if the library refuses."""
     revenue, cost = nodes
     solved = [per_mille(factor) for factor in factors]
     found = called("shells", revenue, cost, (rows.starts, rows.precedences), solved, millionths=True)
@@ -85,24 +71,9 @@ def shells(nodes: tuple[np.ndarray, np.ndarray], rows: PrecedenceRows, factors: 
 
 
 def pit(values: np.ndarray, rows: PrecedenceRows, fixed: np.ndarray, factor: float) -> Solution:
-    """Returns the pit of one revenue factor.
-
-    Parameters
-    ----------
-    values : int64 array, shape (nodes,)
-        Value of each node in billionths.
-    rows : PrecedenceRows
-        The precedences.
-    fixed : uint8 array, shape (nodes,)
-        1: must-mine, 2: excluded, 0: neither.
-    factor : float
-        The revenue factor of the values.
-
-    Raises
-    ------
-    ProgramError
-        If the library refuses, for example because a must-mine block depends on an excluded one.
-    """
+    """Returns the pit of one revenue factor. `values` has the value of each node in billionths, int64; `fixed` is 1 for must-mine, 2 for excluded and
+    otherwise 0, uint8; both have shape (nodes,). Raises ProgramError if the library refuses, for example because a must-mine block depends on an
+    excluded one."""
     found = called("solve", values, (rows.starts, rows.precedences), fixed, millionths=True)
     nodes = pd.Series([int(np.count_nonzero(found.in_pit))], index=[factor])
     # From text, so that the decimal context does not round it.

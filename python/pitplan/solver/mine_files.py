@@ -25,22 +25,8 @@ CHUNK = 200_000
 
 
 def write(plan: Plan, folder: Path) -> Pairs:
-    """Writes mine.blocks, mine.upit and mine.prec, and with `[constraints]` mine.fixed, and rest.blocks and rest.prec of the reduced mine.
-
-    Parameters
-    ----------
-    folder : Path
-        An existing folder.
-
-    Returns
-    -------
-    Pairs
-        The number of precedences of the whole mine.
-
-    Raises
-    ------
-    PlanError
-        If there are more precedences than the program takes.
+    """Writes mine.blocks, mine.upit and mine.prec into an existing folder, and with `[constraints]` mine.fixed, and rest.blocks and rest.prec of the
+    reduced mine. Returns the number of precedences of the whole mine. Raises PlanError if there are more precedences than the program takes.
     """
     nodes, processed = plan.values.nodes(), plan.values.processed
     write_blocks(folder / BLOCKS, plan.grid, processed, nodes)

@@ -122,22 +122,8 @@ def temporary(plan: Plan) -> Iterator[Mine]:
 
 
 def values_at(nodes: tuple[np.ndarray, np.ndarray], factor: float) -> np.ndarray:
-    """Returns the value of each node at a revenue factor, `factor * revenue - cost`.
-
-    Parameters
-    ----------
-    nodes : pair of int64 arrays, shape (nodes,)
-        Revenue and cost in millionths.
-
-    Returns
-    -------
-    int64 array, shape (nodes,)
-        Values in billionths.
-
-    Raises
-    ------
-    PlanError
-        If a value, times 1,000, exceeds those of an optimisation model: it is 10^18 or more.
+    """Returns the value of each node in billionths at a revenue factor, `factor * revenue - cost`; revenue and cost are in millionths, all int64
+    arrays of shape (nodes,). Raises PlanError if a value, times 1,000, exceeds those of an optimisation model: it is 10^18 or more.
     """
     values = at_factor(factor, *nodes)
     if greatest(values) >= GREATEST:
@@ -149,20 +135,8 @@ def values_at(nodes: tuple[np.ndarray, np.ndarray], factor: float) -> np.ndarray
 
 
 def solve(plan: Plan, mine: Optional[Mine] = None, progress: Progress = silent) -> Solution:
-    """Returns the shells of a plan at all its revenue factors.
-
-    Parameters
-    ----------
-    mine : Mine, optional
-        The mine of the plan. Default: it is made for this call.
-
-    Raises
-    ------
-    ProgramError
-        If the solver is missing or refuses.
-    PlanError
-        If a shell reaches a missing block.
-    """
+    """Returns the shells of a plan at all its revenue factors. `mine` is that of the plan; by default it is made for this call. Raises ProgramError
+    if the solver is missing or refuses, and PlanError if a shell reaches a missing block."""
     if mine is None:
         with temporary(plan) as made:
             return solve(plan, made, progress)

@@ -78,17 +78,8 @@ def solve_files(blocks: Path, prec: Path, factors: tuple[float, ...]) -> Solutio
 
 
 def solve_pit(model: Path, prec: Path, fixed: Path, factor: float) -> Solution:
-    """Returns the pit of a model whose values are those of a revenue factor, times 1,000.
-
-    Parameters
-    ----------
-    model, prec, fixed : Path
-        Files of values, of precedences, and of must-mine and excluded blocks.
-
-    Raises
-    ------
-    ProgramError
-        If the program refuses, for example because a must-mine block depends on an excluded one.
+    """Returns the pit of a model whose values are those of a revenue factor, times 1,000; `prec` and `fixed` are files of precedences and of
+    must-mine and excluded blocks. Raises ProgramError if the program refuses, for example because a must-mine block depends on an excluded one.
     """
     answer = call("solve", "--model", model, "--prec", prec, "--fixed", fixed)
     lines = answer.decode().split("\n")

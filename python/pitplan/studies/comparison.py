@@ -40,7 +40,6 @@ class ComparedRun:
     ----------
     name : str
         What tables and figures call it.
-    folder : Path
     record : dict
         plan.json.
     project : Project
@@ -120,13 +119,8 @@ class ComparedRun:
 
 
 def read_runs(folders: Sequence[Path]) -> list[ComparedRun]:
-    """Reads runs of one kind; the first one is the base.
-
-    Raises
-    ------
-    PlanError
-        If a folder has no shells or schedule, two are of different kinds, or their currencies differ.
-    """
+    """Reads runs of one kind; the first one is the base. Raises PlanError if a folder has no shells or schedule, two are of different kinds, or their
+    currencies differ."""
     found = []
     for name, folder in zip(names_of(folders), folders):
         try:
@@ -188,7 +182,6 @@ class KeyChange:
 
     @property
     def matters(self) -> bool:
-        """Whether it can change results."""
         return self.path[0] not in SILENT
 
     def texts(self) -> tuple[str, str]:
@@ -322,15 +315,9 @@ class BridgeStep:
 
 
 def bridge(base: ComparedRun, other: ComparedRun, npv: Npv, progress: Progress = silent) -> list[BridgeStep]:
-    """Returns the steps from a run to another. The NPVs at both ends are those of the runs; `npv` makes the run of a step.
-
-    The order is that of the sections of a project. Another order divides the difference in another way, since inputs act together.
-
-    Raises
-    ------
-    PlanError
-        If an input file has changed since its run.
-    """
+    """Returns the steps from a run to another. The NPVs at both ends are those of the runs; `npv` makes the run of a step. The order is that of the
+    sections of a project. Another order divides the difference in another way, since inputs act together. Raises PlanError if an input file has
+    changed since its run."""
     for run in (base, other):
         run.demand_inputs()
     folder = common_folder([base, other])
@@ -418,15 +405,12 @@ def results(runs: Sequence[ComparedRun]) -> pd.DataFrame:
     """Returns one row per run: NPVs and the amounts of the selected shell or the shown method, and `npv_change` from the first run."""
     rows = []
     for run in runs:
-        names = [*(name for name in RESULTS if name in run.row), *(it for it in run.row.index if is_of_metal(str(it)))]
-        rows.append({"run": run.name} | {str(name): float(run.row[name]) for name in names})
+        of_metals = [it for it in map(str, run.row.index) if it.startswith(("head_grade_", "recovered_"))]
+        names = [*(name for name in RESULTS if name in run.row), *of_metals]
+        rows.append({"run": run.name} | {name: float(run.row[name]) for name in names})
     table = pd.DataFrame(rows)
     table.insert(2, "npv_change", table["npv"] - table["npv"].iloc[0])
     return table
-
-
-def is_of_metal(name: str) -> bool:
-    return name.startswith(("head_grade_", "recovered_"))
 
 
 def periods(runs: Sequence[ComparedRun]) -> pd.DataFrame:
@@ -438,19 +422,14 @@ def periods(runs: Sequence[ComparedRun]) -> pd.DataFrame:
     tables = [of_run(run, count) for run in runs]
     names = [name for name in dict.fromkeys(name for table in tables for name in table) if name not in KEYS]
     tables = [table.reindex(columns=["run", "year", *names]) for table in tables]
-    alike = all(has_periods_of(run, runs[0], count) for run in runs)
+    ends = [run.project.shells.calendar.ends(count) for run in runs]
+    alike = all((it == ends[0]).all() for it in ends)
     for table in tables:
         for name in names:
             change = table[name].to_numpy() - tables[0][name].to_numpy() if alike else np.full(count, np.nan)
             table[f"{name}_change"] = np.round(change, decimals_of(name) or 0) + 0.0
     found = pd.concat(tables, ignore_index=True)
     return found.rename(columns={"year": PERIOD}) if any(run.word == PERIOD for run in runs) else found
-
-
-def has_periods_of(run: ComparedRun, base: ComparedRun, count: int) -> bool:
-    """Returns whether the periods of two runs end at the same times."""
-    ends = [it.project.shells.calendar.ends(count) for it in (run, base)]
-    return bool((ends[0] == ends[1]).all())
 
 
 def of_run(run: ComparedRun, count: int) -> pd.DataFrame:

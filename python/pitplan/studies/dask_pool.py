@@ -63,15 +63,8 @@ def task(folder: str, number: int) -> worker.Outcome:
 
 
 def run(where: Where, folder: Path, scenarios: list[Scenario], progress: Progress) -> list[worker.Outcome]:
-    """Solves scenarios; returns their outcomes in the order of completion.
-
-    Raises
-    ------
-    MissingPackage
-        Without Dask.
-    PlanError
-        If the scheduler cannot be reached, or its workers cannot read the folder or import pitplan.
-    """
+    """Solves scenarios; returns their outcomes in the order of completion. Raises MissingPackage without Dask, and PlanError if the scheduler cannot
+    be reached, or its workers cannot read the folder or import pitplan."""
     distributed = load("distributed", PACKAGE, "scenarios --on local or a Dask scheduler")
     outcomes = []
     with progress.step(f"solving {len(scenarios):,} scenarios"), client_of(distributed, where) as client:

@@ -320,10 +320,8 @@ class Sensitivity:
         That of the base case.
     factor : float
         The selected revenue factor.
-    answers : dict of Case to Found
     keys : dict of Case to str
         Names of the files of results.
-    solver : Solver
     asked : Project
         The project as given.
     """
@@ -367,13 +365,6 @@ class SensitivityInput:
     as_given: Found | None = None
 
 
-def demand_whole(plan: Plan) -> None:
-    """Raises PlanError if the model was cropped, since each case would be cropped differently."""
-    if plan.left_out:
-        why = "is too large for the solver, and each case would be cropped differently: set [table] reblock"
-        raise PlanError(f"{plan.project.table.file}: {why}, or give a smaller model")
-
-
 def answer_all(
     missing: dict[Case, Path],
     asked: SensitivityInput,
@@ -401,34 +392,18 @@ def solve(
     *,
     processes: Optional[int] = None,
 ) -> Sensitivity:
-    """Solves the cases that have no result in the folder yet, and writes each result when it is found.
-
-    Parameters
-    ----------
-    project : Project
-    folder : Path
-        The output folder; results are in its folder cases.
-    where : Where, optional
-        Where Dask solves. Default: processes of this machine.
-    progress : Progress
-    processes : int, optional
-        The most processes of this machine at a time. Default: one for each processor.
-
-    Raises
-    ------
-    PlanError
-        If the table or a case is not usable.
-    ProgramError
-        If the solver refuses.
-    MissingPackage
-        Without Dask if `where` is given.
+    """Solves the cases that have no result in the folder cases of the output folder yet, and writes each result when it is found. `where` is where
+    Dask solves; by default processes of this machine do, at most `processes` at a time, by default one for each processor. Raises PlanError if the
+    table or a case is not usable, ProgramError if the solver refuses, and MissingPackage without Dask if `where` is given.
     """
 
     found_by, given_project = solver.chosen(project.solver), project
     project = replace(project, solver=found_by.by)
     table = reader.read(project)
     plan = prepared(project, table, progress)
-    demand_whole(plan)
+    if plan.left_out:
+        why = "is too large for the solver, and each case would be cropped differently: set [table] reblock"
+        raise PlanError(f"{project.table.file}: {why}, or give a smaller model")
     factor = Shells.solved(plan).selected
     lower = tuple(it for it in project.shells.revenue_factors if it <= factor)
     asked = SensitivityInput(with_factors(project, lower), table, found_by)
@@ -462,7 +437,6 @@ def solve(
 
 
 def answer(case: Case, asked: SensitivityInput, path: Path) -> None:
-    """Solves a case and writes its result."""
     write(path, find(case, asked))
 
 

@@ -90,7 +90,6 @@ class BlockPages(PageGroup):
         return Response(shown.values.tobytes(), media_type=BYTES)
 
     def row(self, request: Request) -> Response:
-        """The fields of the block in a cell."""
         text = request.query_params.get("cell", "")
         if not (text.isascii() and text.isdigit() and len(text) < 12):
             raise NotThere(f"cell {text[:20]}: found no number, expected that of a cell")
@@ -118,14 +117,12 @@ class AreaPages(PageGroup):
         ]
 
     def drawn(self, request: Request) -> Response:
-        """Adds an area by its corners."""
         form = form_of(request)
         corners = corners_of(form.get("corners", ""))
         lines = "".join(f"{x:.3f},{y:.3f}\n" for x, y in corners)
         return self.added(form, ".csv", f"x,y\n{lines}".encode())
 
     async def uploaded(self, request: Request) -> Response:
-        """Adds an area by its file."""
         given = dict(request.query_params)
         ending = Path(given.get("file", "")).suffix.lower()
         if ending not in ENDINGS:

@@ -69,8 +69,6 @@ class Chart:
 
 @dataclass(frozen=True)
 class Tables:
-    """The tables of a folder, its record and its project."""
-
     folder: Path
     record: dict[str, Any]
     project: Project

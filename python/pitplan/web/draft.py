@@ -28,13 +28,7 @@ def path_of(name: str) -> Path:
 
 
 class Draft:
-    """A TOML text that is changed key by key.
-
-    Parameters
-    ----------
-    text : str
-        A text that `toml_text` reads. Raises PlanError otherwise.
-    """
+    """A TOML text that is changed key by key. Raises PlanError if `toml_text` does not read it."""
 
     def __init__(self, text: str) -> None:
         try:

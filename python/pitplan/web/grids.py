@@ -356,13 +356,8 @@ def changes_of(grid: FormGrid, row: GridRow, number: int, before: Sequence[str])
 
 
 def changed(text: str, before: FormGrid, after: FormGrid, name: str) -> str:
-    """Returns a text with the rows of a grid as a form has them; all else in it stays.
-
-    Raises
-    ------
-    WrongForm
-        If a cell is wrong, with its column and the remedy, or if the text is written in a way that a grid does not change.
-    """
+    """Returns a text with the rows of a grid as a form has them; all else in it stays. Raises WrongForm if a cell is wrong, with its column and the
+    remedy, or if the text is written in a way that a grid does not change."""
     if before.why_not:
         raise WrongForm(f"{before.why_not}.")
     if before.kind.name == CLASSES:

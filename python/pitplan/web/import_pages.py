@@ -76,11 +76,6 @@ class Recognised:
     project_hash: str
 
 
-def table_of(job: Job) -> str:
-    """Returns the name of the block model of an import."""
-    return job.words[1].removeprefix("./")
-
-
 # The formats that are taken, by their endings.
 ENDINGS = (".csv", ".csv.gz", ".zip", ".omf", ".dm")
 # The most bytes of a file, and of a part that is written.
@@ -119,13 +114,8 @@ class Upload:
 
 
 def upload_of(workspace: Workspace, folder: str, file: str) -> Upload:
-    """Returns the upload of a file into a folder.
-
-    Raises
-    ------
-    WrongForm
-        If a name is wrong or taken, or the format is not in ENDINGS, with the field and the remedy.
-    """
+    """Returns the upload of a file into a folder. Raises WrongForm, with the field and the remedy, if a name is wrong or taken, or the format is not
+    in ENDINGS."""
     folder, file = folder.strip(), with_small_ending(file.strip())
     demand_name("Name of the mine", folder, "north-hill")
     demand_name("Block model", file, "blocks.csv")
@@ -189,15 +179,8 @@ def demand_size(length: int) -> None:
 
 
 async def receive(parts: AsyncIterator[bytes], workspace: Workspace, upload: Upload) -> None:
-    """Writes a file as it comes. It has its name only when it is whole; of one that is cut nothing is left.
-
-    Raises
-    ------
-    WrongForm
-        If it is empty or too large, or if its place has been taken.
-    PlanError
-        If it cannot be written.
-    """
+    """Writes a file as it comes. It has its name only when it is whole; of one that is cut nothing is left. Raises WrongForm if it is empty or too
+    large, or if its place has been taken, and PlanError if it cannot be written."""
     unfinished = workspace.root / UNFINISHED
     try:
         unfinished.mkdir(parents=True, exist_ok=True)
@@ -341,7 +324,7 @@ class ImportPages(PageGroup):
 
         form = form_of(request)
         job = self.jobs.read(number_of(form.get("number", "")))
-        roles, file = self.roles_of(job, form), self.workspace.place(table_of(job))
+        roles, file = self.roles_of(job, form), self.workspace.place(job.words[1].removeprefix("./"))
         model = guesses.model_of(self.rows.of(file, [file], lambda: guesses.rows_of(file)), roles)
         text, found = wizard.project_of(model, self.workspace.root / job.project)
         warnings = [it.removeprefix(WARNING) for it in found.warnings]

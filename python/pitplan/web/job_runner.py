@@ -20,15 +20,7 @@ PATIENCE = 20.0
 
 
 class Runner:
-    """Runs the command of a job.
-
-    Parameters
-    ----------
-    folder : Path
-        The folder of the job.
-    root : Path
-        The folder in which the command runs.
-    """
+    """Runs the command of a job, which has a folder, in the root folder."""
 
     def __init__(self, folder: Path, root: Path) -> None:
         self.folder, self.root = folder, root
@@ -36,7 +28,6 @@ class Runner:
         self.state: dict[str, Any] = {"runner": os.getpid(), "began": begun_at(os.getpid())}
 
     def write(self, **more: Any) -> None:
-        """Writes the state with more keys."""
         self.state |= more
         write_json(self.folder / STATE, self.state)
 

@@ -82,7 +82,6 @@ class Job:
     code: Optional[int] = None
 
     def in_state(self, state: dict[str, Any]) -> Job:
-        """Returns the job in the state that its runner has written."""
         return replace(self, **{name: state[name] for name in ("status", "started", "ended", "code") if name in state})
 
     @property
@@ -99,18 +98,8 @@ class Job:
 
 
 class Jobs:
-    """The jobs of a folder.
-
-    Parameters
-    ----------
-    root : Path
-        The folder that is served, in which commands run.
-
-    Raises
-    ------
-    PlanError
-        If others may read or write the folder of the jobs, and this user cannot change that.
-    """
+    """The jobs of a folder that is served, in which commands run. Raises PlanError if others may read or write the folder of the jobs, and this user
+    cannot change that."""
 
     def __init__(self, root: Path) -> None:
         self.root, self.folder = root, root / FOLDER

@@ -44,7 +44,6 @@ class OutputPages(PageGroup):
         return RedirectResponse(f"/job?number={job.number}", status_code=303)
 
     def export(self, request: Request) -> Response:
-        """Starts the command that writes an export."""
         form = form_of(request)
         folder, project = self.folder_of(form)
         selected = results_page.record_of(self.workspace.root / folder).get("shells", {}).get("selected")
@@ -96,15 +95,8 @@ def export_words(form: Mapping[str, str]) -> list[str]:
 
 
 def comparison(form: Mapping[str, str], workspace: Workspace) -> AskedCommand:
-    """Returns the command of a form that compares runs.
-
-    Raises
-    ------
-    WrongForm
-        If no base is chosen, if there is nothing to compare it with, or if the folder of the comparison is wrong.
-    NotThere
-        If a run does not exist.
-    """
+    """Returns the command of a form that compares runs. Raises WrongForm if no base is chosen, if there is nothing to compare it with, or if the
+    folder of the comparison is wrong, and NotThere if a run does not exist."""
     base = form.get(BASE, "")
     if not base:
         raise WrongForm("Base: found none, expected one of the runs: choose the one that the others are compared with")

@@ -82,13 +82,7 @@ class News:
 
 
 class Pages:
-    """The pages of a folder.
-
-    Parameters
-    ----------
-    version : str
-        That of pitplan, at the foot of each page.
-    """
+    """The pages of a folder, with the version of pitplan at the foot of each."""
 
     def __init__(self, workspace: Workspace, jobs: Jobs, version: str) -> None:
         self.workspace, self.jobs = workspace, jobs
@@ -109,7 +103,7 @@ class Pages:
         )
         self.templates.filters |= {
             "path": quote,
-            "command": command_line,
+            "command": lambda words: shlex.join(["pitplan", *words]),
             "ago": short_time,
             "grouped": results_page.grouped,
         }
@@ -202,6 +196,7 @@ class Pages:
         }
         results = [it for it in self.workspace.results() if it.project == name]
         jobs = [job for job in self.jobs.all() if job.project == name][:10]
+        figure = layout.figure_of_model(path)
         return self.page(
             "project.html",
             status,
@@ -210,7 +205,7 @@ class Pages:
             editor=editor,
             values=values or FormValues(forms.fields),
             grids=forms.grids | ({grid.kind.name: grid} if grid else {}),
-            figure=self.figure_of(path),
+            figure=self.workspace.name(figure) if figure.is_file() else "",
             commands=list(COMMANDS.values()),
             options=OPTIONS,
             chosen=run_form.CHOSEN,
@@ -279,17 +274,11 @@ class Pages:
         above = [it for it in path.parents if it.is_relative_to(self.workspace.root)]
         return any((it / record).is_file() for it in above for record in RECORDS)
 
-    def figure_of(self, project: Path) -> str:
-        """Returns the name of the figure of a project's block model; empty without one."""
-        path = layout.figure_of_model(project)
-        return self.workspace.name(path) if path.is_file() else ""
-
     def is_of_model(self, path: Path) -> bool:
         """Returns whether a file is the figure of the block model of a project."""
         return any(layout.figure_of_model(it) == path for it in path.parent.glob("*.toml"))
 
     def static(self, request: Request) -> Response:
-        """The style and the script of all pages."""
         name = request.path_params["name"]
         if name not in STATIC:
             raise NotThere(f"{name}: no such file")
@@ -378,13 +367,7 @@ class Pages:
 
 
 class PageGroup:
-    """Some of the pages, which share templates, projects and jobs with all others.
-
-    Parameters
-    ----------
-    pages : Pages
-        All other pages of the folder.
-    """
+    """Some of the pages, which share templates, projects and jobs with all others."""
 
     def __init__(self, pages: Pages) -> None:
         self.pages, self.workspace, self.jobs = pages, pages.workspace, pages.jobs
@@ -460,10 +443,6 @@ def number_of(text: str) -> int:
     if not (text.isascii() and text.isdigit() and len(text) < 10):
         raise NotThere(f"job {text}: found no number, expected the number of a job: open it from the list of jobs")
     return int(text)
-
-
-def command_line(words: tuple[str, ...]) -> str:
-    return shlex.join(["pitplan", *words])
 
 
 def short_time(iso: Optional[str]) -> str:

@@ -126,15 +126,8 @@ def locked(folder: Path) -> Iterator[None]:
 
 
 def save(path: Path, name: str, editor: Editor) -> None:
-    """Writes the text of an editor, whole or not at all, with the ends of lines that the file has.
-
-    Raises
-    ------
-    Changed
-        If the file is not the one that the page showed.
-    PlanError
-        If it cannot be written.
-    """
+    """Writes the text of an editor, whole or not at all, with the ends of lines that the file has. Raises Changed if the file is not the one that the
+    page showed, and PlanError if it cannot be written."""
     with locked(path.parent):
         demand_seen(path, name, editor.seen)
         text = editor.text.replace("\n", "\r\n") if b"\r\n" in path.read_bytes() else editor.text

@@ -88,7 +88,6 @@ class TablePage:
 
     @property
     def pages(self) -> int:
-        """How many pages the table has."""
         return 1 + max(0, self.count - 1) // MOST_ROWS
 
     @property

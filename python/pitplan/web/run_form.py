@@ -62,23 +62,14 @@ class WrongForm(PlanError):
 
 @dataclass(frozen=True)
 class AskedCommand:
-    """A command with its words."""
-
     words: tuple[str, ...]
     project: str
     folder: str
 
 
 def read(form: Mapping[str, str], workspace: Workspace) -> AskedCommand:
-    """Returns the command of a form.
-
-    Raises
-    ------
-    WrongForm
-        If the command, the output folder or a number is wrong, with the field and the remedy.
-    NotThere
-        If there is no such project.
-    """
+    """Returns the command of a form. Raises WrongForm, with the field and the remedy, if the command, the output folder or a number is wrong, and
+    NotThere if there is no such project."""
     name = form.get("project", "")
     path = workspace.place(name)
     command = COMMANDS.get(form.get("command", ""))
@@ -107,13 +98,8 @@ def plain(name: str) -> str:
 
 
 def folder_of(given: str, project: Project, below: str, workspace: Workspace) -> str:
-    """Returns the output folder of a command by its name: the one that is given, otherwise that of the project's command.
-
-    Raises
-    ------
-    WrongForm
-        If it leads out of the folder that is served, is hidden, or is a file.
-    """
+    """Returns the output folder of a command by its name: the one that is given, otherwise that of the project's command. Raises WrongForm if it
+    leads out of the folder that is served, is hidden, or is a file."""
     path = workspace.root / given if given else project.folder / below
     try:
         resolved = path.resolve()

@@ -63,34 +63,6 @@ class Proxy:
     socket: Path
 
 
-@dataclass(frozen=True)
-class Settings:
-    """How the application is served.
-
-    Attributes
-    ----------
-    folder : Path
-        The folder with projects.
-    port : int
-        0: any free one.
-    opens : bool
-        Open the browser.
-    version : str
-        That of pitplan, at the foot of each page.
-    proxy : Proxy, optional
-        None: only browsers of this machine reach the server.
-    inputs : tuple of Path
-        Folders, besides that of the projects, in which their inputs may lie.
-    """
-
-    folder: Path
-    port: int = 0
-    opens: bool = True
-    version: str = ""
-    proxy: Optional[Proxy] = None
-    inputs: tuple[Path, ...] = ()
-
-
 def make_app(root: Path, access: Access, version: str = "") -> Starlette:
     jobs = Jobs(root)
     pages = Pages(Workspace(root), jobs, version)
@@ -166,13 +138,6 @@ class Sparing(logging.Filter):
         return is_new
 
 
-def log_sparingly() -> None:
-    """Sets how the libraries below log."""
-    for name in ("asyncio", "uvicorn.error"):
-        logger = logging.getLogger(name)
-        logger.filters = [Sparing()]
-
-
 def impatient(protocol: Any) -> Any:
     """Returns a protocol of uvicorn whose connections close if no request has come after PATIENCE seconds."""
 
@@ -205,32 +170,27 @@ def raise_limit_of_files() -> None:
         resource.setrlimit(resource.RLIMIT_NOFILE, (most, most))
 
 
-def serve(settings: Settings) -> None:
-    """Serves the application until it is interrupted.
-
-    Raises
-    ------
-    PlanError
-        If the folder does not exist or the port is taken.
-    MissingPackage
-        Without uvicorn.
-    """
+def serve(
+    folder: Path, port: int, version: str, proxy: Optional[Proxy], *, opens: bool = True, inputs: tuple[Path, ...] = ()
+) -> None:
+    """Serves the projects of a folder until it is interrupted, at a port, 0 for any free one, or behind a proxy. With `opens` the browser opens if
+    there is no proxy. `inputs` are further folders in which inputs of projects may lie. Raises PlanError if a folder does not exist or the port is
+    taken, and MissingPackage without uvicorn."""
     uvicorn = load("uvicorn", "python3-uvicorn", "serve")
     from uvicorn.protocols.http.h11_impl import H11Protocol
 
-    root = settings.folder.resolve()
+    root = folder.resolve()
     if not root.is_dir():
-        raise PlanError(f"{settings.folder}: is no folder: give one with projects, or an empty one")
-    for folder in settings.inputs:
-        if not folder.is_dir():
-            raise PlanError(f"--inputs {folder}: is no folder: give one with inputs of projects")
-    proxy = settings.proxy
-    with closing(listening_at(proxy.socket) if proxy else listening(settings.port)) as listener:
+        raise PlanError(f"{folder}: is no folder: give one with projects, or an empty one")
+    for place in inputs:
+        if not place.is_dir():
+            raise PlanError(f"--inputs {place}: is no folder: give one with inputs of projects")
+    with closing(listening_at(proxy.socket) if proxy else listening(port)) as listener:
         access = Access(0, host=proxy.host) if proxy else Access(listener.getsockname()[1])
-        input_places.confine([root, *settings.inputs])
+        input_places.confine([root, *inputs])
         raise_limit_of_files()
         config = uvicorn.Config(
-            make_app(root, access, settings.version),
+            make_app(root, access, version),
             log_level="warning",
             lifespan="on",
             server_header=False,
@@ -238,11 +198,12 @@ def serve(settings: Settings) -> None:
             ws="none",
             limit_concurrency=MOST_REQUESTS,
         )
-        log_sparingly()
+        for name in ("asyncio", "uvicorn.error"):
+            logging.getLogger(name).filters = [Sparing()]
         # What is printed to standard output is held back until the end.
         tell(f"pitplan serves {root}\n{access.address}\nCtrl-C ends it; jobs go on.")
         with opening(access.address) as page:
-            if settings.opens and not proxy:
+            if opens and not proxy:
                 threading.Timer(0.5, webbrowser.open, (page.as_uri(),)).start()
             try:
                 uvicorn.Server(config).run(sockets=[listener])

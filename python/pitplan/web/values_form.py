@@ -143,13 +143,8 @@ def typed(fields: list[FormField], form: Mapping[str, str]) -> list[FormField]:
 
 
 def changed(text: str, before: list[FormField], after: list[FormField]) -> str:
-    """Returns a text with other numbers in some fields; all else in it stays.
-
-    Raises
-    ------
-    WrongForm
-        If a field has no number, with its label and the remedy.
-    """
+    """Returns a text with other numbers in some fields; all else in it stays. Raises WrongForm, with its label and the remedy, if a field has no
+    number."""
     draft = Draft(text)
     for old, new in zip(before, after):
         if new.value == old.value:

@@ -10,7 +10,7 @@ from collections.abc import Callable, Collection, Hashable, Iterator, Sequence
 from dataclasses import dataclass, field
 from datetime import datetime
 from pathlib import Path
-from typing import Any, Generic, TypeVar
+from typing import Generic, TypeVar
 
 from pitplan.config import project_writer, toml_text
 from pitplan.core import layout
@@ -25,13 +25,8 @@ State = tuple[str, int, int, int]
 
 
 class FileCache(Generic[Value]):
-    """Values that were read from files, each by its key. Threads may share it.
-
-    Parameters
-    ----------
-    most : int
-        How many are kept: the one that was asked for longest ago goes first.
-    """
+    """Values that were read from files, each by its key; at most `most` are kept: the one that was asked for longest ago goes first. Threads may
+    share it."""
 
     def __init__(self, most: int) -> None:
         self.most, self.lock = most, threading.Lock()
@@ -46,13 +41,8 @@ class FileCache(Generic[Value]):
         *,
         keeps: Callable[[Value], bool] = lambda value: True,
     ) -> Value:
-        """Returns the value of a key: the kept one if its files are unchanged, otherwise the one that `read` returns, which is kept if `keeps` says so.
-
-        Raises
-        ------
-        PlanError
-            If a file does not exist.
-        """
+        """Returns the value of a key: the kept one if its files are unchanged, otherwise the one that `read` returns, which is kept if `keeps` says
+        so. Raises PlanError if a file does not exist."""
         states = [state_of(file) for file in files]
         with self.lock:
             known = self.entries.get(key)
@@ -168,13 +158,8 @@ class Workspace:
     records: FileCache[Record] = field(default_factory=lambda: FileCache(KEPT), compare=False)
 
     def place(self, name: str) -> Path:
-        """Returns the path of a file or folder by its name.
-
-        Raises
-        ------
-        NotThere
-            If it does not exist, if it is hidden, or if it leads out of the folder by `..` or a symbolic link.
-        """
+        """Returns the path of a file or folder by its name. Raises NotThere if it does not exist, if it is hidden, or if it leads out of the folder
+        by `..` or a symbolic link."""
         refused = NotThere(f"{name}: no such file below the folder that is served")
         if "\0" in name or any(part.startswith(".") for part in Path(name).parts):
             raise refused
@@ -278,7 +263,8 @@ def record_in(path: Path, kind: str) -> Record:
     said = json.loads(path.read_text(encoding="utf-8"))
     if not isinstance(said, dict):
         raise ValueError(path)
-    return Record(kind or kind_of(said), str(said.get("project", "")))
+    of_plan = next((called for key, called in KINDS if key in said), "Pit")
+    return Record(kind or of_plan, str(said.get("project", "")))
 
 
 def is_text(name: str) -> bool:
@@ -289,8 +275,3 @@ def is_text(name: str) -> bool:
 def shown(name: str) -> str:
     """Returns a name with a question mark for each byte that is not UTF-8."""
     return name.encode("utf-8", "replace").decode("utf-8")
-
-
-def kind_of(record: dict[str, Any]) -> str:
-    """Returns what a plan's results are called."""
-    return next((kind for key, kind in KINDS if key in record), "Pit")
