@@ -15,7 +15,8 @@ FAILED = SimpleNamespace(status=4, message="Numerical difficulties encountered."
 
 def test_waste_without_a_solution_is_an_error_with_the_status(monkeypatch):
     monkeypatch.setattr(material, "linprog", lambda *args, **options: FAILED)
-    ones, limits = np.ones((1, 1)), (np.zeros((1, 2)), np.full((1, 2), np.inf))
+    ones, endless = np.ones((1, 1)), np.full((1, 2), np.inf)
+    limits = np.zeros((1, 2)), endless, endless
     waste = material.Waste(
         (Dump("far", 1.0),), ones > 0, 100 * ones, np.zeros((1, 0)), np.zeros(0, dtype=int), *limits, np.ones(2)
     )

@@ -76,15 +76,15 @@ def optimum_of(programme: Programme, gap: float, seconds: Optional[float]) -> Op
         if answer.status != DONE:
             raise RuntimeError(f"the linear programme: status {answer.status}: {answer.message}")
         return Optimum(answer.x, -float(answer.fun), np.maximum(-answer.ineqlin.marginals, 0.0))
-    options = {"mip_rel_gap": gap} | ({} if seconds is None else {"time_limit": seconds})
+    options: dict[str, Any] = {"mip_rel_gap": gap} | ({} if seconds is None else {"time_limit": seconds})
     # The presolve of HiGHS finds some programmes infeasible that have a solution.
-    for presolve in (True, False):
+    for given in (options, options | {"presolve": False}):
         answer = milp(
             -programme.gain,
             integrality=programme.whole.astype(int),
             bounds=Bounds(0, programme.upper),
             constraints=LinearConstraint(programme.matrix, -np.inf, programme.most),
-            options=options | {"presolve": presolve},
+            options=given,
         )
         if answer.status != INFEASIBLE:
             break
