@@ -25,6 +25,7 @@ from pitplan import PlanError
 from pitplan.config.material import NamedLimit
 from pitplan.config.periods import Calendar, Period
 from pitplan.economics.cutoff_grades import edges_of
+from pitplan.economics.period_costs import YearlyMoney
 from pitplan.scheduling.flow import scheduler
 from pitplan.scheduling.flow.bound import Lagrangian, upper_bound
 from pitplan.scheduling.flow.material import Material, Ore, by_choice
@@ -263,6 +264,13 @@ def test_a_blend_in_some_years_is_worth_no_less_than_in_all(pits, limits, severa
         flows = scheduler.from_optimum(case, optimum)
         demand_kept(flows)
         assert flows.value <= optimum.value + slack
+
+
+def test_ore_without_units_gains_nothing_at_prices_of_years():
+    nothing, none = np.zeros((1, 0)), np.zeros(0, dtype=np.int64)
+    ore = Ore(none, none, nothing, {"recovered_copper": nothing}).merged(none, none, none)
+    money = YearlyMoney(premiums={"recovered_copper": (1.0, 2.5)})
+    assert ore.gains(money, 2).shape == (1, 0, 2)
 
 
 def limits_of(model):

@@ -20,8 +20,8 @@ from scipy.optimize import Bounds, LinearConstraint, linprog, milp
 from scipy.sparse import csr_matrix, load_npz, save_npz
 
 PROGRAMME, MATRIX, EFFORT, OPTIMUM = "programme.npz", "matrix.npz", "effort.json", "optimum.npz"
-# What scipy says of a run: done, ended by its limit of time, and that no unknowns keep all rows.
-DONE, OUT_OF_TIME, INFEASIBLE = 0, 1, 2
+# What scipy says of a run: done, and ended by its limit of time.
+DONE, OUT_OF_TIME = 0, 1
 
 
 @dataclass(frozen=True)
@@ -76,18 +76,15 @@ def optimum_of(programme: Programme, gap: float, seconds: Optional[float]) -> Op
         if answer.status != DONE:
             raise RuntimeError(f"the linear programme: status {answer.status}: {answer.message}")
         return Optimum(answer.x, -float(answer.fun), np.maximum(-answer.ineqlin.marginals, 0.0))
-    options: dict[str, Any] = {"mip_rel_gap": gap} | ({} if seconds is None else {"time_limit": seconds})
-    # The presolve of HiGHS finds some programmes infeasible that have a solution.
-    for given in (options, options | {"presolve": False}):
-        answer = milp(
-            -programme.gain,
-            integrality=programme.whole.astype(int),
-            bounds=Bounds(0, programme.upper),
-            constraints=LinearConstraint(programme.matrix, -np.inf, programme.most),
-            options=given,
-        )
-        if answer.status != INFEASIBLE:
-            break
+    # With its presolve HiGHS finds some programmes infeasible that have a solution, and of others an optimum and a bound that are too low.
+    options: dict[str, Any] = {"mip_rel_gap": gap, "presolve": False}
+    answer = milp(
+        -programme.gain,
+        integrality=programme.whole.astype(int),
+        bounds=Bounds(0, programme.upper),
+        constraints=LinearConstraint(programme.matrix, -np.inf, programme.most),
+        options=options | ({} if seconds is None else {"time_limit": seconds}),
+    )
     if answer.status not in (DONE, OUT_OF_TIME):
         raise RuntimeError(f"the integer programme: status {answer.status}: {answer.message}")
     bound = answer.mip_dual_bound

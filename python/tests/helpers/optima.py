@@ -55,18 +55,15 @@ class Programme:
         matrix = np.zeros((len(self.rows), len(self.gain)))
         for number, row in enumerate(self.rows):
             matrix[number, list(row)] = list(row.values())
-        # The presolve of HiGHS finds some programmes infeasible that have a solution.
-        for presolve in (True, False):
-            found = milp(
-                -np.array(self.gain),
-                integrality=np.array(self.whole),
-                bounds=Bounds(0, np.array(self.upper)),
-                constraints=LinearConstraint(matrix, -np.inf, np.array(self.most)),
-                options={"mip_rel_gap": 0.0, "presolve": presolve},
-            )
-            if found.status != 2:
-                return -float(found.fun)
-        return None
+        # With its presolve HiGHS finds some of these programmes infeasible, and of others an optimum that is too low.
+        found = milp(
+            -np.array(self.gain),
+            integrality=np.array(self.whole),
+            bounds=Bounds(0, np.array(self.upper)),
+            constraints=LinearConstraint(matrix, -np.inf, np.array(self.most)),
+            options={"mip_rel_gap": 0.0, "presolve": False},
+        )
+        return None if found.status == 2 else -float(found.fun)
 
 
 @dataclass(frozen=True)

@@ -110,7 +110,8 @@ class Ore:
         """Returns the sums over units by their parcel, where the same stockpiles accept all units; `bench` and `bins` are those of the parcels."""
 
         def sums(values: NDArray[np.float64]) -> NDArray[np.float64]:
-            return np.stack([np.bincount(parcel, row, minlength=len(bench)) for row in values])
+            # Without units bincount gives whole numbers.
+            return np.stack([np.bincount(parcel, row, minlength=len(bench)) for row in values]).astype(np.float64)
 
         accepted, amounts = None, {name: sums(values) for name, values in self.amounts.items()}
         if self.accepted is not None:
