@@ -95,9 +95,9 @@ def test_a_certificate_holds_the_optimum_below_its_bound(plan_folder, way, seed)
         assert any(said in str(error) for said in ("infeasible", "no schedule of whole blocks", "is empty"))
         return
     units = blocks_alone(mine) if way == "block_schedule" else benches(mine, pushbacks_in(out, mine))
-    optimum, told = optimum_of(mine, units), json.loads((out / f"{way}.json").read_text())
+    optimum, record = optimum_of(mine, units), json.loads((out / f"{way}.json").read_text())
     slack = 0.02 + 3e-5 * abs(optimum)
-    assert told["certificate"]["value"] <= optimum + slack <= told["certificate"]["bound"] + 2 * slack
+    assert record["certificate"]["value"] <= optimum + slack <= record["certificate"]["bound"] + 2 * slack
     assert {rule.name: rule.differences for rule in verify(out) if rule.differences} == {}
 
 

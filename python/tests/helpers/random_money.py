@@ -198,7 +198,7 @@ def at(values: Sequence[float], year: int) -> float:
 
 
 def random_terms(seed: int, years: int) -> Terms:
-    """Terms of which each differs from none with some chance; capex is paid in the first of these years alone."""
+    """Random terms: each term is left out with some chance, and capex is paid in the first of these years alone."""
     rng = np.random.default_rng(seed)
 
     def some(chance: float, *values: float) -> float:
