@@ -294,10 +294,10 @@ def test_random_optima_and_bounds(pits, several, lag, piles, given_dumps):
     assert made.value <= best + slack and best <= bound + slack and scheduler.keeps_dumps(made)
     more = with_dumps(plain, [*given_dumps, (0.1, 80.0, 50.0, (True, True))])
     assert FlowProgramme(more).solved().value >= optimum.value - slack
-    assert Lagrangian(more, optimum.prices).value >= bound - slack
+    assert Lagrangian(FlowProgramme(more), optimum.prices).value >= bound - slack
     dearer = with_dumps(plain, [(cost + 0.3, *rest) for cost, *rest in given_dumps])
     assert FlowProgramme(dearer).solved().value <= optimum.value + slack
-    assert Lagrangian(dearer, optimum.prices).value <= bound + slack
+    assert Lagrangian(FlowProgramme(dearer), optimum.prices).value <= bound + slack
 
 
 @pytest.fixture(scope="module")

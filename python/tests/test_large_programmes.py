@@ -1,23 +1,22 @@
-"""Large linear programmes begin with few parcels and go on near the years in which benches are mined, by hand and next to the whole programme."""
+"""Large linear programmes, whose prices are searched for, next to the whole programme."""
 
 import numpy as np
 import pytest
 from conftest import rows
-from helpers.benches import benches_of, problem_of, yearly_limits
+from helpers.optima import benches, optimum_of as optimum_of_mine
 from helpers.pushbacks import PUSHBACKS, wrong
+from helpers.random_mines import random_pushback_mine
+from helpers.random_tests import seeds
 from helpers.writings import PLAIN
 from scipy.sparse import csr_matrix
 
 import pitplan
-from pitplan import load
+from pitplan import PlanError, load
 from pitplan.config.periods import Calendar, Period
-from pitplan.scheduling import highs_process
+from pitplan.scheduling import highs_process, pushback_schedule
 from pitplan.scheduling.flow import programme
-from pitplan.scheduling.flow.material import Ore
-from pitplan.scheduling.flow.model import FlowModel
-from pitplan.scheduling.flow.programme import FlowProgramme
 from pitplan.scheduling.highs import Programme, optimum_of
-from pitplan.scheduling.pushback_schedule import years_near
+from pitplan.scheduling.pushback_schedule import near_choices, years_near
 
 
 def test_years_near_those_of_a_bench_by_hand():
@@ -37,16 +36,10 @@ def test_years_near_those_of_a_bench_are_years_in_quarters():
     assert (np.flatnonzero(near[0]) + 1).tolist() == list(range(5, 30))
 
 
-def test_ore_goes_nowhere_in_other_years():
-    """A bench of ore that pays best in year 1, and may be processed in years 2 and 3 alone: it is mined in year 2."""
-    benches = benches_of((1, 0, 100, 0, -100))
-    ore = Ore(np.array([0]), np.array([1]), np.array([[500.0]]), {"feed_tonnes": np.array([[100.0]])})
-    model = FlowModel(problem_of(benches, yearly_limits({"feed_tonnes": 1e3, "total_tonnes": 1e3})), ore, 3)
-    assert FlowProgramme(model).solved().value == pytest.approx(400 / 1.1)
-    near = np.array([[False, True, True]])
-    found = FlowProgramme(model, near=near).solved()
-    assert found.value == pytest.approx(400 / 1.21)
-    assert found.direct.tolist() == [[0, 1, 0]]
+def test_choices_of_far_years_are_those_of_the_nearest_near_year():
+    choices, near = np.array([[1, 2, 3, 4, 5], [1, 2, 3, 4, 5]]), np.zeros((2, 5), dtype=bool)
+    near[0, 1:3] = near[1, 4] = True
+    assert near_choices(choices, near).tolist() == [[2, 2, 3, 3, 3], [5, 5, 5, 5, 5]]
 
 
 def test_a_programme_without_idle_unknowns_has_the_same_optimum():
@@ -100,3 +93,26 @@ def test_the_schedule_is_that_of_the_whole_programme(plan_folder, monkeypatch):
     assert large["npv"] <= min(large["upper_bound"], whole["upper_bound"]) + 1
     assert large["npv"] >= 0.99 * whole["npv"]
     assert large["upper_bound"] <= 1.02 * whole["upper_bound"]
+
+
+@pytest.mark.parametrize("batch", seeds(1, 20))
+def test_random_mines_as_if_they_were_large(plan_folder, monkeypatch, batch):
+    """Of few bins, whose prices are searched for: no schedule is above the optimum of an integer programme over single blocks, and no bound below."""
+    monkeypatch.setattr(programme, "MANY", 0)
+    monkeypatch.setattr(pushback_schedule, "FEW_BINS", 2)
+    for seed in range(6 * batch, 6 * (batch + 1)):
+        mine = random_pushback_mine(seed)
+        plan = pitplan.Plan.from_project(plan_folder(mine.table, mine.text))
+        try:
+            pushbacks = plan.shells().pushbacks()
+        except PlanError as error:
+            assert "the pit of revenue factor 1.00 is empty" in str(error)
+            continue
+        number = pushbacks.blocks.set_index("name")["pushback"].reindex(mine.table["name"]).fillna(0).to_numpy(int)
+        optimum = optimum_of_mine(mine, benches(mine, number))
+        if optimum is None:
+            with pytest.raises(PlanError, match="infeasible"):
+                pushbacks.schedule()
+            continue
+        found, slack = pushbacks.schedule(), 0.01 + 1e-6 * abs(optimum)
+        assert found.value(found.shown) <= optimum + slack <= found.upper_bound + 2 * slack, seed

@@ -4,7 +4,7 @@ from dataclasses import replace
 
 import numpy as np
 import pytest
-from helpers.benches import demand_minable, yearly_limits
+from helpers.benches import benches_of, demand_minable, problem_of, yearly_limits
 from helpers.flow_cases import blended, lying, slack_of, two_benches
 from helpers.flows import (
     blending,
@@ -29,6 +29,7 @@ from pitplan.economics.period_costs import YearlyMoney
 from pitplan.scheduling.flow import scheduler
 from pitplan.scheduling.flow.bound import Lagrangian, upper_bound
 from pitplan.scheduling.flow.material import Material, Ore, by_choice
+from pitplan.scheduling.flow.model import FlowModel
 from pitplan.scheduling.flow.programme import FlowProgramme
 from pitplan.scheduling.limits import of_places
 
@@ -197,10 +198,10 @@ def test_parcels_of_blocks_that_choose_alike_lose_nothing(pits, limits, several,
     model = model_of(mine_of(pits, 0), several, limits, 3, piles)
     blocks, nothing = model.ore, np.zeros(len(model.ore), dtype=np.int64)
     prices = FlowProgramme(model).solved().prices
-    relaxation = Lagrangian(model, prices)
+    relaxation = Lagrangian(FlowProgramme(model), prices)
     found = by_choice(Material(model.benches, nothing, nothing, blocks, blocks, {}), relaxation.choices[1])
     finer = replace(model, ore=found.parcels)
-    assert Lagrangian(finer, prices).value == pytest.approx(relaxation.value, abs=slack_of(model))
+    assert Lagrangian(FlowProgramme(finer), prices).value == pytest.approx(relaxation.value, abs=slack_of(model))
     assert len(np.unique(np.column_stack([blocks.bench, relaxation.choices[1]]), axis=0)) <= len(found.parcels)
     assert found.parcels.feed.sum() == pytest.approx(blocks.feed.sum())
     # Bins rise with the mean value per tonne, by best process.
@@ -310,3 +311,14 @@ def test_a_process_twice_with_half_its_capacity_is_the_process(pits, limits, cos
     two = model_of(mine_of(pits, 0), [(1.0, 30.0), (1.0, 30.0)], limits, 4, plain(cost), favour=0)
     found = [FlowProgramme(it).solved().value for it in (one, two)]
     assert found[0] == pytest.approx(found[1], abs=slack_of(one))
+
+
+def test_the_rule_returns_to_rich_ore_when_clean_ore_makes_room():
+    """Alone the rich ore is above the limit of arsenic. When the clean ore is fed, which earns less, half of the rich ore fits."""
+    nothing = np.zeros(2, dtype=np.int64)
+    amounts = {"feed_tonnes": np.array([[100.0, 100.0]]), "grade_as_max": np.array([[40.0, -20.0]])}
+    ore = Ore(nothing, np.array([1, 2]), np.array([[1000.0, 100.0]]), amounts)
+    limits = yearly_limits({"feed_tonnes": 1000.0, "grade_as_max": 0.0})
+    model = FlowModel(problem_of(benches_of((1, 0, 200, 0, 0)), limits), ore, 1)
+    flows = scheduler.richest_first(model, np.ones((1, 1)))
+    assert flows.direct[0, :, 0].tolist() == [0.5, 1.0] and flows.value == pytest.approx(600 / 1.1)

@@ -151,7 +151,7 @@ def test_a_higher_factor_never_raises_optimum_and_bound(plan_folder):
         optimum = FlowProgramme(model).solved()
         prices = prices or optimum.prices
         key = tuple(float(it or 1) for it in texts)
-        optima[key], bounds[key] = optimum.value, Lagrangian(model, prices).value
+        optima[key], bounds[key] = optimum.value, Lagrangian(FlowProgramme(model), prices).value
     for values in (optima, bounds):
         for low in values:
             above = [values[high] for high in values if all(a <= b for a, b in zip(low, high))]

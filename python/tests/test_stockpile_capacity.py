@@ -15,6 +15,7 @@ from pitplan.config.material import Stockpile
 from pitplan.scheduling.flow.bound import Lagrangian
 from pitplan.scheduling.flow.material import Ore
 from pitplan.scheduling.flow.model import FlowModel, OpeningOre
+from pitplan.scheduling.flow.programme import FlowProgramme
 
 PILE = '[[schedule.stockpiles]]\nname = "s"\nreclaim_cost = 1\ncapacity = 500\n'
 DUMP = '[[dumps]]\nname = "d"\ncost = 0.5\n'
@@ -68,5 +69,6 @@ def test_no_process_frees_a_stockpile_of_ore_that_it_does_not_take():
     problem = problem_of(benches_of((1, 0, 100, 0, 0)), yearly_limits({"feed_tonnes_mill": 50.0}), rate=0.0)
     model = FlowModel(problem, ore, 3, (Stockpile(1.0, capacity=100.0),), OpeningOre(ore, nothing))
     prices = {("stockpile_stockpile", "max"): np.full(3, 2.0), ("feed_tonnes_mill", "max"): np.full(3, 100.0)}
-    relaxation = Lagrangian(model, prices)
-    assert relaxation.waiting(0)[0].tolist() == [-600, -400, -200] and relaxation.of_opening == 0
+    relaxation = Lagrangian(FlowProgramme(model), prices)
+    assert relaxation.waiting[0].value[0].tolist() == [-600, -400, -200]
+    assert not relaxation.earned_by_lots.max(initial=0.0)

@@ -45,6 +45,7 @@ from .flow.conflicts import Conflict
 from .flow.flows import Flows
 from .flow.mixed_reclaim import loss_by_mixing
 from .flow.model import FlowModel
+from .flow.multipliers import Multipliers
 from .flow.opening import OpeningLots
 from .flow.programme import FlowOptimum, FlowProgramme
 from .flow.tables import stockpile_table
@@ -57,13 +58,13 @@ if TYPE_CHECKING:
 
     from pitplan.commands.writing import Writing
 
-# The years around those of a bench in which the next programme may mine it.
+# The years around those of a bench in which the choices of its blocks count.
 NEAR = 3.0
 
 
 def years_near(cumulative: NDArray[np.float64], calendar: Calendar) -> NDArray[np.bool_]:
-    """Returns the years in which a bench may be mined that an optimum mines by these shares, shape (benches, years): from NEAR years before those
-    in which it does so to NEAR years after them."""
+    """Returns the years in which a schedule may mine a bench that an optimum mines by these shares, shape (benches, years): from NEAR years before
+    those in which it does so to NEAR years after them."""
     years = cumulative.shape[1]
     ends, lengths = calendar.ends(years), calendar.lengths(years)
     begun, through = cumulative > SUM_ERROR, cumulative > 1 - SUM_ERROR
@@ -73,12 +74,22 @@ def years_near(cumulative: NDArray[np.float64], calendar: Calendar) -> NDArray[n
     return np.asarray(is_late & (ends - lengths <= ends[last, None] + NEAR - SUM_ERROR))
 
 
+def near_choices(choices: NDArray[np.int64], is_near: NDArray[np.bool_]) -> NDArray[np.int64]:
+    """Returns the choices of blocks by the year in which they are mined, shape (blocks, years). A year that is not near has that of the nearest one that
+    is."""
+    years = np.arange(is_near.shape[1])
+    first, last = is_near.argmax(axis=1), years[-1] - is_near[:, ::-1].argmax(axis=1)
+    return np.take_along_axis(choices, np.clip(years, first[:, None], last[:, None]), axis=1)
+
+
 # The linear programme may take this part of the rule's years more.
 MORE_YEARS = 0.2
-# Parcels are made finer while the bound is above their optimum by more than this share, of large programmes a greater one; so often at most.
-FINE, FINE_OF_LARGE, REFINEMENTS = 0.002, 0.006, 3
+# Parcels are made finer while the bound is above their optimum by more than this share, so often at most.
+FINE, REFINEMENTS = 0.002, 3
 # Value bins of each process, and parts by limited grades, of the first of these programmes.
 FEW_BINS, FEW_PARTS = 4, 2
+# The search for the prices of large programmes ends when less than this share is promised: of the first programme, and of finer ones.
+ROUGH, CLOSE = 3e-3, 3e-4
 # A grade that differs by a smaller share from another is the same for a planner.
 APART = 0.01
 # The integer programme of so few benches times years, and unknowns in all, is solved unasked for some seconds, if the gap exceeds this share.
@@ -610,26 +621,22 @@ def with_integer_programme(schedule: PushbackSchedule) -> PushbackSchedule:
 def relaxations(schedule: PushbackSchedule, rules: ScheduleRules, progress: Progress) -> Iterator[PushbackSchedule]:
     """Yields the schedule with the optimum of the linear programme and the upper bound, then with those of finer parcels while it pays.
 
-    A large programme begins with few parcels. The next programmes group blocks that chose the same destinations. Each parcel is then usable only
-    near the years in which the previous programme mined its bench. The bound holds for any parcels and years.
+    A large programme begins with few parcels. The next programmes group blocks that chose the same destinations. The bound holds for any parcels.
     """
-    is_large = FlowProgramme(schedule.model).is_large
-    if is_large:
+    if FlowProgramme(schedule.model).is_large:
         few = by_value(schedule.material, schedule.names, FEW_BINS, FEW_PARTS)
         schedule = with_material(schedule, few, rules)
     schedule = relaxed(schedule, progress)
     yield schedule
     for _ in range(REFINEMENTS):
         assert schedule.optimum is not None and schedule.upper_bound is not None
-        enough = FINE_OF_LARGE if is_large else FINE
-        if schedule.upper_bound - schedule.optimum.value <= enough * abs(schedule.upper_bound):
+        if schedule.upper_bound - schedule.optimum.value <= FINE * abs(schedule.upper_bound):
             break
         divided = in_finer_bins(schedule, rules)
         # With other parcels the rule may take years that the programme and its bound do not have.
         if any(flows.years > divided.model.years for flows in divided.flows.values()):
             break
-        near = years_near(schedule.optimum.cumulative, schedule.settings.calendar) if is_large else None
-        finer = relaxed(divided, progress, near)
+        finer = relaxed(divided, progress)
         assert finer.optimum is not None
         if finer.optimum.value <= schedule.optimum.value:
             yield replace(schedule, upper_bound=finer.upper_bound, prices=finer.prices)
@@ -638,18 +645,15 @@ def relaxations(schedule: PushbackSchedule, rules: ScheduleRules, progress: Prog
         yield schedule
 
 
-def relaxed(schedule: PushbackSchedule, progress: Progress, near: Optional[np.ndarray] = None) -> PushbackSchedule:
-    """Returns the schedule with the optimum of the linear programme, near some years if they are given, and the upper bound, unless it has a lower
-    one. Raises PlanError, with the minimums that lack, if no schedule meets them."""
-    model, programme = schedule.model, FlowProgramme(schedule.model, near=near)
-    count = len(programme.gain) if near is None else int(np.count_nonzero(programme.upper))
-    size = f"{model.years} {schedule.settings.calendar.word}s and {len(model.ore):,} parcels, {count:,} variables"
+def relaxed(schedule: PushbackSchedule, progress: Progress) -> PushbackSchedule:
+    """Returns the schedule with the optimum of the linear programme and the upper bound, unless it has a lower one. Raises PlanError, with the
+    minimums that lack, if no schedule meets them."""
+    model, programme = schedule.model, FlowProgramme(schedule.model)
+    size = f"{model.years} {schedule.settings.calendar.word}s and {len(model.ore):,} parcels, {len(programme.gain):,} variables"
     with progress.step(f"solving the linear programme of {size}"):
         try:
-            optimum = programme.solved()
+            optimum = optimum_of(programme, schedule.optimum)
         except PlanError as error:
-            if near is not None:
-                return relaxed(schedule, progress)
             # Rows of whole benches have no names, so that limits alone are asked first.
             asked = (Conflict(replace(programme, paced=False)), Conflict(programme)) if model.asks_least else ()
             lacking = next(filter(None, (it.message() for it in asked)), "")
@@ -659,11 +663,25 @@ def relaxed(schedule: PushbackSchedule, progress: Progress, near: Optional[np.nd
     return found if before is not None and before <= upper else replace(found, upper_bound=upper, prices=optimum.prices)
 
 
+def optimum_of(programme: FlowProgramme, before: Optional[FlowOptimum]) -> FlowOptimum:
+    """Returns the optimum of a programme; of a large one nearly, from the prices of a coarser one. Only the solution shows whether minimums can be met."""
+    if not programme.is_large or (before is None and programme.model.asks_least):
+        return programme.solved()
+    return Multipliers(programme).found({} if before is None else before.prices, ROUGH if before is None else CLOSE)
+
+
 def in_finer_bins(schedule: PushbackSchedule, rules: ScheduleRules) -> PushbackSchedule:
-    """Returns the schedule with parcels of blocks that choose alike at the prices of the linear programme, and the rule's flows of these."""
-    assert schedule.optimum is not None
-    relaxation = bound.Lagrangian(replace(schedule.model, ore=schedule.material.blocks), schedule.optimum.prices)
-    return with_material(schedule, by_choice(schedule.material, relaxation.choices[1]), rules)
+    """Returns the schedule with parcels of blocks that choose alike at the prices of the linear programme, and the rule's flows of these. Of a large
+    programme choices count in the years that are near those in which the bench is mined, and ore above a limit of a grade is apart from ore below it.
+    """
+    optimum, blocks = schedule.optimum, schedule.material.blocks
+    assert optimum is not None
+    choices = bound.Lagrangian(FlowProgramme(replace(schedule.model, ore=blocks)), optimum.prices).choices[1]
+    if FlowProgramme(schedule.model).is_large:
+        is_near = years_near(optimum.cumulative, schedule.settings.calendar)
+        is_above = [blocks.of(name).max(axis=0) > 0 for name in schedule.model.blended]
+        choices = np.column_stack([near_choices(choices, is_near[blocks.bench]), *is_above])
+    return with_material(schedule, by_choice(schedule.material, choices), rules)
 
 
 def with_material(schedule: PushbackSchedule, material: Material, rules: ScheduleRules) -> PushbackSchedule:
@@ -698,4 +716,4 @@ class LimitsAlone(FlowProgramme):
 
 def prices_of(schedule: PushbackSchedule) -> Prices:
     """Returns the prices of limits at which the bound of the texts is lowest; none if the run was interrupted before the linear programme."""
-    return {} if schedule.optimum is None else LimitsAlone(schedule.model).solved().prices
+    return {} if schedule.optimum is None else optimum_of(LimitsAlone(schedule.model), schedule.optimum).prices

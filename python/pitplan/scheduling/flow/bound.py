@@ -15,30 +15,52 @@ from functools import cached_property
 import numpy as np
 from numpy.typing import NDArray
 from scipy.optimize import linprog
-from scipy.sparse import vstack
 
 from pitplan.scheduling.highs_process import demand_solved
 from pitplan.scheduling.limits import ADVANCE, MAX, MIN, RUNNING, STOCK, Prices
 
 from .material import FEED, Ore
-from .model import FlowModel, by_end, order_rows
+from .model import FlowModel, by_end
 from .programme import FlowProgramme
 
 
 @dataclass(frozen=True)
-class Lagrangian:
-    """The relaxation of a model at prices of its limits.
+class Waiting:
+    """Ore that waits on a stockpile.
 
     Attributes
     ----------
-    model : FlowModel
-        Whose ore may be parcels or single blocks.
+    value : array, shape (units, years)
+        What each unit earns that goes there in each year, discounted and less the prices of what it uses.
+    until : int array, shape (units, years)
+        The year, from 0, in which it is reclaimed; the number of years if it stays.
+    process : int array, shape (units, years)
+        The process that takes it if it is reclaimed in each year.
+    """
+
+    value: NDArray[np.float64]
+    until: NDArray[np.int64]
+    process: NDArray[np.int64]
+
+
+@dataclass(frozen=True)
+class Lagrangian:
+    """The relaxation of a programme at prices of its limits.
+
+    Attributes
+    ----------
+    programme : FlowProgramme
+        Of a model whose ore may be parcels or single blocks.
     prices : dict
         The price of each limit.
     """
 
-    model: FlowModel
+    programme: FlowProgramme
     prices: Prices
+
+    @property
+    def model(self) -> FlowModel:
+        return self.programme.model
 
     def priced(self, amounts: dict[str, NDArray[np.float64]], whole: NDArray[np.float64]) -> NDArray[np.float64]:
         """Returns `whole`, shape (.., years), less the prices of amounts, each of shape (..)."""
@@ -58,7 +80,8 @@ class Lagrangian:
         direct = self.priced(ore.amounts, model.gains * model.discounts)
         earned = [np.zeros((len(ore), model.years)), *(direct + np.where(ore.of(FEED)[:, :, None] > 0, saved, 0.0))]
         for number in range(len(model.stockpiles)):
-            earned.append(np.where(ore.accepted_by(number)[:, None], self.waiting(number) + saved, -np.inf))
+            waits = self.waiting[number].value + saved
+            earned.append(np.where(ore.accepted_by(number)[:, None], waits, -np.inf))
         best, place = earned[0], np.zeros((len(ore), model.years), dtype=np.int64)
         for number, other in enumerate(earned[1:], 1):
             place[other > best] = number
@@ -75,18 +98,25 @@ class Lagrangian:
         """What each unit of ore earns beyond waste, by the year in which it is mined, shape (units, years)."""
         return self.choices[0]
 
-    def waiting(self, number: int) -> NDArray[np.float64]:
-        """What each unit earns that goes to a stockpile in each year, until the best later year or to the end, shape (units, years)."""
-        model, ore = self.model, self.model.reclaims[number]
-        stockpile = model.stockpiles[number]
-        gains = ore.gains(model.problem.money, model.years) * model.discounts
-        later = taken(ore, self.priced(ore.amounts, gains)).max(axis=0, initial=-np.inf)
+    @cached_property
+    def waiting(self) -> tuple[Waiting, ...]:
+        """What waits on each stockpile until the best later year, or to the end."""
+        return tuple(self.waiting_on(number) for number in range(len(self.model.stockpiles)))
+
+    def waiting_on(self, number: int) -> Waiting:
+        model, ore, stockpile = self.model, self.model.reclaims[number], self.model.stockpiles[number]
+        earned = taken(ore, self.priced(ore.amounts, model.reclaim_gains[number] * model.discounts))
+        later = earned.max(axis=0, initial=-np.inf)
         # A tonne pays rent in each year at whose end it lies there.
-        lies = ore.feed[:, None] * self.rent(stockpile.name)
-        found = -lies
+        value = -ore.feed[:, None] * self.rent(stockpile.name)
+        until = np.full(value.shape, model.years)
         for year in range(model.years - 2, -1, -1):
-            found[:, year] += np.maximum(later[:, year + 1], found[:, year + 1])
-        return found - stockpile.stacking_cost * ore.feed[:, None] * model.discounts
+            is_next = later[:, year + 1] >= value[:, year + 1]
+            value[:, year] += np.where(is_next, later[:, year + 1], value[:, year + 1])
+            until[:, year] = np.where(is_next, year + 1, until[:, year + 1])
+        return Waiting(
+            value - stockpile.stacking_cost * ore.feed[:, None] * model.discounts, until, earned.argmax(axis=0)
+        )
 
     def rent(self, stockpile: str) -> NDArray[np.float64]:
         """Returns the price of a tonne that lies on a stockpile at the end of each year: that of its capacity, less that of its minimum."""
@@ -105,52 +135,53 @@ class Lagrangian:
         np.add.at(found, model.ore.bench, self.worths)
         return found
 
-    @cached_property
-    def programme(self) -> FlowProgramme:
-        return FlowProgramme(self.model)
-
     @property
     def of_limits(self) -> float:
         limits = {(it.name, it.side): it.sign * it.finite for it in self.programme.limits}
         return float(sum(price @ limits[key] for key, price in self.prices.items() if key in limits))
 
     @property
-    def of_running(self) -> float:
-        """What running as many years as is best earns: the prices of limits that show it, less what the years cost."""
+    def earned_by_running(self) -> NDArray[np.float64]:
+        """What running up to the end of each year earns: the prices of limits that show it, less what the years cost, shape (years,)."""
         costs = self.programme.costs
         used = sum(
             (self.prices.get((it.name, RUNNING), 0.0) * it.amount for it in self.programme.bounding),
             np.zeros(len(costs)),
         )
-        return float((used - costs).cumsum().max(initial=-np.inf))
+        return np.asarray((used - costs).cumsum())
 
     @property
-    def of_benches(self) -> float:
-        """The greatest value of benches mined in order, each by each year no further, and no faster, than the limits of mining alone allow."""
-        gain = by_end(self.earned).ravel()
+    def running(self) -> NDArray[np.float64]:
+        """Whether the mine runs in each year: up to that with which it earns most, shape (years,)."""
+        return (np.arange(self.model.years) <= self.earned_by_running.argmax()).astype(float)
+
+    @cached_property
+    def by_end(self) -> NDArray[np.float64]:
+        """The shares of benches by the end of each year that are worth most if they are mined in order, each by each year no further, and no faster,
+        than the limits of mining alone allow, shape (benches, years)."""
+        gain, matrix = by_end(self.earned).ravel(), self.programme.in_order
         unit = float(np.abs(gain).max(initial=0.0)) or 1.0
-        benches, years = self.model.benches, self.model.years
-        matrix, _ = order_rows(benches, years)
-        matrix = vstack([matrix, self.model.paced], format="csr")
-        most = np.zeros(matrix.shape[0])
         bounds = np.column_stack([np.zeros(len(gain)), self.programme.reachable.ravel()])
-        found = linprog(-gain / unit, A_ub=matrix, b_ub=most, bounds=bounds, method="highs-ds")
-        return -float(demand_solved(found, "upper bound").fun) * unit
+        found = linprog(-gain / unit, A_ub=matrix, b_ub=np.zeros(matrix.shape[0]), bounds=bounds, method="highs-ds")
+        return np.asarray(demand_solved(found, "upper bound").x.reshape(-1, self.model.years))
 
-    @property
-    def of_opening(self) -> float:
-        """What the lots that lie on stockpiles at the start earn at most. A lot that is reclaimed frees the capacity of its stockpile from then on."""
+    @cached_property
+    def earned_by_lots(self) -> NDArray[np.float64]:
+        """What the lots earn that lie on stockpiles at the start, by process and year in which they are reclaimed, shape (processes, lots, years). A lot
+        that is reclaimed frees the capacity of its stockpile from then on."""
         model, lots = self.model, self.model.opening
         earned = taken(lots.ore, self.priced(lots.ore.amounts, model.opening_gains * model.discounts))
         for number, it in enumerate(model.stockpiles):
             rent = self.rent(it.name)[::-1].cumsum()[::-1]
             earned = earned + lots.on(number)[:, None] * rent
-        return float(np.maximum(earned.max(axis=(0, 2), initial=0.0), 0.0).sum())
+        return earned
 
     @property
     def value(self) -> float:
         """The bound. To mine nothing earns nothing, unless a minimum forbids it."""
-        found = self.of_limits + self.of_running + self.of_benches + self.of_opening
+        of_benches = float((by_end(self.earned) * self.by_end).sum())
+        of_lots = float(np.maximum(self.earned_by_lots.max(axis=(0, 2), initial=0.0), 0.0).sum())
+        found = self.of_limits + float(self.earned_by_running.max(initial=-np.inf)) + of_benches + of_lots
         return found if self.model.asks_least else max(found, 0.0)
 
 
@@ -170,4 +201,4 @@ def upper_bound(model: FlowModel, blocks: Ore, prices: Prices) -> float:
     prices : dict
         The prices of the limits, such as those of the optimum for parcels.
     """
-    return Lagrangian(replace(model, ore=blocks), prices).value
+    return Lagrangian(FlowProgramme(replace(model, ore=blocks)), prices).value

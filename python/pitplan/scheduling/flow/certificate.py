@@ -34,6 +34,7 @@ from .bound import Lagrangian
 from .flows import Flows
 from .material import FEED
 from .model import FlowModel
+from .programme import FlowProgramme
 
 
 @dataclass(frozen=True)
@@ -321,7 +322,7 @@ class FlowCertificate:
     @cached_property
     def chain(self) -> NDArray[np.int64]:
         """The blocks of ore by bench, there from the poorest to the richest."""
-        worth = Lagrangian(self.model, self.prices).worths.mean(axis=1)
+        worth = Lagrangian(FlowProgramme(self.model), self.prices).worths.mean(axis=1)
         return np.lexsort((worth, self.model.ore.bench))
 
     @property

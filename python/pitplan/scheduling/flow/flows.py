@@ -260,7 +260,8 @@ def keep_maxima(flows: Flows, year: int) -> None:
 def richest_first(model: FlowModel, mined: NDArray[np.float64], prices: Optional[Prices] = None) -> Flows:
     """Returns flows in which each year's ore goes where it gains most per tonne of feed, the richest first, as far as the maxima allow.
 
-    Nothing is stockpiled, and waste goes to the cheapest dump. With prices the gain is less those of the maxima, as the linear programme weighs it.
+    Richer ore that a limit on a grade refused follows when other ore has made room for it. Nothing is stockpiled, and waste goes to the cheapest dump.
+    With prices the gain is less those of the maxima, as the linear programme weighs it.
     """
     flows, feed = none_of(model, mined), model.ore.feed
     process, parcel = model.direct.index
@@ -276,12 +277,17 @@ def richest_first(model: FlowModel, mined: NDArray[np.float64], prices: Optional
         some = np.flatnonzero((gain > 0) & (mined[model.ore.bench[parcel], year] > 0))
         order = some[np.argsort(-gain[some] / feed[parcel[some]], kind="stable")]
         left, there = np.maximum(free[:, year], 0.0), mined[model.ore.bench, year].copy()
-        for pair in order.tolist():
-            share = room(takes[:, pair], left, there[parcel[pair]])
-            if share > SOLVER_SHARE:
-                flows.direct[process[pair], parcel[pair], year] = share
-                there[parcel[pair]] -= share
-                left -= share * takes[:, pair]
+        is_sent = True
+        while is_sent:
+            is_sent = False
+            for pair in order.tolist():
+                share = room(takes[:, pair], left, there[parcel[pair]])
+                if share > SOLVER_SHARE:
+                    flows.direct[process[pair], parcel[pair], year] += share
+                    there[parcel[pair]] -= share
+                    left -= share * takes[:, pair]
+                    # Ore that lowers a grade makes room for richer ore.
+                    is_sent = is_sent or bool((takes[:, pair] < 0).any())
     return flows
 
 

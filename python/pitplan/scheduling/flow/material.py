@@ -215,16 +215,20 @@ class Waste:
         np.subtract.at(found, self.bench, self.ore.T[:, :, None] * sent[:, None, :])
         return np.maximum(found, 0.0)
 
-    def at_prices(self, prices: Prices) -> Floats:
-        """Returns what a tonne of each set costs at least in each year, discounted, with the prices of the limits of dumps, shape (sets, years)."""
-        found, nothing = np.full((self.sets, self.years), np.inf), np.zeros(self.years)
+    def costs_at(self, prices: Prices) -> Floats:
+        """Returns what a tonne of each set costs on each dump in each year, discounted, with the prices of the limits of dumps; infinite if the dump does
+        not accept it, shape (sets, dumps, years)."""
+        found, nothing = np.full((self.sets, len(self.dumps), self.years), np.inf), np.zeros(self.years)
         for number, it in enumerate(self.dumps):
             # A tonne lies there from its year on.
             room = prices.get((f"{DUMPED}{it.name}", MAX), nothing)[::-1].cumsum()[::-1]
             of_year = prices.get((f"{DUMP}{it.name}", MAX), nothing) - prices.get((f"{DUMP}{it.name}", MIN), nothing)
-            cost = it.cost * self.discounts + room + of_year
-            found = np.where(self.accepted[:, number, None], np.minimum(found, cost), found)
+            found[self.accepted[:, number], number] = it.cost * self.discounts + room + of_year
         return found
+
+    def at_prices(self, prices: Prices) -> Floats:
+        """Returns what a tonne of each set costs at least in each year, as `costs_at` does, shape (sets, years)."""
+        return self.costs_at(prices).min(axis=1, initial=np.inf)
 
     def shares(self, tonnes: Floats) -> Floats:
         """Returns the shares of the waste of each set, from tonnes by set, dump and year; without any all of it goes to the cheapest dump."""

@@ -9,7 +9,7 @@ from typing import Optional
 import numpy as np
 from numpy.typing import NDArray
 from scipy.optimize import linprog
-from scipy.sparse import coo_matrix, csr_matrix
+from scipy.sparse import coo_matrix, csr_matrix, vstack
 
 from pitplan.config.material import Dump, Stockpile
 from pitplan.core.tolerances import SUM_ERROR
@@ -395,6 +395,11 @@ class FlowModel:
     def paced(self) -> csr_matrix:
         """The rows of `pace_rows`."""
         return pace_rows(self.benches, self.of_mining, self.years)
+
+    @cached_property
+    def ordered(self) -> csr_matrix:
+        """The rows of `order_rows`, then those of `pace_rows`; each is at most 0."""
+        return vstack([order_rows(self.benches, self.years)[0], self.paced], format="csr")
 
     @cached_property
     def mining_cash(self) -> NDArray[np.float64]:

@@ -131,14 +131,12 @@ class FlowOptimum:
 @dataclass(frozen=True)
 class FlowProgramme:
     """The programme of a model; with `mined`, shape (benches, years), of what is mined already, so that only its flows are chosen. Without `paced` it
-    has no rows that only schedules of whole benches must keep. With `near`, shape (benches, years), ore goes to processes and stockpiles only in the
-    years in which its bench is expected to be mined. With `between`, two arrays of this shape, at least and at most these shares are mined by the end
-    of each year. With `fed_until` processes take nothing after this year, from 1."""
+    has no rows that only schedules of whole benches must keep. With `between`, two arrays of shape (benches, years), at least and at most these shares
+    are mined by the end of each year. With `fed_until` processes take nothing after this year, from 1."""
 
     model: FlowModel
     mined: Optional[NDArray[np.float64]] = None
     paced: bool = True
-    near: Optional[NDArray[np.bool_]] = None
     between: Optional[tuple[NDArray[np.float64], NDArray[np.float64]]] = None
     fed_until: Optional[int] = None
 
@@ -335,13 +333,13 @@ class FlowProgramme:
     def able_to_flow(self) -> NDArray[np.float64]:
         """The share of each bench that can be reached, and 1 for each flow, or 0 if its bench is not mined by then."""
         model, (mined, *_, opened, wasted) = self.model, self.sizes
-        near = self.near if self.mined is None else self.mined > 0
+        is_mined = None if self.mined is None else self.mined > 0
         if self.between is not None:
             least, most = self.between
-            near = most > np.pad(least[:, :-1], ((0, 0), (1, 0)))
-        if near is None:
+            is_mined = most > np.pad(least[:, :-1], ((0, 0), (1, 0)))
+        if is_mined is None:
             return np.concatenate([self.reachable.ravel(), np.ones(sum(self.sizes) - mined)])
-        of_ore = near[model.ore.bench]
+        of_ore = is_mined[model.ore.bench]
         # From the year on in which the first of it may be placed; it is reclaimed later.
         placed = np.maximum.accumulate(of_ore, axis=1)
         later = np.pad(placed[:, :-1], ((0, 0), (1, 0)))
@@ -351,10 +349,13 @@ class FlowProgramme:
         reach = self.reachable.ravel() if self.mined is None else np.zeros(0)
         return np.concatenate([reach, *(part.ravel().astype(float) for part in parts), np.ones(wasted)])
 
+    @cached_property
+    def in_order(self) -> csr_matrix:
+        """The rows of mining alone, each at most 0: of the order of benches, and of their pace unless these are left out."""
+        return self.model.ordered if self.paced else order_rows(self.model.benches, self.years)[0]
+
     def order_rows(self) -> tuple[csr_matrix, NDArray[np.float64]]:
-        matrix, most = order_rows(self.model.benches, self.years)
-        paced = self.model.paced if self.paced else matrix[:0]
-        parts, sides = [matrix, paced], [most, np.zeros(paced.shape[0])]
+        parts, sides = [self.in_order], [np.zeros(self.in_order.shape[0])]
         if self.between is not None:
             least = np.flatnonzero(self.between[0].ravel())
             parts.append(-eye(self.sizes[0], format="csr")[least])

@@ -142,8 +142,8 @@ def whole_shares(cumulative: NDArray[np.float64], slight: float) -> NDArray[np.f
 # them that are mined and all flows are a linear programme, whose optimum is worth no less than the schedule. A share
 # that reaches 0 or 1 in it leaves the bench to the one above or below, with which the next programme goes on.
 
-# This many programmes are solved at most, fewer of large ones. They end when two in turn gain less than this share.
-PROGRAMMES, OF_LARGE, GAINED = 24, 8, 1e-4
+# This many programmes are solved at most. They end when two in turn gain less than this share.
+PROGRAMMES, GAINED = 24, 1e-4
 
 
 def improved_depths(model: FlowModel, mined: NDArray[np.float64], value: float) -> Optional[NDArray[np.float64]]:
@@ -158,7 +158,7 @@ def improved_depths(model: FlowModel, mined: NDArray[np.float64], value: float) 
         The net present value of the schedule.
     """
     found, idle = None, 0
-    for number in range(OF_LARGE if FlowProgramme(model).is_large else PROGRAMMES):
+    for number in range(PROGRAMMES):
         least, most = around(model.benches, mined.cumsum(axis=1), deeper=number % 2 == 0)
         try:
             optimum = FlowProgramme(model, between=(least, most)).solved()

@@ -1,0 +1,266 @@
+"""Lagrange multipliers of a large linear programme by cutting planes in a box, in place of its solution.
+
+The value of the relaxation is a convex function of the prices of limits. What its optimum leaves of each limit is the slope there, so that each
+optimum gives a plane below the function. The next prices are those at which the highest plane is lowest, within a box around the best prices so
+far (Marsten, Hogan and Blankenship, The boxstep method for large-scale optimization, Operations Research 23(3), 1975). The dual values of the
+planes are weights with which the optima add up to flows that nearly keep the limits.
+"""
+
+from __future__ import annotations
+
+from dataclasses import dataclass
+from functools import cached_property
+
+import numpy as np
+from numpy.typing import NDArray
+from scipy.optimize import linprog
+from scipy.sparse import csr_matrix
+
+from pitplan.core.tolerances import SUM_ERROR
+from pitplan.scheduling.highs_process import demand_solved
+from pitplan.scheduling.limits import RUNNING, Prices
+
+from .bound import Lagrangian
+from .model import FlowModel
+from .programme import FlowOptimum, FlowProgramme
+
+# The first half width of the box, as a share of the value, and its changes: after a plane that is lower by half of what was expected, after
+# MISSES planes in turn that are not lower, and when no prices in the box promise more.
+WIDTH, WIDER, NARROWER, MISSES, AGAIN = 2e-3, 2.0, 0.5, 2, 4.0
+EXPECTED = 0.3
+# The greatest number of planes, and of times that the box is made wider at the end.
+MOST_PLANES, MOST_AGAIN = 150, 12
+
+
+@dataclass(frozen=True)
+class RelaxedFlows:
+    """The flows of a relaxation's optimum.
+
+    Attributes
+    ----------
+    relaxation : Lagrangian
+    """
+
+    relaxation: Lagrangian
+
+    @property
+    def model(self) -> FlowModel:
+        return self.relaxation.model
+
+    @cached_property
+    def mined(self) -> NDArray[np.float64]:
+        """Shares of benches, shape (benches, years)."""
+        return np.diff(self.relaxation.by_end, axis=1, prepend=0.0)
+
+    def sent(self, place: int) -> NDArray[np.float64]:
+        """Returns the shares of parcels that go to a place, as `Lagrangian.choices` counts them, shape (parcels, years)."""
+        return np.where(self.relaxation.choices[1] == place, self.mined[self.model.ore.bench], 0.0)
+
+    @cached_property
+    def direct(self) -> NDArray[np.float64]:
+        """Shares of parcels by process, shape (processes, parcels, years)."""
+        return np.array([self.sent(1 + number) for number in range(self.model.ore.processes)])
+
+    @cached_property
+    def stocked(self) -> NDArray[np.float64]:
+        """Shares of parcels by stockpile, shape (stockpiles, parcels, years)."""
+        first, count = 1 + self.model.ore.processes, len(self.model.stockpiles)
+        return np.array([self.sent(first + number) for number in range(count)]).reshape(count, *self.direct.shape[1:])
+
+    @cached_property
+    def reclaimed(self) -> NDArray[np.float64]:
+        """Shares of parcels by stockpile and process, shape (stockpiles, processes, parcels, years)."""
+        found = np.zeros((len(self.stocked), *self.direct.shape))
+        for of_stockpile, stocked, waits in zip(found, self.stocked, self.relaxation.waiting):
+            parcel, year = np.nonzero((stocked > 0) & (waits.until < self.model.years))
+            until = waits.until[parcel, year]
+            np.add.at(of_stockpile, (waits.process[parcel, until], parcel, until), stocked[parcel, year])
+        return found
+
+    @cached_property
+    def opened(self) -> NDArray[np.float64]:
+        """Shares of lots by process, shape (processes, lots, years)."""
+        earned = self.relaxation.earned_by_lots
+        found = np.zeros(earned.shape)
+        for lot in np.flatnonzero(earned.max(axis=(0, 2), initial=0.0) > 0):
+            process, year = np.unravel_index(earned[:, lot].argmax(), earned[:, lot].shape)
+            found[process, lot, year] = 1.0
+        return found
+
+    @cached_property
+    def dumped(self) -> NDArray[np.float64]:
+        """Tonnes of waste by set and dump, shape (sets, dumps, years)."""
+        waste, sent = self.model.waste, self.direct.sum(axis=0) + self.stocked.sum(axis=0)
+        tonnes = waste.by_bench(self.mined, sent).sum(axis=0)
+        costs = waste.costs_at(self.relaxation.prices)
+        goes = np.zeros(costs.shape)
+        if waste.sets:
+            np.put_along_axis(goes, costs.argmin(axis=1)[:, None], 1.0, axis=1)
+        return goes * tonnes[:, None]
+
+    @property
+    def unknowns(self) -> NDArray[np.float64]:
+        """The flows as unknowns of the linear programme, shape (unknowns,)."""
+        model, programme = self.model, self.relaxation.programme
+        reclaimed, stocked = self.reclaimed, self.stocked
+        lying = (stocked - reclaimed.sum(axis=1)).cumsum(axis=2)
+        dumped = self.dumped[model.waste.pairs] / programme.of_pairs[:, None]
+        parts = [self.relaxation.by_end, model.direct.of(self.direct), model.stocked.of(stocked)]
+        parts += [model.stocked.of(lying), model.reclaimed.of(reclaimed), model.opened.of(self.opened), dumped]
+        running = self.relaxation.running if programme.costs[1:].any() else np.zeros(0)
+        return np.concatenate([*(part.ravel() for part in parts), running])
+
+
+@dataclass(frozen=True)
+class Plane:
+    """The relaxation at prices, and the plane below its value that touches it there.
+
+    Attributes
+    ----------
+    prices : array, shape (limits * years,)
+        In the currency per whole limit.
+    value : float
+    slope : array, shape (limits * years,)
+    unknowns : csr matrix, shape (1, unknowns)
+        The optimum of the relaxation as unknowns of the linear programme.
+    """
+
+    prices: NDArray[np.float64]
+    value: float
+    slope: NDArray[np.float64]
+    unknowns: csr_matrix
+
+
+@dataclass(frozen=True)
+class Lowest:
+    """The lowest point of the highest plane in a box.
+
+    Attributes
+    ----------
+    prices : array, shape (limits * years,)
+    value : float
+        No prices in the box give a lower value of the relaxation.
+    weights : array, shape (planes,)
+        The dual values of the planes, which add up to 1.
+    is_inside : bool
+        Whether no side of the box holds the point.
+    """
+
+    prices: NDArray[np.float64]
+    value: float
+    weights: NDArray[np.float64]
+    is_inside: bool
+
+    @staticmethod
+    def of(planes: list[Plane], lower: NDArray[np.float64], upper: NDArray[np.float64], unit: float) -> Lowest:
+        """Returns the lowest point between the lower and the upper prices. Values are in the currency; the programme counts in `unit`."""
+        slopes = np.array([it.slope for it in planes])
+        most = np.array([it.slope @ it.prices - it.value for it in planes]) / unit
+        sides = np.column_stack([np.append(lower, -np.inf), np.append(upper, np.inf)])
+        gain = np.append(np.zeros(len(lower)), 1.0)
+        rows = np.column_stack([slopes, np.full(len(planes), -1.0)])
+        bounds = sides / unit
+        found = demand_solved(linprog(gain, A_ub=rows, b_ub=most, bounds=bounds, method="highs-ds"), "prices of limits")
+        prices, weights = np.clip(found.x[:-1] * unit, lower, upper), np.maximum(-found.ineqlin.marginals, 0.0)
+        near = SUM_ERROR * unit
+        is_at_side = (prices >= upper - near) & (upper > 0) | (prices <= lower + near) & (lower > 0)
+        return Lowest(prices, float(found.fun) * unit, weights / weights.sum(), not is_at_side.any())
+
+
+@dataclass(frozen=True)
+class Multipliers:
+    """The search for the prices of a programme's limits.
+
+    Attributes
+    ----------
+    programme : FlowProgramme
+        Without minimums, so that mining nothing keeps all limits.
+    """
+
+    programme: FlowProgramme
+
+    @property
+    def years(self) -> int:
+        return self.programme.years
+
+    @cached_property
+    def keys(self) -> list[tuple[str, str]]:
+        """The names and sides of all limits, and of those that show whether the mine runs, if years cost anything."""
+        found = [(it.name, it.side) for it in self.programme.limits]
+        return found + [(it.name, RUNNING) for it in self.programme.bounding if self.has_costs]
+
+    @property
+    def has_costs(self) -> bool:
+        """Whether years cost anything."""
+        return bool(self.programme.costs[1:].any())
+
+    @cached_property
+    def scales(self) -> NDArray[np.float64]:
+        """A unit of each limit, shape (limits,): of a grade what the largest parcel adds, of others the greatest limit."""
+        of_limits = [it.scale for it in self.programme.limits]
+        return np.array(of_limits + [it.scale for it in self.programme.bounding if self.has_costs])
+
+    @cached_property
+    def holds(self) -> NDArray[np.bool_]:
+        """Whether there is a limit in each year, shape (limits * years,). Without one its price is 0."""
+        found = [it.holds for it in self.programme.limits] + [
+            it.holds for it in self.programme.bounding if self.has_costs
+        ]
+        return np.array(found, dtype=bool).reshape(len(found) * self.years)
+
+    def priced(self, prices: NDArray[np.float64]) -> Prices:
+        """Returns prices by limit, per unit of its amount."""
+        by_year = np.where(self.holds, prices, 0.0).reshape(-1, self.years) / self.scales[:, None]
+        return dict(zip(self.keys, by_year))
+
+    def start(self, prices: Prices) -> NDArray[np.float64]:
+        """Returns prices by limit as an array; 0 of a limit without one."""
+        nothing = np.zeros(self.years)
+        found = [prices.get(key, nothing) * scale for key, scale in zip(self.keys, self.scales)]
+        return np.array(found).reshape(len(found) * self.years)
+
+    def plane(self, prices: NDArray[np.float64]) -> Plane:
+        relaxation = Lagrangian(self.programme, self.priced(prices))
+        unknowns, size = RelaxedFlows(relaxation).unknowns, sum(self.programme.sizes)
+        flows, running = unknowns[:size], unknowns[size:]
+        left = [it.sign * (it.finite - it.used @ flows) for it in self.programme.limits]
+        left += [it.amount * running - it.used @ flows for it in self.programme.bounding if self.has_costs]
+        slope = np.array(left).reshape(len(left), self.years) / self.scales[:, None]
+        return Plane(prices, relaxation.value, np.where(self.holds, slope.ravel(), 0.0), csr_matrix(unknowns))
+
+    def found(self, start: Prices, share: float) -> FlowOptimum:
+        """Returns nearly the optimum of the linear programme. Its value is a bound on that of the optimum, by about `share` above it.
+
+        Parameters
+        ----------
+        start : dict
+            The first prices of limits; 0 of those without one.
+        share : float
+            The search ends when the planes promise less than this share of the value within the box.
+        """
+        planes = [self.plane(self.start(start))]
+        best, unit = planes[0], abs(planes[0].value) or 1.0
+        width, misses, again = WIDTH * unit, 0, 0
+        while True:
+            lower, upper = np.maximum(best.prices - width, 0.0), np.where(self.holds, best.prices + width, 0.0)
+            lowest = Lowest.of(planes, lower, upper, unit)
+            promised = best.value - lowest.value
+            if promised <= share * abs(best.value):
+                if lowest.is_inside or again == MOST_AGAIN:
+                    break
+                width, again = AGAIN * width, again + 1
+                continue
+            if len(planes) == MOST_PLANES:
+                break
+            plane = self.plane(lowest.prices)
+            planes.append(plane)
+            gained = best.value - plane.value
+            misses = 0 if gained > 0 else misses + 1
+            if gained > 0:
+                best = plane
+            if gained > EXPECTED * promised:
+                width *= WIDER
+            elif misses == MISSES:
+                width, misses = NARROWER * width, 0
+        mean = sum(weight * it.unknowns for weight, it in zip(lowest.weights, planes) if weight > 0)
+        return self.programme.optimum(mean.toarray()[0], best.value, self.priced(best.prices))
