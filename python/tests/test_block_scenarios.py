@@ -30,6 +30,7 @@ from pitplan.scheduling.blocks.filling import best_shares
 from pitplan.studies.scenarios import store, worker
 
 BY_BLOCK = Request(workers=0, by="block")
+DECKS = "[[scenarios.prices]]\ncopper = 8000\n[[scenarios.prices]]\ncopper = 12_000\n"
 # The same with the process by its name.
 MILL = '[[processes]]\nname = "mill"\ncost = 10\nrecovery = { copper = 0.5 }\ncapacity = 100\n'
 IN_MILL = [("recovery = 0.5\n", ""), ("processing_capacity = 100\n", "")]
@@ -119,8 +120,7 @@ def test_ore_above_the_mill_stays_waste_and_is_told(plan_folder):
 
 def test_quantiles_by_hand(plan_folder):
     """Of two sets of prices: at 12,000 a block of grade g yields 6000 g."""
-    sets = "[[scenarios.prices]]\ncopper = 8000\n[[scenarios.prices]]\ncopper = 12_000\n"
-    folder = answered(plan_folder, pillars([1, 0.5, 0], [0.75, 0.5, 0]), TWO_YEARS + sets)
+    folder = answered(plan_folder, pillars([1, 0.5, 0], [0.75, 0.5, 0]), TWO_YEARS + DECKS)
     table = pd.read_csv(folder / "tables/quantiles.csv").set_index("price_copper")
     values = [2600 / 1.1 + 600 / 1.21, 1600 / 1.1 + 600 / 1.21]
     assert table.index.tolist() == [8000, 12000] and table["realisations"].tolist() == [2, 2]
@@ -301,6 +301,45 @@ def test_a_year_costs_in_each_scenario_what_it_costs_in_a_schedule(plan_folder):
     assert years["discounted_cash_flow"].tolist() == pytest.approx(of_year)
 
 
+@pytest.mark.parametrize(
+    "by_year",
+    [
+        "price = 8000\nprices = [6000, 10_000]",
+        "[[periods]]\nprices = { copper = 6000 }\n[[periods]]\nprices = { copper = 10_000 }\n",
+    ],
+)
+def test_prices_differ_by_year_in_each_scenario(plan_folder, by_year):
+    """A block of grade 1 yields 3000 at 6,000 and 5000 at 10,000, of grade 0.5 half as much. Known before, the model with one pillar waits for the
+    second year, and that with two has its poor one in the first. On the mean the poor one gains 250 there, less than it costs.
+    """
+    change = ("price = 8000", by_year) if by_year.startswith("price") else (COLUMNS, COLUMNS + by_year)
+    folder = solved_in_turn(prepared(plan_folder(pillars([1, 0.5, 0], [0.6, 0, 0]), TWO_YEARS, change)))
+    rich, poor = (1500 - 1000 - 400) / 1.1 + (5000 - 1000 - 400) / 1.21, (3000 - 1000 - 400) / 1.21
+    assert table_of(folder)["npv"].tolist() == pytest.approx([rich, poor]) == table_of(folder)["upper_bound"].tolist()
+    common = [3600 / 1.21, poor]
+    assert table_of(folder)["common_npv"].tolist() == pytest.approx(common)
+    assert record_of(folder)["npv_as_planned"] == pytest.approx(sum(common) / 2, abs=1e-3)
+    assert years_of(folder, "sim_1")["cash_flow"].tolist() == pytest.approx([0, 3600])
+
+
+def test_a_deck_may_price_a_metal_beside_one_with_prices_by_year(plan_folder):
+    """Gold of 1 g/t yields 100 x 30 less processing at the first deck, and twice that at the other; copper yields 8,000 and then nothing."""
+    gold = '[[metals]]\nname = "gold"\ncolumn = "au"\nunit = "gram_per_tonne"\nprice = 30\nrecovery = 1.0\n'
+    decks = "[[scenarios.prices]]\ngold = 30\n[[scenarios.prices]]\ngold = 60\n"
+    table = pillars([1, 0, 0]).assign(au=[0, 1.0, 0, 0, 0, 0])
+    changes = [
+        ("price = 8000", "price = 8000\nprices = [8000, 10_000]"),
+        ("[slopes]\n", gold + "[slopes]\n"),
+        (COLUMNS, COLUMNS + decks),
+    ]
+    folder = solved_in_turn(prepared(plan_folder(table, TWO_YEARS, *changes)))
+    found = pd.read_csv(folder / "tables/schedules.csv")
+    # Copper earns 3000 in the first year and 4000 in the second, gold 2000 or 5000.
+    assert found["npv"].tolist() == pytest.approx(
+        [max((2600 / 1.1 + 1600 / 1.21), (1600 / 1.1 + 3600 / 1.21)), 4600 / 1.1 + 3600 / 1.21]
+    )
+
+
 def test_a_head_grade_holds_in_each_scenario(plan_folder):
     """At most 0.75 % copper in the feed: of blocks of 1 and 0.5 that are mined in one year the whole feed is just at it. Where the second is
     waste the first goes nowhere, and the year costs 800."""
@@ -440,13 +479,14 @@ def test_what_is_refused(plan_folder, words, said):
     ("changes", "said"),
     [
         (
-            [("price = 8000", "price = 8000\nprices = [8000, 9000]")],
-            "[[metals]] prices: a scenario has one price for all years",
+            [("price = 8000", "price = 8000\nprices = [8000, 9000]"), (COLUMNS, COLUMNS + DECKS)],
+            "[[scenarios.prices]] copper: found a price of copper, which [[metals]] copper prices sets by year too, expected one of them "
+            "for scenarios --by block: remove copper from one of the two",
         ),
         ([(COLUMNS, "")], "[scenarios] is missing: it names the realisations"),
         (
-            [(COLUMNS, COLUMNS + "[[periods]]\nprices = { copper = 9000 }\n")],
-            "[[periods]] prices: a scenario has one price for all years: remove it",
+            [(COLUMNS, COLUMNS + DECKS + "[[periods]]\nprices = { copper = 9000 }\n")],
+            "which [[periods]] prices sets by year too",
         ),
         (
             [(COLUMNS, COLUMNS + "[[periods]]\nminimum = { feed = 10 }\n")],

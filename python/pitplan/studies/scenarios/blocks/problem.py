@@ -8,6 +8,7 @@ value there, and takes a tenth of its tonnes from the mill; by its mean grade it
 
 from __future__ import annotations
 
+from collections.abc import Iterator
 from dataclasses import dataclass, replace
 from functools import reduce
 from pathlib import Path
@@ -39,6 +40,7 @@ from pitplan.scheduling.limits import grade_limits, limits_of, periods_of
 from pitplan.solver.choice import PROGRAM
 from pitplan.studies.scenarios import prepare, store
 from pitplan.studies.scenarios.prepare import Laid
+from pitplan.studies.scenarios.realisations import scenarios_of
 from pitplan.studies.scenarios.store import Scenario, Shared
 from pitplan.studies.scenarios.worker import plan_of
 
@@ -122,12 +124,23 @@ def demand_of_scenarios(project: Project) -> None:
         ),
         "[[periods]] minimum: a common schedule cannot meet it in each scenario": calendar.has(lambda it: it.minimum),
         "[[dumps]]: the mean of scenarios has no codes by which dumps accept blocks": bool(project.dumps),
-        "[[metals]] prices: a scenario has one price for all years": any(metal.prices for metal in project.metals),
-        "[[periods]] prices: a scenario has one price for all years": calendar.has(lambda it: it.prices),
     }
     for why, is_asked in asked.items():
         if is_asked:
             raise PlanError(f"{project.path}: {why}: remove it for scenarios --by block")
+    for key, name in prices_set_twice(project):
+        why = f"found a price of {name}, which {key} sets by year too, expected one of them for scenarios --by block"
+        raise PlanError(f"{project.path}: [[scenarios.prices]] {name}: {why}: remove {name} from one of the two")
+
+
+def prices_set_twice(project: Project) -> Iterator[tuple[str, str]]:
+    """Yields the keys with yearly prices of metals whose price a deck sets, and these metals."""
+    for metal in project.metals:
+        if any(metal.name in deck for deck in scenarios_of(project).prices):
+            if metal.prices:
+                yield f"[[metals]] {metal.name} prices", metal.name
+            if project.shells.calendar.has(lambda it: metal.name in it.prices):
+                yield "[[periods]] prices", metal.name
 
 
 ONE = "common schedule"
