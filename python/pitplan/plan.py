@@ -268,7 +268,10 @@ class Plan:
         )
 
     def called(self, cell: int) -> str:
-        """The name of the block of a cell in the planner's table."""
+        """The name of the block of a cell in the planner's table; in a scenario, which has grades alone, its centroid."""
+        if self.project.table.x not in self.table:
+            x, y, z = (f"{float(axis):.10g}" for axis in self.grid.centres(np.array(cell)))
+            return f"the block at {x}, {y}, {z}"
         return reader.called(self.table, self.project, int((self.grid.rows == cell).argmax()), self.source)
 
     @cached_property

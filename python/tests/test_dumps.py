@@ -27,7 +27,6 @@ from pitplan.scheduling.flow import scheduler
 from pitplan.scheduling.flow.bound import Lagrangian, upper_bound
 from pitplan.scheduling.flow.programme import FlowProgramme
 from pitplan.scheduling.limits import of_places
-from pitplan.studies.scenarios.blocks.problem import demand_apt
 
 
 @pytest.fixture
@@ -439,11 +438,6 @@ def test_rock_of_shells_that_no_dump_accepts_is_refused(plan_folder):
     path = plan_folder(of_rocks(), PUSHBACKS + NEAR + 'accepts = { rock_type = "FR" }\n')
     with pytest.raises(PlanError, match=r"none of near accepts 400 t of rock type OX"):
         pitplan.write_shells(path, writing=PLAIN)
-
-
-def test_scenarios_by_block_refuse_dumps(plan_folder):
-    with pytest.raises(PlanError, match=r"\[\[dumps\]\]: the mean of scenarios has no codes"):
-        demand_apt(load(plan_folder(pillars(), PUSHBACKS + BOTH)))
 
 
 def test_a_project_keeps_its_dumps(plan_folder):

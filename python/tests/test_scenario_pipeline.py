@@ -384,7 +384,7 @@ def test_schedules_by_block_refuse_minimums_before_anything_is_read(plan_folder)
 def test_schedules_by_block_of_reblocked_and_mined_models_are_right(plan_folder, tmp_path, change):
     """What a block holds and earns in each scenario is that of the plan of its own grades, and all that is written is verified."""
     # It imports the library.
-    from pitplan.studies.scenarios.blocks.problem import amounts_at_best
+    from pitplan.studies.scenarios.blocks.problem import SentBlocks
 
     write_surfaces(tmp_path)
     table, (file, reblocked) = mine(4), change
@@ -395,8 +395,8 @@ def test_schedules_by_block_of_reblocked_and_mined_models_are_right(plan_folder,
     shared = prepare.prepare(project, tmp_path / "by_block", silent, "block")
     cells = shared.grid.rows
     for scenario in shared.scenarios:
-        found = amounts_at_best(worker.plan_of(shared, scenario), cells)
-        own = amounts_at_best(alone(path, scenario, table, grades_of(table)), cells)
+        found = SentBlocks.of_plan(worker.plan_of(shared, scenario), cells).own
+        own = SentBlocks.of_plan(alone(path, scenario, table, grades_of(table)), cells).own
         assert (found.pays == own.pays).all() and found.pays.any()
         assert all((found.flows[name] == own.flows[name]).all() for name in (*found.flows, *own.flows))
     for job in shared.jobs:

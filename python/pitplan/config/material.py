@@ -2,7 +2,7 @@
 
 from __future__ import annotations
 
-from collections.abc import Iterable, Iterator
+from collections.abc import Collection, Iterable, Iterator
 from dataclasses import dataclass, replace
 from pathlib import Path
 from typing import Any, Optional
@@ -192,6 +192,10 @@ class Accepts(Coded):
     @property
     def grades(self) -> tuple[NamedLimit, ...]:
         return tuple(self.by_grade.values())
+
+    def without(self, columns: Collection[str]) -> Accepts:
+        """Returns the same without ranges of the grades in these columns."""
+        return replace(self, by_grade={name: it for name, it in self.by_grade.items() if name not in columns})
 
 
 @dataclass(frozen=True)

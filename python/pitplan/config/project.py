@@ -124,7 +124,7 @@ class Project:
         return tuple(self.of_process(process) for process in self.processes) or (self,)
 
     def without_limits_on(self, columns: Collection[str]) -> Project:
-        """Returns the project without the limits on sums and head grades of some columns of the table."""
+        """Returns the project without the limits on sums and head grades of some columns of the table, and without what dumps accept by these."""
 
         def without(feed: tuple[FeedGrade, ...]) -> tuple[FeedGrade, ...]:
             return tuple(it for it in feed if it.code is not None or it.column not in columns)
@@ -139,6 +139,7 @@ class Project:
             processes=tuple(replace(it, feed=without(it.feed)) for it in self.processes),
             schedule=rules,
             shells=replace(self.shells, calendar=replace(calendar, periods=periods)),
+            dumps=tuple(replace(it, accepts=it.accepts.without(columns)) for it in self.dumps),
         )
 
     @property

@@ -689,6 +689,9 @@ QUANTILES = TableDeclaration(
     (HEADS[-1], RF, REALISATIONS, *SPREAD),
     digits=10,
 )
+TAKEN_BY_DUMP = Column("dump_DUMP", TONNES, "waste in a dump", when="with `[[dumps]]`")
+EXCESS = Column("excess_waste_tonnes", TONNES, "waste above the limits of dumps", when="with `[[dumps]]`")
+UNPROCESSED = Column("unprocessed_tonnes", TONNES, "ore that pays but exceeds the processing capacity")
 SCHEDULES = TableDeclaration(
     "schedules.csv",
     "a row per scenario: its own schedule, and the common schedule in it",
@@ -700,8 +703,10 @@ SCHEDULES = TableDeclaration(
         Column("seconds", Unit("s"), "until it was solved"),
         Column("common_npv", MONEY, "NPV of the common schedule"),
         Column("common_feed_tonnes", TONNES, "its mill feed"),
-        Column("common_unprocessed_tonnes", TONNES, "ore that pays but exceeds the processing capacity"),
+        replace(UNPROCESSED, name="common_unprocessed_tonnes"),
         Column("common_years_short", COUNT, "years with less feed than planned"),
+        replace(EXCESS, name="common_excess_waste_tonnes"),
+        TAKEN_BY_DUMP,
         DISCOUNTS,
     ),
     digits=12,
@@ -710,12 +715,9 @@ COMMON_YEARS = TableDeclaration(
     "common_schedule_years.csv",
     "a row per scenario and year of the common schedule",
     (
-        *HEADS,
-        YEAR,
-        MINED,
-        FEED,
-        Column("unprocessed_tonnes", TONNES, "ore that pays but exceeds the processing capacity"),
+        *(*HEADS, YEAR, MINED, FEED, UNPROCESSED),
         Column("planned_feed_tonnes", TONNES, "mill feed as planned from the mean block values"),
+        *(TAKEN_BY_DUMP, EXCESS),
         *FLOWS,
         DISCOUNTS,
     ),
@@ -739,6 +741,7 @@ COMMON = TableDeclaration(
     (
         replace(YEAR, holds="in which it is mined; 0: not"),
         Column("share_PROCESS", SHARE, "share that is planned for a process; `share_mill` without named processes"),
+        Column("share_DUMP", SHARE, "share of what is no ore that is planned for a dump", when="with `[[dumps]]`"),
     ),
     digits=0,
 )

@@ -21,16 +21,22 @@ from planaudit.errors import AuditError
 from planaudit.ground import slopes
 from planaudit.inputs import matching
 from planaudit.inputs.answer import Answer
+from planaudit.inputs.codes import refused
 from planaudit.inputs.kept_arrays import read_arrays
+from planaudit.inputs.project import Project
 from planaudit.inputs.tables import TABLES, YEAR
+from planaudit.money.dump_costs import as_waste
 from planaudit.money.weighing import at_price
 from planaudit.rules import TOLD, Rule, rule, unlike
 from planaudit.schedules import block_schedule
 from planaudit.schedules.best_ore import at_best, most_earned
 from planaudit.schedules.block_grades import graded
+from planaudit.schedules.discounts import discount, present_costs
+from planaudit.schedules.dumps import DUMP, DUMPED, Sides, limits_of as dumps_limits
 from planaudit.schedules.grade_limits import grade_limits, most_of
-from planaudit.schedules.limits import limits_of, shares_of
+from planaudit.schedules.limits import limits_of, placed_of, shares_of
 from planaudit.schedules.pushback_schedule import CENT
+from planaudit.studies.placed_blocks import PlacedBlocks
 from planaudit.studies.realisations import ONE, Scenario, read
 from planaudit.studies.scenarios import Verification, named
 from planaudit.studies.spreads import at_prices, spread
@@ -38,7 +44,9 @@ from planaudit.studies.spreads import at_prices, spread
 RECORD, TABLE, YEARS, QUANTILES = "common_schedule.json", "schedules.csv", "common_schedule_years.csv", "quantiles.csv"
 VALUES = ("npv", "upper_bound", "common_npv")
 ROCK, ORE, LEFT, PLANNED = "total_tonnes", "feed_tonnes", "unprocessed_tonnes", "planned_feed_tonnes"
-SLIGHT = 1e-6
+EXCESS = "excess_waste_tonnes"
+# A tolerance of shares; and what a block must earn more in a process than in the cheapest dump, half of the last decimal of money.
+SLIGHT, EVEN = 1e-6, 0.5e-6
 
 
 def is_by_block(folder: Path) -> bool:
@@ -62,7 +70,8 @@ Held = list[pd.DataFrame]
 
 @dataclass(frozen=True)
 class WrittenSchedule:
-    """A schedule as written: year of each row, from 1 (0: never), the share of each that goes to each process, and amounts by name."""
+    """A schedule as written: year of each row, from 1 (0: never), amounts by name, and the share of each that goes to each process; with dumps also to
+    each dump, and of the common schedule by each order."""
 
     year: np.ndarray
     share: np.ndarray
@@ -80,9 +89,26 @@ class WrittenSchedule:
     def flows(self, held: Held, rows: np.ndarray) -> pd.DataFrame:
         """Returns what each of these rows adds to amounts, by its shares."""
         found = held[0].copy()
-        for number, in_process in enumerate(held[1:]):
-            found += (in_process - held[0]).mul(self.share[rows, number], axis=0)
+        for number, sent in enumerate(held[len(held) - self.share.shape[1] :]):
+            found += (sent - held[0]).mul(self.share[rows, number], axis=0)
         return found
+
+
+@dataclass(frozen=True)
+class Way:
+    """Where blocks are sent: to a process by its number, if they pay there at the base price, otherwise to a dump by its number, if that accepts them,
+    otherwise to the cheapest one that does. None: to no process, or to the cheapest dump."""
+
+    process: Optional[int] = None
+    dump: Optional[int] = None
+
+
+def ways_of(project: Project, is_common: bool) -> list[Way]:
+    """Returns where schedules of a project send blocks: first waste or dumps, then processes. In the common schedule each process goes with each dump."""
+    processes = range(len(matching.shares_of(project)))
+    places: list[Optional[int]] = [*range(len(project.dumps))] or [None]
+    others = places if is_common else [None]
+    return [*(Way(dump=it) for it in places), *(Way(process, it) for process in processes for it in others)]
 
 
 @dataclass(frozen=True)
@@ -102,16 +128,42 @@ class PricedBlocks:
         part = replace(part, said=whole.said.iloc[rows].reset_index(drop=True))
         return PricedBlocks(rows, at_price(part))
 
-    def held(self, year: np.ndarray) -> Held:
-        """Returns what blocks that are mined in these years add to amounts, as waste and in each process where they pay at the base price."""
-        answer, names = self.answer, matching.shares_of(self.answer.project)
+    @cached_property
+    def pays(self) -> np.ndarray:
+        """Whether blocks pay in each process at the base price, with the cost of the cheapest dump that they save: shape (rows, processes)."""
+        said, dumped = self.answer.said, as_waste(self.answer)
+        return np.stack(
+            [
+                ((said[revenue] > said[cost] - dumped + EVEN * (dumped > 0)) & (said[revenue] > 0)).to_numpy()
+                for revenue, cost in self.answer.amounts_of_ways
+            ],
+            axis=1,
+        )
+
+    @cached_property
+    def accepts(self) -> np.ndarray:
+        """Whether each dump accepts blocks, shape (rows, dumps)."""
+        project = self.answer.project
+        found = [~refused(self.answer.rows, project, it["accepts"]) for it in project.dumps]
+        return np.array(found, dtype=bool).reshape(len(found), len(self.rows)).T
+
+    def held(self, year: np.ndarray, is_common: bool) -> Held:
+        """Returns what blocks that are mined in these years add to amounts by each way, where they pay at the base price and are accepted."""
+        answer, project = self.answer, self.answer.project
         said, found = answer.said.assign(**{YEAR: year}), []
-        pays = [(said[revenue] > said[cost]).to_numpy(float) for revenue, cost in answer.amounts_of_ways]
-        for process in range(-1, len(names)):
-            shares = {name: pays[number] * (number == process) for number, name in enumerate(names)}
+        cost = np.where(self.accepts, [it["cost"] for it in project.dumps], np.inf)
+        for way in ways_of(project, is_common):
+            milled = np.zeros(len(said)) if way.process is None else self.pays[:, way.process].astype(float)
+            shares = {name: milled * (number == way.process) for number, name in enumerate(matching.shares_of(project))}
+            if project.dumps:
+                best = cost.argmin(axis=1)
+                to = best if way.dump is None else np.where(self.accepts[:, way.dump], way.dump, best)
+                names = matching.dump_shares_of(project)
+                shares |= {name: (1.0 - milled) * (to == number) for number, name in enumerate(names)}
             mined = answer.of_same_blocks(said.assign(**shares))
             excess = {name: it for grade in graded(mined, shares_of(mined)) for name, it in grade.excess()}
-            found.append(block_schedule.flows_of(mined).assign(**excess))
+            placed = {f"{DUMP}{name}": share * answer.tonnes for name, share in placed_of(mined)}
+            found.append(block_schedule.flows_of(mined).assign(**excess, **placed))
         return found
 
 
@@ -166,6 +218,8 @@ class Schedules:
         ]
         wrong = (kept.year < 0) | (kept.year > self.whole.folder.record["years"])
         wrong |= (kept.share < -SLIGHT).any(axis=1) | (kept.share.sum(axis=1) > (kept.year > 0) + SLIGHT)
+        if answer.project.dumps:
+            wrong |= kept.share.sum(axis=1) < (kept.year > 0) - SLIGHT
         if answer.project.constraints is not None:
             must, never = constraints.demanded(answer, answer.project.constraints)
             wrong |= (must & (kept.year == 0)) | (never & (kept.year > 0))
@@ -177,30 +231,57 @@ class Schedules:
     def values(self) -> list[Rule]:
         """Verifies amounts and NPV of every schedule, by its scenario, and the tables with them."""
         folder, one, mined, own, rows = self.whole.folder, self.one, [], list[str](), dict[int, Row]()
-        mean = pd.DataFrame()
-        of_one = np.flatnonzero(one.year > 0)
+        mean, of_one, unlike = pd.DataFrame(), np.flatnonzero(one.year > 0), list[str]()
+        accepted = np.zeros((len(of_one), len(self.ground.project.dumps)), dtype=bool)
         for scenario in folder.scenarios:
             kept = WrittenSchedule.of(scenario.file) if scenario.file.is_file() else None
             whole = self.whole.in_scenario(scenario)
-            held = PricedBlocks.of(whole, of_one).held(one.year[of_one])
-            flows = one.flows(held, of_one) / len(folder.scenarios)
+            priced, years = PricedBlocks.of(whole, of_one), one.year[of_one]
+            flows = one.flows(priced.held(years, is_common=True), of_one) / len(folder.scenarios)
             mean = flows if mean.empty else mean + flows
-            mined.append(self.mined(held, one.year[of_one]))
+            accepted |= priced.accepts
+            held = priced.held(years, is_common=False)
+            if self.ground.project.dumps:
+                mined.append(self.as_written(scenario, held, years))
+                unlike += self.unlike_placed(scenario, held, years)
+            else:
+                mined.append(self.mined(held, years))
             if kept is not None:
                 rows[scenario.number] = kept.row
                 of_own = np.flatnonzero(kept.year > 0)
-                priced = PricedBlocks.of(whole, of_own).held(kept.year[of_own])
-                own += self.differences(scenario.label, kept, kept.flows(priced, of_own))
+                priced = PricedBlocks.of(whole, of_own)
+                flows = kept.flows(priced.held(kept.year[of_own], is_common=False), of_own)
+                own += self.differences(scenario.label, kept, flows)
+                own += self.refused(scenario.label, of_own, kept.share[of_own], priced.accepts)
         own += self.differences("the common schedule, as planned", one, mean)
+        own += self.refused("the common schedule", of_one, self.of_places(one.share)[of_one], accepted)
         planned = np.bincount(one.year[of_one], mean[ORE], minlength=1)[1:]
         tables = Tables(self, mined, planned, rows)
         words = f"{len(folder.answered):,} schedules and the common one, at mean block values, keep limits, "
         in_each = "in each scenario its years process the best feed, and its NPV is within the upper bound"
         return [
             rule("block value", f"{words}add up, and are within their upper bounds", own),
-            rule("one schedule", in_each, tables.of_one()),
+            rule("one schedule", in_each, [*unlike, *tables.of_one()]),
             rule("tables", "every row follows from the schedules", tables.of_all()),
         ]
+
+    def refused(self, label: str, rows: np.ndarray, share: np.ndarray, accepts: np.ndarray) -> Iterator[str]:
+        """Yields blocks with a share in a dump that does not accept them; the first columns of shares are those of dumps."""
+        for number, dump in enumerate(self.ground.project.dumps):
+            wrong = (share[:, number] > SLIGHT) & ~accepts[:, number] & (self.ground.tonnes[rows] > 0)
+            yield from (f"{label}: {self.ground.called(row)}: {dump['name']} does not accept it" for row in rows[wrong])
+
+    def of_places(self, share: np.ndarray) -> np.ndarray:
+        """Returns by the shares of orders what is planned for each dump of what is no ore, and then for each process."""
+        project = self.ground.project
+        count, ways = len(project.dumps), ways_of(project, is_common=True)
+        found = np.zeros((len(share), count + len(matching.shares_of(project))))
+        for way, of_way in zip(ways[len(ways) - share.shape[1] :], share.T):
+            if way.dump is not None:
+                found[:, way.dump] += of_way
+            if way.process is not None:
+                found[:, count + way.process] += of_way
+        return found
 
     def differences(self, label: str, kept: WrittenSchedule, flows: pd.DataFrame) -> Iterator[str]:
         """Yields differences of a schedule: limits, upper bound, amounts and NPV. `flows` has the amounts of the blocks that it mines."""
@@ -212,7 +293,7 @@ class Schedules:
         tonnes = self.ground.tonnes[is_mined]
         expected = {"npv": value, "years": self.ground.project.calendar.end(last), "blocks": int((tonnes > 0).sum())}
         expected |= {"tonnes": tonnes.sum(), "optimality_gap": (bound - value) / abs(bound) if bound else 0.0}
-        expected |= {name: sums[name].sum() for name in sums if name.startswith((ORE, "recovered_"))}
+        expected |= {name: sums[name].sum() for name in sums if name.startswith((ORE, "recovered_", DUMP))}
 
         def slack(name: str, amount: float) -> float:
             return (SLIGHT if name in ("optimality_gap", "years") else CENT) + 1e-9 * abs(amount)
@@ -228,6 +309,58 @@ class Schedules:
             amount, allowed = sums[name][year], most[min(int(year), len(most)) - 1]
             if amount > allowed + 1e-8 * (allowed or size[name][year]) + CENT:
                 yield f"year {year}: {name} {amount:.10g} above {allowed:.10g}"
+        for name, (_, most) in self.places.items():
+            of_years = sums[name.replace(DUMPED, DUMP, 1)]
+            for year, amount in (of_years.cumsum() if name.startswith(DUMPED) else of_years).items():
+                if amount > most[int(year) - 1] * (1 + 1e-8) + CENT:
+                    yield f"year {year}: {name} {amount:.10g} above {most[int(year) - 1]:.10g}"
+
+    @cached_property
+    def places(self) -> dict[str, Sides]:
+        """Minimum and maximum of dumps in each period."""
+        return dumps_limits(self.ground.project, self.whole.folder.record["years"])
+
+    @cached_property
+    def years(self) -> pd.DataFrame:
+        """The years of the common schedule in each scenario, as written."""
+        path, codes = self.whole.folder.tables / TABLES / YEARS, {"realisation": str}
+        return pd.read_csv(path, dtype=codes, keep_default_na=False, na_values=[""])
+
+    def as_written(self, scenario: Scenario, held: Held, years: np.ndarray) -> pd.DataFrame:
+        """Returns the rows of `mined` with the written feed and cash flow: with dumps these follow from all years together."""
+        last, ore = int(years.max(initial=0)), np.max([it[ORE] for it in held], axis=0)
+        said = self.years[self.years["scenario"] == scenario.number].set_index("year").reindex(range(1, last + 1))
+        sums = {ROCK: np.bincount(years, held[0][ROCK], minlength=last + 1)[1:], ORE: said[ORE]}
+        total = np.bincount(years, ore, minlength=last + 1)[1:]
+        frame = pd.DataFrame(sums | {LEFT: total - said[ORE], "total": total, "cash_flow": 0.0}, index=said.index)
+        costs = block_schedule.with_costs(self.ground, frame)["cash_flow"]
+        found = block_schedule.with_costs(self.ground, frame.assign(cash_flow=said["cash_flow"] - costs))
+        return found[[*frame.columns, "discounted_cash_flow"]]
+
+    def unlike_placed(self, scenario: Scenario, held: Held, years: np.ndarray) -> Iterator[str]:
+        """Yields differences of the years of the common schedule in a scenario from the most that its blocks earn with the least excess of dumps."""
+        last = int(years.max(initial=0))
+        said = self.years[self.years["scenario"] == scenario.number].set_index("year").reindex(range(1, last + 1))
+        names = [f"{DUMP}{it['name']}" for it in self.ground.project.dumps]
+        excess, none = np.zeros(last), np.full(last, np.inf)
+        for name in names:
+            placed = said[name].to_numpy(dtype=float)
+            of_years, in_all = (self.places.get(it, (none, none))[1] for it in (name, name.replace(DUMP, DUMPED, 1)))
+            over = np.maximum(placed.cumsum() - in_all[:last], 0.0)
+            excess += np.maximum(placed - of_years[:last], 0.0) + np.diff(over, prepend=0.0)
+        written = said[EXCESS].to_numpy(dtype=float)
+        for year in np.flatnonzero(~(np.abs(written - excess) <= CENT + 1e-7 * said[names].sum(axis=1).to_numpy())):
+            yield f"{scenario.label}, year {year + 1}: {EXCESS} {written[year]:.12g} for {excess[year]:.12g}"
+        discounts = np.array([discount(self.ground, year) for year in range(1, last + 1)])
+        costs = np.array([present_costs(self.ground, year) for year in range(1, last + 1)])
+        blocks = PlacedBlocks(years, held, discounts, self.limits, self.places)
+        value, least = float((said["discounted_cash_flow"] + costs).sum()), blocks.least_excess
+        if not abs(written.sum() - least) <= CENT * (1 + last) + 1e-6 * least:
+            yield f"{scenario.label}: {EXCESS} {written.sum():.12g} for {least:.12g}"
+        amounts = {name: said[name].to_numpy(dtype=float) for name in (*names, ORE)}
+        for due in (blocks.earned(least), blocks.earned_as_written(amounts, least)):
+            if not abs(value - due) <= CENT * (1 + last) + 1e-7 * np.abs(said["discounted_cash_flow"]).sum():
+                yield f"{scenario.label}: the common schedule earns {value:.12g} for {due:.12g}"
 
     def mined(self, held: Held, years: np.ndarray) -> pd.DataFrame:
         """Returns one row per year of the common schedule in a scenario; feed is nan if the limits do not decide it alone."""
@@ -288,9 +421,9 @@ class Tables:
         """The rows of scenarios with a result."""
         return self.rows[self.rows["scenario"].isin([it.number for it in self.schedules.whole.folder.answered])]
 
-    @cached_property
+    @property
     def years(self) -> pd.DataFrame:
-        return self.read(YEARS)
+        return self.schedules.years
 
     def of_one(self) -> list[str]:
         """Returns differences of the years of the common schedule in a scenario, and an NPV above the scenario's bound."""
@@ -302,8 +435,8 @@ class Tables:
                 continue
             found += [f"{scenario.label}, {difference}" for difference in self.unlike_years(said, mined)]
             bound = self.kept[scenario.number]["upper_bound"] if scenario.number in self.kept else math.inf
-            value = mined["discounted_cash_flow"].sum()
-            if value > bound + CENT + 1e-7 * abs(bound):
+            value, is_over = mined["discounted_cash_flow"].sum(), EXCESS in said and said[EXCESS].any()
+            if not is_over and value > bound + CENT + 1e-7 * abs(bound):
                 found.append(
                     f"{scenario.label}: the common schedule has an NPV of {value:.12g}, above the bound {bound:.12g}"
                 )
@@ -358,6 +491,8 @@ class Tables:
             "common_feed_tonnes": years[ORE].sum(),
             "common_unprocessed_tonnes": years[LEFT].sum(),
         }
+        if EXCESS in years:
+            expected[f"common_{EXCESS}"] = years[EXCESS].sum()
         expected["common_years_short"] = int((years[ORE] < years[PLANNED] * (1 - 1e-9)).sum())
         own = self.kept.get(scenario.number, {})
         expected |= own or dict.fromkeys(("npv", "upper_bound", "optimality_gap"), math.nan)
@@ -372,11 +507,12 @@ class Tables:
     def unlike_blocks(self) -> list[str]:
         """Returns differences of years and shares of blocks from the common schedule."""
         written, one, ground = self.schedules.whole.folder.written, self.schedules.one, self.schedules.ground
-        shares = written[matching.shares_of(ground.project)].to_numpy()
-        off = (written["year"].to_numpy() != one.year) | ~(np.abs(shares - one.share) <= SLIGHT).all(axis=1)
+        names = [*matching.dump_shares_of(ground.project), *matching.shares_of(ground.project)]
+        shares, due = written[names].to_numpy(), self.schedules.of_places(one.share)
+        off = (written["year"].to_numpy() != one.year) | ~(np.abs(shares - due) <= SLIGHT).all(axis=1)
         rows = np.flatnonzero(off)[:TOLD]
         return [
-            f"{ONE}: {ground.called(row)}: year {written['year'][row]} for {one.year[row]}, or its share of a process"
+            f"{ONE}: {ground.called(row)}: year {written['year'][row]} for {one.year[row]}, or its share of a destination"
             for row in rows
         ]
 
@@ -414,6 +550,8 @@ class Tables:
             "ramp_up": list(rules["ramp_up"]) if rules else [1.0],
             **({"feed": grades} if grades else {}),
         }
+        if project.dumps:
+            expected["dumps"] = {it["name"]: round(one[f"{DUMP}{it['name']}"], 3) for it in project.dumps}
         yield from (
             f"{RECORD}: {name} {written[name]} for {value}"
             for name, value in expected.items()

@@ -1,7 +1,7 @@
 """The optimum of the schedule of a random mine, by an integer programme over its table."""
 
 from dataclasses import dataclass, replace
-from typing import Optional
+from typing import Any, Optional
 
 import numpy as np
 import pandas as pd
@@ -169,10 +169,14 @@ class Statement:
         self.discounts = (1 + DISCOUNT) ** -mine.lengths.cumsum()
         self.dumps = mine.dumps or {"waste": Dump(0.0)}
         self.mined = self.programme.unknowns(len(units.before), YEARS, whole=units.whole)
-        names = (*self.dumps, *PROCESSES, *mine.piles)
-        self.goes = {name: self.programme.unknowns(len(mine.table), YEARS) for name in names}
+        self.goes = {name: self.programme.unknowns(len(mine.table), YEARS) for name in self.names}
         self.runs = self.programme.unknowns(YEARS, whole=True)
         self.fed: dict[str, list[Fed]] = {name: [] for name in PROCESSES}
+
+    @property
+    def names(self) -> tuple[Any, ...]:
+        """Where blocks may be sent."""
+        return (*self.dumps, *PROCESSES, *self.mine.piles)
 
     def optimum(self) -> Optional[float]:
         self.mining()
@@ -204,8 +208,12 @@ class Statement:
         earned = np.outer(metal, prices) + np.outer(gold, gold_prices) - material.feed[:, None] * costs
         earned -= np.outer(penalty, [at(terms.selling_factors, year) for year in years])
         self.programme.earn(places, earned * self.discounts)
-        self.programme.limit(places, self.may_go(process, material)[:, None])
+        self.open(process, places, material)
         self.fed[process].append(Fed(places, material, metal))
+
+    def open(self, process: str, places: np.ndarray, material: Material) -> None:
+        """Only ore that a process may take goes there."""
+        self.programme.limit(places, self.may_go(process, material)[:, None])
 
     def penalty(self, process: str, material: Material) -> np.ndarray:
         """What the ore pays to the smelter beyond the charges for its concentrate; the same if it comes from a stockpile."""
@@ -216,11 +224,15 @@ class Statement:
 
     def may_go(self, process: str, material: Material) -> np.ndarray:
         """Whether a process accepts ore, and it has revenue there at the base prices."""
+        accepts = self.mine.accepts if process == "leach" else None
+        return (self.revenue(process, material) > 1e-9) & accepted(material, accepts)
+
+    def revenue(self, process: str, material: Material) -> np.ndarray:
+        """At the base prices."""
         copper, terms = material.copper * PROCESSES[process].recovery, self.terms
         gold = material.gold * (terms.gold or 0.0) * (process == "mill")
-        revenue = copper * terms.base_price(process) + gold * GOLD_PRICE * (1 - terms.royalty)
-        accepts = self.mine.accepts if process == "leach" else None
-        return (revenue - self.penalty(process, material) > 1e-9) & accepted(material, accepts)
+        found = copper * terms.base_price(process, self.mine.price) + gold * GOLD_PRICE * (1 - terms.royalty)
+        return found - self.penalty(process, material)
 
     def mining(self) -> None:
         """Each block goes somewhere in the year in which its unit is mined."""

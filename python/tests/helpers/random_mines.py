@@ -142,6 +142,7 @@ class Mine:
     lag       by how many benches a pushback stays below the next
     sinks     the most benches by which a pushback sinks in a year; None without a limit
     terms     of revenue and cost
+    price     of copper, by which ore is separated from waste
     must, out whether the table's columns `must` and `out` say which blocks are mined in any case, and which never
     """
 
@@ -166,6 +167,7 @@ class Mine:
     terms: Terms = Terms()
     must: bool = False
     out: bool = False
+    price: float = PRICE
 
     @property
     def text(self) -> str:

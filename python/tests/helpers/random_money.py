@@ -180,9 +180,9 @@ class Terms:
         listed = {name: getattr(self, name) for name in names}
         return replace(self, **{name: alike(it) if len(it) > 1 else it for name, it in listed.items()})
 
-    def base_price(self, process: str) -> float:
+    def base_price(self, process: str, price: float = PRICE) -> float:
         """What a tonne of recovered copper earns at the base price and costs."""
-        return replace(self, selling_factors=(1.0,)).net_price(process, PRICE, 0)
+        return replace(self, selling_factors=(1.0,)).net_price(process, price, 0)
 
     def net_price(self, process: str, price: float, year: int) -> float:
         """What a tonne of recovered copper earns in a year."""

@@ -3,7 +3,7 @@
 from __future__ import annotations
 
 from collections.abc import Callable, Sequence
-from dataclasses import dataclass, replace
+from dataclasses import dataclass
 from typing import Any
 
 import numpy as np
@@ -215,11 +215,8 @@ class BlockAmounts:
         return self.each(lambda amounts: amounts[cells])
 
     def as_sent(self, goes: NDArray[np.int64]) -> BlockAmounts:
-        """Returns the amounts of blocks that go elsewhere than they are sent: to these destinations, shape (blocks, destinations)."""
-        flows, excess = (
-            {name: np.take_along_axis(it, goes, axis=1) for name, it in of.items()} for of in (self.flows, self.excess)
-        )
-        return replace(self, flows=flows, excess=excess)
+        """Returns the amounts of blocks that go elsewhere than they are sent: to these destinations, shape (blocks, places to which they are sent)."""
+        return self.each(lambda amounts: np.take_along_axis(amounts, goes, axis=1))
 
     def each(self, change: Callable[[NDArray[Any]], NDArray[Any]]) -> BlockAmounts:
         """Returns the amounts with each array changed."""
@@ -377,9 +374,7 @@ class PlannedBlocks:
         """
         if self.plan.project.dumps:
             ore_kinds.accepted(self.plan, self.cells[schedule.year < self.problem.years])
-        share = np.zeros_like(schedule.share)
-        np.add.at(share, (np.arange(len(share))[:, None], self.goes), schedule.share)
-        return Assignment(schedule.year, share)
+        return schedule.sent(self.goes)
 
 
 def of_plan(plan: Plan) -> PlannedBlocks:

@@ -426,6 +426,12 @@ class Assignment:
         share[np.arange(len(share)), share.argmax(axis=1)] += crumbs.sum(axis=1)
         return Assignment(self.year, share)
 
+    def sent(self, goes: NDArray[np.int64]) -> Assignment:
+        """The same with the shares of each destination in the one to which blocks go that are sent there: shape (blocks, destinations)."""
+        share = np.zeros_like(self.share)
+        np.add.at(share, (np.arange(len(share))[:, None], goes), self.share)
+        return Assignment(self.year, share)
+
     def worths(self, problem: BlockProblem) -> NDArray[np.float64]:
         """What each block earns, discounted, in money; one that is not mined nothing."""
         mined = np.minimum(self.year, problem.years - 1)

@@ -131,16 +131,17 @@ def grades_of(base: Base, read: Models) -> list[summary.Grade]:
 
 def arrays_of(base: Base) -> dict[str, np.ndarray]:
     """Returns the blocks without grades, as arrays of shape (blocks,)."""
-    table = base.project.table
+    project, table, money = base.project, base.project.table, base.project.economics
     arrays = {"cells": base.grid.rows, table.tonnes: base.frame[table.tonnes].to_numpy()}
-    money = base.project.economics
-    by_domain = any(isinstance(value, ByDomain) for value in (money.mining_recovery, money.dilution))
-    in_domains = by_domain or any(it.code is not None and it.column == DOMAIN for it in base.project.feed_grades)
+    in_domains = any(isinstance(value, ByDomain) for value in (money.mining_recovery, money.dilution))
+    in_domains |= any(it.code is not None and it.column == DOMAIN for it in project.feed_grades)
+    # Errors name the domain of rock that no dump accepts.
+    in_domains |= any(it.accepts.domain for it in project.processes) or bool(project.dumps)
     for name in (table.rock_type, table.domain if in_domains else None, table.resource_class):
         if name:
             arrays[name] = base.frame[name].to_numpy().astype(str)
-    grades = {metal.column for metal in base.project.metals}
-    columns = (*money.factor_columns, *base.project.penalty_columns, *base.project.limited_columns)
+    grades = {metal.column for metal in project.metals}
+    columns = (*money.factor_columns, *project.penalty_columns, *project.limited_columns, *project.dump_columns)
     return arrays | {name: base.frame[name].to_numpy() for name in columns if name not in grades}
 
 

@@ -266,6 +266,7 @@ def meaning_of_years(project: Project, years: int) -> dict[str, Any]:
         "sources": [hash_of(path) for path in sorted(SEARCH.glob("*.py"))],
     }
     of_years = {"processes": [asdict(it) for it in project.processes], "calendar": asdict(shells.calendar)}
+    of_years |= {"dumps": [asdict(it) for it in project.dumps]} if project.dumps else {}
     discounting = {"rate": shells.discount_rate, "discounting": shells.discounting}
     return {**limits, **search, **of_years, **discounting, "years": years}
 

@@ -1,9 +1,11 @@
 """Amounts and values of blocks for schedules over scenarios: those of one scenario, and the mean of all.
 
-A mined block goes to processes or to waste, in shares, so that a year with more ore than its limits allow processes the best of it. A block
-that is sent to a process counts at its best: as ore if that pays at the base price, otherwise as waste. The mean over scenarios is taken of
-these values, not of the grades, since grades are known when a block is mined. A block that is ore in one of ten realisations has a tenth of its
-value there, and takes a tenth of its tonnes from the mill; by its mean grade it might have no value.
+A mined block goes to processes, dumps or waste, in shares, so that a year with more ore than its limits allow processes the best of it. Where a
+block is ore follows from the base price: in a process that pays more than the cheapest dump that accepts the block. Before the grades are known a
+block is sent by an order: to a dump, or to a process, and to a dump in the scenarios in which it is no ore there. The mean over scenarios is
+taken of the values of orders, not of the grades, since grades are known when a block is mined. A block that is ore in one of ten realisations has
+a tenth of its value there, takes a tenth of its tonnes from the mill, and leaves the others to the dump; by its mean grade it might have no
+value.
 """
 
 from __future__ import annotations
@@ -25,18 +27,21 @@ from pitplan.core import layout
 from pitplan.core.atomic_files import staged
 from pitplan.core.progress import Progress
 from pitplan.errors import PlanError
-from pitplan.plan import Plan
+from pitplan.plan import MILLION, Plan
 from pitplan.pushbacks.bench_table import CASH
 from pitplan.scheduling.blocks import BlockPrecedences, BlockProblem
 from pitplan.scheduling.blocks.from_plan import (
     BlockAmounts,
+    Destinations,
     Minable,
     demand_of_blocks,
+    destinations_of,
     head_grades,
     of_pushbacks,
+    taken,
     years_of,
 )
-from pitplan.scheduling.limits import grade_limits, limits_of, periods_of
+from pitplan.scheduling.limits import DUMP, grade_limits, limits_of, periods_of
 from pitplan.solver.choice import PROGRAM
 from pitplan.studies.scenarios import prepare, store
 from pitplan.studies.scenarios.prepare import Laid
@@ -79,11 +84,103 @@ class ScenarioBlocks:
         return self.minable.problem(amounts, project, self.periods)
 
 
-def amounts_at_best(plan: Plan, cells: NDArray[np.int64]) -> BlockAmounts:
-    """Returns the amounts of some cells of a scenario, which go to a process only if that pays at the base price, and otherwise to waste."""
-    amounts = BlockAmounts.of_plan(plan, head_grades(plan)).of_cells(cells)
-    pays = amounts.flows[CASH] > amounts.flows[CASH][:, :1]
-    return amounts.each(lambda it: np.where(pays, it, it[:, :1]))
+@dataclass(frozen=True)
+class Order:
+    """Where a block is sent before its grades are known: the number of the destination, and that of the dump in scenarios in which it is no ore there."""
+
+    to: int
+    otherwise: int
+
+
+@dataclass(frozen=True)
+class Orders:
+    """All orders of a project: first to each dump, then to each process with each dump. Without `[[dumps]]` an order is a destination."""
+
+    destinations: Destinations
+
+    @property
+    def dumps(self) -> range:
+        return range(len(self.destinations.waste))
+
+    @property
+    def listed(self) -> tuple[Order, ...]:
+        """In the order of arrays."""
+        processes = range(len(self.dumps), len(self.destinations))
+        return (*(Order(it, it) for it in self.dumps), *(Order(to, it) for to in processes for it in self.dumps))
+
+    def goes(self, ore: NDArray[np.bool_], sent: NDArray[np.int64]) -> NDArray[np.int64]:
+        """Returns where blocks go in a scenario by each order, shape (blocks, orders).
+
+        Parameters
+        ----------
+        ore : bool array, shape (blocks, destinations)
+            Whether a block is ore in each.
+        sent : int array, shape (blocks, destinations)
+            Where it goes that is sent to each.
+        """
+        return np.stack([np.where(ore[:, it.to], it.to, sent[:, it.otherwise]) for it in self.listed], axis=1)
+
+    def alike(self, mean: BlockAmounts) -> NDArray[np.int64]:
+        """Returns for each block and order the one that has the same amounts in all scenarios, and names a dump that accepts the block and a process in
+        which it is ore in some scenario: shape (blocks, orders)."""
+        count = len(self.dumps)
+        taken = np.stack([mean.flows[f"{DUMP}{name}"][:, :count] for name in self.destinations.waste], axis=2)
+        dump = taken.argmax(axis=2)
+        found = [
+            np.where(mean.pays[:, number], count * (it.to - count + 1), 0) + dump[:, it.otherwise]
+            for number, it in enumerate(self.listed)
+        ]
+        return np.stack(found, axis=1)
+
+    def shares(self, share: NDArray[np.float64]) -> NDArray[np.float64]:
+        """Returns by the shares of orders what is planned for each process, and for each dump of what is no ore, shape (blocks, destinations)."""
+        found = np.zeros((len(share), len(self.destinations)))
+        for number, it in enumerate(self.listed):
+            found[:, it.otherwise] += share[:, number]
+            if it.to != it.otherwise:
+                found[:, it.to] += share[:, number]
+        return found
+
+
+def orders_of(project: Project) -> Orders:
+    return Orders(destinations_of(project))
+
+
+@dataclass(frozen=True)
+class SentBlocks:
+    """Blocks in a scenario.
+
+    Attributes
+    ----------
+    amounts : BlockAmounts
+        Amounts of each block in each destination.
+    ore : bool array, shape (blocks, destinations)
+        Whether it is ore there.
+    goes : int array, shape (blocks, destinations)
+        Where it goes that is sent to each.
+    """
+
+    amounts: BlockAmounts
+    ore: NDArray[np.bool_]
+    goes: NDArray[np.int64]
+
+    @staticmethod
+    def of_plan(plan: Plan, cells: NDArray[np.int64]) -> SentBlocks:
+        amounts = BlockAmounts.of_plan(plan, head_grades(plan)).of_cells(cells)
+        cash, cheapest = amounts.flows[CASH], taken(plan, cells, np.zeros_like(amounts.pays))[:, -1:]
+        # With dumps amounts are no whole millionths: half of one is no gain.
+        even = 0.5 / MILLION if plan.project.dumps else 0.0
+        ore = amounts.pays & (cash > np.take_along_axis(cash, cheapest, axis=1) + even)
+        return SentBlocks(amounts, ore, taken(plan, cells, ore))
+
+    @property
+    def own(self) -> BlockAmounts:
+        """The amounts by destination of a schedule of the scenario itself."""
+        return self.amounts.as_sent(self.goes)
+
+    def ordered(self, orders: Orders) -> BlockAmounts:
+        """Returns the amounts by order."""
+        return self.amounts.as_sent(orders.goes(self.ore, self.goes))
 
 
 def added(one: BlockAmounts, other: BlockAmounts) -> BlockAmounts:
@@ -123,7 +220,9 @@ def demand_of_scenarios(project: Project) -> None:
             it.min for it in rules.limits
         ),
         "[[periods]] minimum: a common schedule cannot meet it in each scenario": calendar.has(lambda it: it.minimum),
-        "[[dumps]]: the mean of scenarios has no codes by which dumps accept blocks": bool(project.dumps),
+        "[[periods]] dumps min: a common schedule cannot meet it in each scenario": calendar.has(
+            lambda it: any(dump.min for dump in it.dumps)
+        ),
     }
     for why, is_asked in asked.items():
         if is_asked:
@@ -190,8 +289,8 @@ def spread(laid: Laid, folder: Path, progress: Progress) -> tuple[ScenarioBlocks
         return amounts
 
     with progress.step(f"computing block values of {count:,} scenarios"):
-        each = (note_pit(amounts_at_best(plan_of(shared, it), minable.cells)) for it in laid.scenarios)
-        total = reduce(added, each)
+        sent = (SentBlocks.of_plan(plan_of(shared, it), minable.cells) for it in laid.scenarios)
+        total = reduce(added, (note_pit(it.ordered(orders_of(project))) for it in sent))
     flows, excess = ({name: it / count for name, it in of.items()} for of in (total.flows, total.excess))
     mean = replace(total, flows=flows, excess=excess)
     note_pit(mean)

@@ -2,6 +2,7 @@
 
 from __future__ import annotations
 
+from collections.abc import Iterator
 from dataclasses import dataclass, replace
 from functools import cached_property
 from typing import Any
@@ -11,21 +12,25 @@ import pandas as pd
 from numpy.typing import NDArray
 
 from pitplan.config.project import Project
+from pitplan.config.schedule import ScheduleRules
 from pitplan.core.tolerances import SUM_ERROR
 from pitplan.economics.period_costs import of_project
-from pitplan.errors import PlanError
+from pitplan.errors import WARNING, PlanError
+from pitplan.pits import ore_kinds
 from pitplan.pits.best_worst_case import year_discounts
 from pitplan.pushbacks.bench_table import CASH, ORE, ROCK
 from pitplan.scheduling.blocks import BlockProblem
 from pitplan.scheduling.blocks.filling import best_shares
-from pitplan.scheduling.blocks.from_plan import BlockAmounts, destinations_of
+from pitplan.scheduling.blocks.from_plan import BlockAmounts
 from pitplan.scheduling.blocks.tables import SHARE
+from pitplan.scheduling.limits import DUMP, DUMPED, MAX, limits_of
 from pitplan.studies.scenarios import pit_probability
 from pitplan.studies.scenarios.store import Shared
 from pitplan.studies.scenarios.worker import plan_of
 
-from .problem import ScenarioBlocks, amounts_at_best, limits_in_record
-from .worker import WrittenSchedule, blocks_of, mean_of, read_answer
+from .problem import ScenarioBlocks, SentBlocks, limits_in_record, orders_of
+from .recourse import Recourse, excess_of, is_soft
+from .worker import WrittenSchedule, all_shares, blocks_of, first_shown, mean_of, read_answer
 
 # The common schedule in each scenario: feed and cash flow of its years with the grades of the scenario.
 #
@@ -37,7 +42,7 @@ from .worker import WrittenSchedule, blocks_of, mean_of, read_answer
 # it bounds the expected value of perfect information (Birge and Louveaux, Introduction to Stochastic Programming, 2nd
 # edition, Springer 2011, chapter 4).
 
-LEFT, PLANNED = "unprocessed_tonnes", "planned_feed_tonnes"
+LEFT, PLANNED, EXCESS = "unprocessed_tonnes", "planned_feed_tonnes", "excess_waste_tonnes"
 
 
 @dataclass(frozen=True)
@@ -49,16 +54,20 @@ class CommonInScenario:
     year : int array, shape (blocks,)
         The year in which each block is mined, from 0; the number of periods if never.
     blocks : ScenarioBlocks
-    amounts : BlockAmounts
-        Amounts of the blocks in the scenario.
+    sent : SentBlocks
+        The blocks in the scenario.
     project : Project
         With limits and discounting.
     """
 
     year: NDArray[np.int64]
     blocks: ScenarioBlocks
-    amounts: BlockAmounts
+    sent: SentBlocks
     project: Project
+
+    @cached_property
+    def amounts(self) -> BlockAmounts:
+        return self.sent.own
 
     @cached_property
     def problem(self) -> BlockProblem:
@@ -66,7 +75,7 @@ class CommonInScenario:
         problem = self.blocks.problem(self.amounts, self.project)
         as_waste = [np.bincount(self.year, it.amounts[:, 0], minlength=problem.years + 1) for it in problem.limits]
         limits = [
-            replace(it, most=np.maximum(it.most, by_year[: problem.years]))
+            it if is_soft(it.name) else replace(it, most=np.maximum(it.most, by_year[: problem.years]))
             for it, by_year in zip(problem.limits, as_waste)
         ]
         return replace(problem, limits=tuple(limits))
@@ -75,6 +84,8 @@ class CommonInScenario:
     def share(self) -> NDArray[np.float64]:
         """The share of each mined block that goes to each destination in its year, shape (blocks, destinations)."""
         problem = self.problem
+        if self.project.dumps:
+            return Recourse(problem, self.year, self.sent.goes == np.arange(problem.destinations)).share
         found, as_waste = np.zeros((problem.blocks, problem.destinations)), np.eye(problem.destinations)[0]
         for year in np.unique(self.year[self.year < problem.years]).tolist():
             blocks = np.flatnonzero(self.year == year)
@@ -111,23 +122,42 @@ class CommonInScenario:
         ]
         fed = (flows[ORE] * share).sum(axis=1)
         of_block = {ROCK: flows[ROCK][:, 0] * is_mined, ORE: fed}
-        of_block |= {LEFT: flows[ORE].max(axis=1) * is_mined - fed, CASH: (cash * share).sum(axis=1)}
+        of_block[LEFT] = flows[ORE].max(axis=1) * is_mined - fed
+        of_block |= {name: (flows[name] * share).sum(axis=1) for name in dumps_of(self.project)}
+        of_block[CASH] = (cash * share).sum(axis=1)
         sums = {name: np.bincount(self.year, it, minlength=periods + 1)[:last] for name, it in of_block.items()}
         table = pd.DataFrame({"year": np.arange(1, last + 1), **sums})
         table.insert(4, PLANNED, planned[:last])
+        if self.project.dumps:
+            table.insert(5 + len(self.project.dumps), EXCESS, sum(self.excess(table)))
         present = table[CASH] * year_discounts(self.project.shells, last) - self.problem.running_costs[:last]
         costs = sum(of_project(self.project).costs(last).values())
         return table.assign(**{CASH: table[CASH] - costs, "discounted_cash_flow": present})
+
+    def excess(self, years: pd.DataFrame) -> Iterator[NDArray[np.float64]]:
+        """Yields by how much each dump takes more than its limits in each year."""
+        limits = limits_of(self.project, self.project.schedule or ScheduleRules())
+        for name in dumps_of(self.project):
+            held = limits.places.get((name.replace(DUMP, DUMPED, 1), MAX))
+            capacity = np.inf if held is None else held.amount
+            yield excess_of(years[name].to_numpy(), limits.of_place(name, MAX, len(years)), capacity)
+
+
+def dumps_of(project: Project) -> list[str]:
+    """Returns the names of the amounts that dumps take."""
+    return [f"{DUMP}{it.name}" for it in project.dumps]
 
 
 def row_of(years: pd.DataFrame) -> dict[str, float]:
     """Returns the columns of schedules.csv of the common schedule in a scenario, from its years."""
     short = years[ORE] < years[PLANNED] * (1 - SUM_ERROR)
+    excess = {f"common_{EXCESS}": float(years[EXCESS].sum())} if EXCESS in years else {}
     return {
         "common_npv": float(years["discounted_cash_flow"].sum()),
         "common_feed_tonnes": float(years[ORE].sum()),
         "common_unprocessed_tonnes": float(years[LEFT].sum()),
         "common_years_short": int(short.sum()),
+        **excess,
     }
 
 
@@ -162,6 +192,11 @@ class Schedules:
         """The rows of scenarios that have a schedule of their own."""
         return self.table[self.table["status"] == SOLVED]
 
+    @property
+    def planned_waste(self) -> dict[str, float]:
+        """What each dump takes by the common schedule on the mean of scenarios, in tonnes."""
+        return {name.removeprefix(DUMP): round(it, 3) for name, it in self.one.row.items() if name.startswith(DUMP)}
+
     def record(self, shared: Shared) -> dict[str, Any]:
         """Returns common_schedule.json: limits and years, statistics over all scenarios with a result of the NPV of the common schedule, the NPV
         of each scenario's own and its upper bound, and the upper bound on the expected value of perfect information.
@@ -175,6 +210,7 @@ class Schedules:
             "years": calendar.span(periods),
             **({} if calendar.is_yearly else {"periods": periods}),
             **limits_in_record(shared.project),
+            **({"dumps": self.planned_waste} if shared.project.dumps else {}),
             "npv_as_planned": round(self.one.row["npv"], 3),
             "upper_bound_as_planned": round(self.one.row["upper_bound"], 3),
             **{name: {word: round(float(spread[f"{name}_{word}"]), 3) for word in words} for name in VALUES},
@@ -182,10 +218,11 @@ class Schedules:
         }
 
     def by_block(self, shared: Shared, blocks: pd.DataFrame) -> pd.DataFrame:
-        """Returns the rows of blocks.csv, by id, with the year in the common schedule (0: none) and the share that is planned for each process."""
-        order = np.argsort(shared.grid.rows)
-        names = destinations_of(shared.project).processes
-        shares = {f"{SHARE}{name}": share for name, share in zip(names, self.one.share[order].round(9).T)}
+        """Returns the rows of blocks.csv, by id, with the year in the common schedule (0: none), the share that is planned for each process, and with
+        dumps that for each of what is no ore."""
+        order, orders = np.argsort(shared.grid.rows), orders_of(shared.project)
+        share = orders.shares(all_shares(shared, self.one.share[order])).round(9)
+        shares = {f"{SHARE}{name}": share[:, number] for name, number in orders.destinations.shown.items()}
         return pit_probability.written(blocks).assign(year=self.one.year[order], **shares)
 
 
@@ -212,8 +249,11 @@ def gather(shared: Shared, partial: bool = False) -> Schedules:
     year = year_of_blocks(shared, one, blocks)
     planned = planned_ore(shared, one, blocks)
     for scenario in shared.scenarios:
-        amounts = amounts_at_best(plan_of(shared, scenario), blocks.cells)
-        mined = CommonInScenario(year, blocks, amounts, shared.project).years(planned)
+        plan = plan_of(shared, scenario)
+        if shared.project.dumps:
+            ore_kinds.accepted(plan, blocks.cells[year < blocks.periods])
+        sent = SentBlocks.of_plan(plan, blocks.cells)
+        mined = CommonInScenario(year, blocks, sent, shared.project).years(planned)
         heads, why = pit_probability.heads_of(scenario), missing.get(scenario.number)
         own = dict.fromkeys(one.row, np.nan) if why else read_answer(shared, scenario).row
         rows.append(heads | {"status": why or SOLVED} | own | row_of(mined))
@@ -231,9 +271,10 @@ def year_of_blocks(shared: Shared, one: WrittenSchedule, blocks: ScenarioBlocks)
 
 def planned_ore(shared: Shared, one: WrittenSchedule, blocks: ScenarioBlocks) -> NDArray[np.float64]:
     """Returns the feed of each year of the common schedule, on the mean of all scenarios, in tonnes."""
-    share = np.zeros((shared.grid.count, one.share.shape[1]))
+    amounts = mean_of(shared).flows[ORE][:, first_shown(shared) :]
+    share = np.zeros((shared.grid.count, amounts.shape[1]))
     share[shared.grid.rows] = one.share
-    fed = (mean_of(shared).flows[ORE][:, 1:] * share[blocks.cells]).sum(axis=1)
+    fed = (amounts * share[blocks.cells]).sum(axis=1)
     of_years = np.bincount(year_of_blocks(shared, one, blocks), fed, minlength=blocks.periods + 1)
     return of_years[: blocks.periods].astype(np.float64)
 
@@ -253,6 +294,7 @@ def notes(schedules: Schedules, shared: Shared) -> list[str]:
         schedules.answered["common_years_short"].mean(),
     )
     spread = f"{told['common_npv']['least']:,.0f} to {told['common_npv']['greatest']:,.0f}"
+    excess = schedules.answered.get(f"common_{EXCESS}", pd.Series(dtype=float))
     share = f", {100 * told['perfect_information'] / bound:.2f} %" if bound > 0 else ""
     return [
         f"common schedule: mean NPV {one:,.0f} over {count:,} scenarios, from {spread}; "
@@ -261,4 +303,12 @@ def notes(schedules: Schedules, shared: Shared) -> list[str]:
         "have less feed than planned",
         f"own schedule of each scenario: mean NPV {value:,.0f}, upper bound {bound:,.0f}; the expected value of perfect "
         f"information (EVPI) is at most {told['perfect_information']:,.0f}{share}",
+        *(
+            [
+                f"{WARNING}in {(excess > 0).sum():,} scenarios the dumps take more than their limits, up to {excess.max():,.0f} t: no bound holds "
+                "for the common schedule there; add room or another of the [[dumps]]"
+            ]
+            if (excess > 0).any()
+            else []
+        ),
     ]

@@ -3,7 +3,7 @@
 from __future__ import annotations
 
 import time
-from dataclasses import dataclass
+from dataclasses import dataclass, replace
 from functools import cached_property
 from typing import Any
 
@@ -15,15 +15,17 @@ from pitplan.core import keyed_arrays
 from pitplan.core.atomic_files import staged_file
 from pitplan.core.revenue_factors import BASE_PRICE
 from pitplan.errors import PlanError
+from pitplan.pits import ore_kinds
 from pitplan.pushbacks.bench_table import ORE, ROCK
 from pitplan.scheduling.blocks import Scheduled, solve
 from pitplan.scheduling.blocks.from_plan import BlockAmounts
+from pitplan.scheduling.limits import DUMP
 from pitplan.solver import choice
 from pitplan.studies.scenarios import store
 from pitplan.studies.scenarios.store import Scenario, Shared
 from pitplan.studies.scenarios.worker import plan_of
 
-from .problem import ScenarioBlocks, amounts_at_best, amounts_of
+from .problem import ScenarioBlocks, SentBlocks, amounts_of, orders_of
 
 
 @dataclass(frozen=True)
@@ -34,8 +36,8 @@ class WrittenSchedule:
     ----------
     year : array of int, shape (rows,)
         The year in which each row of the table is mined, from 1; 0: never.
-    share : array of float, shape (rows, processes)
-        The share of each that goes to each process.
+    share : array of float, shape (rows, destinations or orders)
+        The share of each that goes to each destination, of the common schedule by each order; without dumps the first one, waste, is left out.
     row : dict of str to Any
         The columns of schedules.csv for its own schedule.
     """
@@ -76,12 +78,20 @@ class Made:
 
     @staticmethod
     def of(shared: Shared, job: Scenario) -> Made:
-        blocks = blocks_of(shared)
-        amounts = mean_of(shared) if job.is_mean else amounts_at_best(plan_of(shared, job), blocks.cells)
-        found = solve(blocks.problem(amounts, shared.project))
+        blocks, project = blocks_of(shared), shared.project
+        plan = None if job.is_mean else plan_of(shared, job)
+        sent = None if plan is None else SentBlocks.of_plan(plan, blocks.cells)
+        amounts = mean_of(shared) if sent is None else sent.own
+        found = solve(blocks.problem(amounts, project))
         if found.interrupted:
             raise KeyboardInterrupt
-        return Made(shared, blocks, amounts, found)
+        if project.dumps:
+            goes = orders_of(project).alike(amounts) if sent is None else sent.goes
+            found = replace(found, schedule=found.schedule.sent(goes))
+        made = Made(shared, blocks, amounts, found)
+        if project.dumps and plan is not None:
+            ore_kinds.accepted(plan, blocks.cells[made.is_mined])
+        return made
 
     @cached_property
     def is_mined(self) -> NDArray[np.bool_]:
@@ -96,11 +106,12 @@ class Made:
 
     @property
     def by_row(self) -> tuple[NDArray[np.int16], NDArray[np.float64]]:
-        """Year and shares of processes by row of the table."""
+        """Year and shares, as they are written, by row of the table."""
         schedule, grid = self.found.schedule, self.shared.grid
-        year, share = np.zeros(grid.count, dtype=np.int16), np.zeros((grid.count, self.amounts.destinations - 1))
+        shown = schedule.share[:, first_shown(self.shared) :]
+        year, share = np.zeros(grid.count, dtype=np.int16), np.zeros((grid.count, shown.shape[1]))
         year[self.blocks.cells] = np.where(self.is_mined, schedule.year + 1, 0)
-        share[self.blocks.cells] = schedule.share[:, 1:]
+        share[self.blocks.cells] = shown
         return year[grid.rows], share[grid.rows]
 
     @property
@@ -108,7 +119,7 @@ class Made:
         """The columns of schedules.csv."""
         found, flows = self.found, self.amounts.flows
         rock, year = flows[ROCK][self.is_mined, 0], found.schedule.year[self.is_mined]
-        names = [name for name in flows if name.startswith((ORE, "recovered_"))]
+        names = [name for name in flows if name.startswith((ORE, "recovered_", DUMP))]
         return {
             "npv": found.value,
             "upper_bound": found.bound,
@@ -118,6 +129,16 @@ class Made:
             "tonnes": float(rock.sum()),
             **{name: float((flows[name] * found.schedule.share).sum()) for name in names},
         }
+
+
+def first_shown(shared: Shared) -> int:
+    """Returns the first destination, or order, whose share is written: without dumps the first one is waste, which takes the rest."""
+    return 0 if shared.project.dumps else 1
+
+
+def all_shares(shared: Shared, written: NDArray[np.float64]) -> NDArray[np.float64]:
+    """Returns the shares of blocks with that of the first destination, or order, if it is not written."""
+    return written if first_shown(shared) == 0 else np.insert(written, 0, 0.0, axis=1)
 
 
 def blocks_of(shared: Shared) -> ScenarioBlocks:
@@ -138,9 +159,10 @@ def read_answer(shared: Shared, job: Scenario) -> WrittenSchedule:
         kept = keyed_arrays.read(path, job.key)
         row = dict(zip(kept["names"].tolist(), kept["amounts"].tolist()))
         year, share = kept["year"].astype(np.int64), kept["share"]
-        processes = len(shared.project.processes) or 1
+        orders = orders_of(shared.project)
+        count = (len(orders.listed) if job.is_mean else len(orders.destinations)) - first_shown(shared)
         is_of_these = (
-            share.shape == (*year.shape, processes) == (len(shared.frame), processes)
+            share.shape == (*year.shape, count) == (len(shared.frame), count)
             and 0 <= year.min(initial=0) <= year.max(initial=0) <= shared.record["years"]
         )
         if not is_of_these:
