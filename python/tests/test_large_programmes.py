@@ -3,7 +3,7 @@
 import numpy as np
 import pytest
 from conftest import rows
-from helpers.optima import benches, optimum_of as optimum_of_mine
+from helpers.optima import scheduled
 from helpers.pushbacks import PUSHBACKS, wrong
 from helpers.random_mines import random_pushback_mine
 from helpers.random_tests import seeds
@@ -11,7 +11,7 @@ from helpers.writings import PLAIN
 from scipy.sparse import csr_matrix
 
 import pitplan
-from pitplan import PlanError, load
+from pitplan import load
 from pitplan.config.periods import Calendar, Period
 from pitplan.scheduling import highs_process, pushback_schedule
 from pitplan.scheduling.flow import programme
@@ -102,17 +102,9 @@ def test_random_mines_as_if_they_were_large(plan_folder, monkeypatch, batch):
     monkeypatch.setattr(pushback_schedule, "FEW_BINS", 2)
     for seed in range(6 * batch, 6 * (batch + 1)):
         mine = random_pushback_mine(seed)
-        plan = pitplan.Plan.from_project(plan_folder(mine.table, mine.text))
-        try:
-            pushbacks = plan.shells().pushbacks()
-        except PlanError as error:
-            assert "the pit of revenue factor 1.00 is empty" in str(error)
+        of_mine = scheduled(mine, plan_folder(mine.table, mine.text))
+        if of_mine is None:
             continue
-        number = pushbacks.blocks.set_index("name")["pushback"].reindex(mine.table["name"]).fillna(0).to_numpy(int)
-        optimum = optimum_of_mine(mine, benches(mine, number))
-        if optimum is None:
-            with pytest.raises(PlanError, match="infeasible"):
-                pushbacks.schedule()
-            continue
-        found, slack = pushbacks.schedule(), 0.01 + 1e-6 * abs(optimum)
+        found, optimum = of_mine
+        slack = 0.01 + 1e-6 * abs(optimum)
         assert found.value(found.shown) <= optimum + slack <= found.upper_bound + 2 * slack, seed

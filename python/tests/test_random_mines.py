@@ -4,7 +4,7 @@ import json
 
 import pandas as pd
 import pytest
-from helpers.optima import benches, blocks_alone, optimum_of
+from helpers.optima import benches, blocks_alone, optimum_of, scheduled
 from helpers.random_mines import certifiable, random_mine, random_pushback_mine
 from helpers.random_tests import seeds
 from helpers.writings import UNVERIFIED
@@ -35,19 +35,11 @@ def test_a_schedule_by_pushback_is_the_best_of_its_parcels(plan_folder, batch):
     """The integer programme finds the optimum where each block of ore is a parcel of its own; otherwise parcels may cost something."""
     for seed in range(BATCH * batch, BATCH * (batch + 1)):
         mine = random_pushback_mine(seed)
-        plan = pitplan.Plan.from_project(plan_folder(mine.table, mine.text))
-        try:
-            pushbacks = plan.shells().pushbacks()
-        except PlanError as error:
-            assert "the pit of revenue factor 1.00 is empty" in str(error)
+        of_mine = scheduled(mine, plan_folder(mine.table, mine.text))
+        if of_mine is None:
             continue
-        number = pushbacks.blocks.set_index("name")["pushback"].reindex(mine.table["name"]).fillna(0).to_numpy(int)
-        optimum = optimum_of(mine, benches(mine, number))
-        if optimum is None:
-            with pytest.raises(PlanError, match="infeasible"):
-                pushbacks.schedule()
-            continue
-        found, slack = pushbacks.schedule(), 0.01 + 1e-6 * abs(optimum)
+        found, optimum = of_mine
+        slack = 0.01 + 1e-6 * abs(optimum)
         value, is_exact = found.value(found.shown), len(found.material.parcels) == len(found.material.blocks)
         assert value <= optimum + slack <= found.upper_bound + 2 * slack, seed
         assert value >= optimum - slack or not is_exact, seed

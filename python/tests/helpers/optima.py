@@ -5,7 +5,11 @@ from typing import Any, Optional
 
 import numpy as np
 import pandas as pd
+import pytest
 from scipy.optimize import Bounds, LinearConstraint, milp
+
+import pitplan
+from pitplan import PlanError
 
 from .random_mines import DISCOUNT, PROCESSES, YEARS, Accepts, Between, Dump, Head, Mine, Pile
 from .random_money import GOLD_PRICE, MINING, Terms, at
@@ -354,3 +358,19 @@ class Statement:
 def optimum_of(mine: Mine, units: Units) -> Optional[float]:
     """The greatest NPV of units that go to destinations in shares; None if no schedule keeps the rules."""
     return Statement(mine, units).optimum()
+
+
+def scheduled(mine, project):
+    """Returns the schedule of a mine's pushbacks, and the optimum of their benches; None if the pit is empty, or if neither finds any."""
+    try:
+        pushbacks = pitplan.Plan.from_project(project).shells().pushbacks()
+    except PlanError as error:
+        assert "the pit of revenue factor 1.00 is empty" in str(error)
+        return None
+    number = pushbacks.blocks.set_index("name")["pushback"].reindex(mine.table["name"]).fillna(0).to_numpy(int)
+    optimum = optimum_of(mine, benches(mine, number))
+    if optimum is None:
+        with pytest.raises(PlanError, match="infeasible"):
+            pushbacks.schedule()
+        return None
+    return pushbacks.schedule(), optimum
