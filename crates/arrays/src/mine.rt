@@ -44,5 +44,5 @@ pub fn mine_of(alloc: Global, values: &[i64], rows: &CsrView<'_>) -> Result<Inst
 {
     let graph = graph_of(alloc, values.len(), rows)?;
     let values = widened(alloc, values)?;
-    Ok(Instance::new(graph, values))
+    Ok(Instance::new(graph, values).share_values(alloc)?)
 }

@@ -79,7 +79,11 @@ pub(crate) fn read_mine<M: InBytes, P: InBytes, F: InBytes>(
     let mine = Instance::with_counters(Arc::new(alloc, graph)?, model.values, counters);
     mine.law();
     let fixed = Fixed::new(alloc, mine.graph(), forced, barred)?;
-    Ok(FixedMine { mine, fixed })
+    let shared = mine.share_values(alloc)?;
+    Ok(FixedMine {
+        mine: shared,
+        fixed,
+    })
 }
 
 /// Opens the file of fixed blocks, if there is one.

@@ -3,6 +3,7 @@
 ghost use Rattle.std.specs.Prelude.{◌≡◌, ◌<◌, ◌^◌, pos, ◌+ℤ◌, ◌≤ℤ◌, IfOk, IfErr};
 ghost use Rattle.faults.specs.Refused.{no_memory};
 ghost use Rattle.pit_model.specs.Mine.{value};
+ghost use Rattle.pit_model.specs.Limits.{IsInstance};
 ghost use Rattle.mine_graph.specs.Raised.{raised_at};
 ghost use Rattle.norm_tree.specs.Over.{most_rise};
 ghost use Rattle.optimality.specs.Check.{ShowsPit};
@@ -10,15 +11,16 @@ ghost use Rattle.optimality.specs.Check.{ShowsPit};
 use crate::closing::merge_remaining;
 use crate::lowest_label::{LowestLabel, take_turns};
 use faults::Fault;
-use mine_graph::Instance;
-use norm_tree::{BareTree, NormTree};
+use mine_graph::{Graph, Instance};
+use norm_tree::{BareTree, NormTree, RisingTree};
 use std::alloc::Global;
 use std::marker::Model;
+use std::sync::Arc;
 
 /// A mine with the tree of its last solve. Contracts see it as the mine.
 #[derive(Drop)]
 pub struct ParametricSolver {
-    tree: BareTree,
+    tree: RisingTree,
     order: LowestLabel,
     /// The strong blocks of the solve before, which stay strong as values grow: a guess at those of the next.
     strong: Vec<bool>,
@@ -36,18 +38,19 @@ impl Model for ParametricSolver {
 }
 
 impl ParametricSolver {
-    /// Copies a mine, which is not solved yet.
+    /// Takes a mine, which is not solved yet. Copies its values if another instance shares them.
     ///
     /// # Errors
     ///
     /// If memory runs out.
-    pub fn new(alloc: Global, instance: &Instance) -> Result<ParametricSolver, Fault>
-        ensures mine { IfOk result (λ r. r ≡ instance.now) }
+    pub fn new(alloc: Global, instance: Instance) -> Result<ParametricSolver, Fault>
+        ensures mine { IfOk result (λ r. r ≡ instance) }
         ensures refused { IfErr result (λ e. e ≡ no_memory) }
     {
         let strong = vec![in alloc; false; instance.graph().n() as usize]?;
-        let tree = BareTree::start(alloc, instance)?;
+        let tree = BareTree::of(alloc, instance)?;
         let order = LowestLabel::new(alloc, &tree)?;
+        let tree = RisingTree::of(tree)?;
         Ok(ParametricSolver {
             tree,
             order,
@@ -55,11 +58,19 @@ impl ParametricSolver {
         })
     }
 
-    /// Returns the mine with its current values.
-    pub fn instance(&self) -> &Instance
-        ensures { result.now ≡ self.now }
+    /// States that the mine is within the limits of an instance.
+    pub fn law(&self)
+        ensures { IsInstance self.now }
     {
-        self.tree.instance()
+        self.tree.law();
+    }
+
+    /// Returns the blocks of the mine and their pairs.
+    pub fn graph(&self) -> &Arc<Graph>
+        ensures blocks { result.now.value.blocks ≡ self.now.blocks }
+        ensures pairs { result.now.value.pairs ≡ self.now.pairs }
+    {
+        self.tree.graph()
     }
 
     /// Increases the value of a block, within the limit of a value. Allocates nothing.
@@ -85,16 +96,18 @@ impl ParametricSolver {
         ensures refused { IfErr result (λ e. e ≡ no_memory) }
     {
         let ParametricSolver {
-            mut tree,
+            tree,
             mut order,
             strong,
         } = self;
+        let mut tree = tree.into_bare();
         order.wait_anew(&tree);
         take_turns(&mut order, &mut tree);
         let solved = merge_remaining(NormTree::from_guess(tree, strong)?)?;
         solved.law();
         let pit = solved.pit()?;
         let (tree, strong) = solved.into_bare();
+        let tree = RisingTree::of(tree)?;
         let mine = ParametricSolver {
             tree,
             order,

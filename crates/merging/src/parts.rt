@@ -47,6 +47,7 @@ fn solve_part(alloc: Global, instance: &Instance, part: Part) -> Result<SolvedPa
     let values = values_at(alloc, instance, &part.blocks)?;
     let counters = instance.counters().share();
     let mine = Instance::with_counters(Arc::new(alloc, part.graph)?, values, counters);
+    let mine = mine.share_values(alloc)?;
     mine.law();
     let certificate = solve_certificate(alloc, &mine)?;
     Ok(SolvedPart {

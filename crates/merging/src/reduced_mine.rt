@@ -73,9 +73,10 @@ impl ReducedMine {
         let values = values_at(alloc, mine, &part.blocks)?;
         let counters = mine.counters().share();
         let rest = Instance::with_counters(Arc::new(alloc, part.graph)?, values, counters);
+        let mine = rest.share_values(alloc)?;
         Ok(ReducedMine {
             blocks: part.blocks,
-            mine: rest,
+            mine,
         })
     }
 

@@ -8,3 +8,4 @@ pub mod Components
 pub mod Parts
 pub mod BreadthFirst
 pub mod Raised
+pub mod Amounts

@@ -1,10 +1,9 @@
 //! A graph with a value for each block.
-ghost use Rattle.std.specs.Prelude.{◌≡◌, ◌<◌, ◌≤◌, ℕ, pos, neg_ℤ, ◌+ℤ◌, ◌≤ℤ◌, ◌^◌, Bool, length, get_or, IfOk};
+ghost use Rattle.std.specs.Prelude.{◌≡◌, ◌<◌, ◌≤◌, ℕ, pos, neg_ℤ, ◌≤ℤ◌, ◌^◌, Bool, length, get_or, IfOk};
 ghost use Rattle.std.specs.List.{All};
 ghost use Rattle.pit_model.specs.Sum.{total};
 ghost use Rattle.pit_model.specs.Mine.{members, value, worth};
 ghost use Rattle.pit_model.specs.Limits.{IsInstance};
-ghost use Rattle.mine_graph.specs.Raised.{raised_at};
 
 use crate::graph::Graph;
 use crate::values::Values;
@@ -67,14 +66,37 @@ impl Instance {
         &self.counters
     }
 
-    /// The same instance once more. The graph and the counters are shared.
+    /// The same instance, whose values `share` and `over` then share.
+    pub fn share_values(self, alloc: Global) -> Result<Instance, AllocError>
+        ensures { IfOk result (λ other. other ≡ self) }
+    {
+        let (graph, values, counters) = self.into_parts();
+        Ok(Instance {
+            graph,
+            values: values.into_shared(alloc)?,
+            counters,
+        })
+    }
+
+    /// The graph, the values and the counters.
+    pub(crate) fn into_parts(self) -> (Arc<Graph>, Values, Counters)
+        ensures blocks { result.0.value.blocks ≡ self.blocks }
+        ensures pairs { result.0.value.pairs ≡ self.pairs }
+        ensures values { result.1 ≡ self.values }
+    {
+        (self.graph, self.values, self.counters)
+    }
+
+    /// The same instance once more. The graph and the counters are shared, and the values after `share_values`; otherwise they are
+    /// copied.
     pub fn share(&self, alloc: Global) -> Result<Instance, AllocError>
         ensures { IfOk result (λ other. other ≡ self.now) }
     {
         self.over(alloc, Arc::try_clone(&self.graph)?)
     }
 
-    /// The instance of other pairs of the same blocks, with the same values. The counters are shared.
+    /// The instance of other pairs of the same blocks, with the same values, which are shared or copied as by `share`. The counters
+    /// are shared.
     pub fn over(&self, alloc: Global, graph: Arc<Graph>) -> Result<Instance, AllocError>
         requires { graph.value.blocks ≡ self.now.blocks }
         ensures blocks { IfOk result (λ other. other.blocks ≡ self.now.blocks) }
@@ -83,7 +105,7 @@ impl Instance {
     {
         Ok(Instance {
             graph,
-            values: self.values.copy(alloc)?,
+            values: self.values.share(alloc)?,
             counters: self.counters.share(),
         })
     }
@@ -124,16 +146,6 @@ impl Instance {
         ensures { result ≡ value self.now u }
     {
         self.values.of(u)
-    }
-
-    /// The value of a block grows by an amount. The sum is within 10^23.
-    pub fn increase_value(&mut self, block: u32, amount: i128)
-        requires below { block < self.old.blocks }
-        requires least { pos 0 ≤ℤ amount }
-        requires most { (value self.old block +ℤ amount) ≤ℤ pos (10 ^ 23) }
-        ensures { self.new ≡ raised_at self.old block amount }
-    {
-        self.values.increase_value(block, amount);
     }
 
     /// The summed value of a list of blocks, in millionths where the values are: for the members of a set, its worth.

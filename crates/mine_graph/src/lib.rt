@@ -1,6 +1,7 @@
 //! Blocks, the pairs of a block with a block that it needs, and their values.
 #![tactic(auto)]
 
+mod amounts;
 mod breadth_first;
 mod components;
 mod cycle;
@@ -11,6 +12,7 @@ mod no_cycle;
 mod numbers;
 mod part;
 mod parts;
+mod rising;
 mod row_samples;
 mod values;
 
@@ -22,4 +24,5 @@ pub use graph::Graph;
 pub use instance::Instance;
 pub use numbers::{all_numbers, marked_numbers};
 pub use part::Part;
+pub use rising::RisingInstance;
 pub use values::Values;

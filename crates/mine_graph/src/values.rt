@@ -1,38 +1,43 @@
 //! The values of blocks by themselves, as they remain of an instance whose graph is released.
-ghost use Rattle.std.specs.Prelude.{◌≡◌, ◌<◌, ◌≤◌, ◌^◌, ℕ, ℤ, pos, ◌+ℤ◌, ◌≤ℤ◌, Bool, List, length, get_or, set, IfOk};
+ghost use Rattle.std.specs.Prelude.{◌≡◌, ◌<◌, ◌≤◌, ℕ, ℤ, pos, Bool, List, length, get_or, IfOk};
 ghost use Rattle.std.specs.List.{All};
 ghost use Rattle.pit_model.specs.Sum.{total, when};
 ghost use Rattle.pit_model.specs.Mine.{members};
 ghost use Rattle.pit_model.specs.Size.{most_blocks};
 ghost use Rattle.mine_graph.specs.Invariant.{AreWithinLimits};
 
+use crate::amounts::Amounts;
 use std::alloc::{AllocError, Global};
 use std::marker::Model;
+use std::sync::Arc;
 
 /// The value of each block: whole numbers within 10^23 of 0, in millionths where a model's are.
 #[derive(Drop)]
 pub struct Values {
-    amounts: Vec<i128>,
+    amounts: Amounts,
 }
 
 impl Model for Values {
     ghost use Rattle.std.specs.Prelude.{ℤ, List, length};
+    ghost use Rattle.mine_graph.specs.Amounts.{held_list};
     ghost use Rattle.mine_graph.specs.Invariant.{AreWithinLimits};
 
     ghost Value = { List ℤ };
 
-    ghost view = { λ v. v.amounts.items };
+    ghost view = { λ v. held_list v.amounts };
 
-    ghost invariant = { λ v. AreWithinLimits (length v.amounts.items) v.amounts.items };
+    ghost invariant = { λ v. AreWithinLimits (length (held_list v.amounts)) (held_list v.amounts) };
 }
 
 impl Values {
-    /// These values. It takes no memory.
+    /// These values, of one holder. It takes no memory.
     pub(crate) fn new(amounts: Vec<i128>) -> Values
         requires { AreWithinLimits (length amounts.items) amounts.items }
         ensures { result ≡ amounts.items }
     {
-        Values { amounts }
+        Values {
+            amounts: Amounts::Own(amounts),
+        }
     }
 
     /// What is true of all values.
@@ -42,12 +47,40 @@ impl Values {
         let _ = &self.amounts;
     }
 
-    /// The same values once more.
-    pub(crate) fn copy(&self, alloc: Global) -> Result<Values, AllocError>
+    /// The values as a slice.
+    fn as_slice(&self) -> &[i128]
+        ensures { result.now ≡ self.now }
+    {
+        match &self.amounts {
+            Amounts::Own(list) => list,
+            Amounts::Shared(list) => {
+                let list: &Vec<i128> = list;
+                list
+            }
+        }
+    }
+
+    /// The same values, which further holders can then share.
+    pub(crate) fn into_shared(self, alloc: Global) -> Result<Values, AllocError>
+        ensures { IfOk result (λ other. other ≡ self) }
+    {
+        let amounts = match self.amounts {
+            Amounts::Own(list) => Arc::new(alloc, list)?,
+            Amounts::Shared(list) => list,
+        };
+        Ok(Values {
+            amounts: Amounts::Shared(amounts),
+        })
+    }
+
+    /// The same values once more: shared if they can be, and otherwise copied.
+    pub(crate) fn share(&self, alloc: Global) -> Result<Values, AllocError>
         ensures { IfOk result (λ other. other ≡ self.now) }
     {
-        self.law();
-        let amounts = self.to_vec(alloc)?;
+        let amounts = match &self.amounts {
+            Amounts::Own(list) => Amounts::Own(Vec::from_slice(alloc, list)?),
+            Amounts::Shared(list) => Amounts::Shared(Arc::try_clone(list)?),
+        };
         Ok(Values { amounts })
     }
 
@@ -55,7 +88,20 @@ impl Values {
     pub(crate) fn to_vec(&self, alloc: Global) -> Result<Vec<i128>, AllocError>
         ensures { IfOk result (λ v. v.items ≡ self.now) }
     {
-        Vec::from_slice(alloc, &self.amounts)
+        Vec::from_slice(alloc, self.as_slice())
+    }
+
+    /// The values in a list of their own, which is copied if another holder shares it.
+    pub(crate) fn into_vec(self, alloc: Global) -> Result<Vec<i128>, AllocError>
+        ensures { IfOk result (λ v. v.items ≡ self) }
+    {
+        match self.amounts {
+            Amounts::Own(list) => Ok(list),
+            Amounts::Shared(list) => match Arc::try_unwrap(list) {
+                Ok(list) => Ok(list),
+                Err(list) => Vec::from_slice(alloc, &list),
+            },
+        }
     }
 
     /// The value of a block.
@@ -63,19 +109,7 @@ impl Values {
         requires { u < length self.now }
         ensures { result ≡ get_or self.now u (pos 0) }
     {
-        self.amounts[u as usize]
-    }
-
-    /// The value of a block grows by an amount.
-    pub(crate) fn increase_value(&mut self, u: u32, amount: i128)
-        requires below { u < length self.old }
-        requires least { pos 0 ≤ℤ amount }
-        requires most { (get_or self.old u (pos 0) +ℤ amount) ≤ℤ pos (10 ^ 23) }
-        ensures { self.new ≡ set self.old u (get_or self.old u (pos 0) +ℤ amount) }
-    {
-        self.law();
-        let sum = self.of(u) + amount;
-        self.amounts[u as usize] = sum;
+        self.as_slice()[u as usize]
     }
 
     /// The summed value of a list of blocks: for the members of a set, its worth.

@@ -87,7 +87,7 @@ fn rise(mine: &mut ParametricSolver, columns: &Columns, marks: &[bool], step: St
     requires before { (u : ℕ) → u < mine.old.blocks → marked marks.now u ≡ false → value mine.old u ≡ searched_value step.direction (price_of columns.now step.from u) }
     ensures { HasIncreased step.direction columns.now marks.now step.to mine.old.blocks mine.old mine.new }
 {
-    mine.instance().law();
+    mine.law();
     columns.law();
     for block in 0..columns.len() {
         if !marks[block as usize] {
@@ -140,8 +140,8 @@ fn solve(
         direction,
         ..
     } = *plan;
-    mine.instance().law();
-    let blocks = mine.instance().graph().n();
+    mine.law();
+    let blocks = mine.graph().n();
     let (mine, found) = mine.solved()?;
     let marks = mark_blocks(alloc, blocks, &found)?;
     let pit = pit_toward(alloc, direction, blocks, found)?;
@@ -182,7 +182,7 @@ fn first_shell(alloc: Global, plan: &ShellPlan<'_>) -> Result<(ParametricState, 
     plan.columns.law();
     let factor = factor_at(plan, 0);
     let mine = searched_at(alloc, plan, factor)?;
-    solve(alloc, plan, factor, ParametricSolver::new(alloc, &mine)?)
+    solve(alloc, plan, factor, ParametricSolver::new(alloc, mine)?)
 }
 
 /// Returns the shell of the turn after number `k`, from the mine that was solved at turn `k`.

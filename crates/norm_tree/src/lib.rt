@@ -12,10 +12,12 @@ mod merge;
 mod pit;
 mod rank;
 mod renew;
+mod rising_tree;
 mod tree;
 mod verdict;
 mod walk;
 
 pub use bare::BareTree;
+pub use rising_tree::RisingTree;
 pub use tree::NormTree;
 pub use verdict::lawful_verdict;

@@ -36,7 +36,8 @@ pub fn dual_instance(alloc: Global, mine: &Instance) -> Result<Instance, Fault>
     let reversed = graph.reversed()?;
     reversed.law();
     let counters = mine.counters().share();
-    Ok(Instance::with_counters(Arc::new(alloc, reversed)?, values, counters))
+    let dual = Instance::with_counters(Arc::new(alloc, reversed)?, values, counters);
+    Ok(dual.share_values(alloc)?)
 }
 
 /// The blocks without a mark, rising.

@@ -60,8 +60,9 @@ pub fn lagrangian_bound(
     problem.law();
     check_prices(problem, prices)?;
     let nodes = nodes_at(alloc, problem, prices)?;
-    nodes.law();
-    match worth_of_pit(alloc, &nodes) {
+    let shared = nodes.share_values(alloc)?;
+    shared.law();
+    match worth_of_pit(alloc, &shared) {
         Ok(worth) => Ok(UNIT * worth + price_of_capacities(problem, prices)),
         Err(_) => Err(BoundError::NoMemory),
     }

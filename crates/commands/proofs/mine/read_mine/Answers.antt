@@ -5,10 +5,11 @@ use Rattle.std.proofs.lemmas.Result.{err_from_is_err_and}
 use Rattle.minelib_reader.specs.Upit.{upit}
 use Rattle.minelib_reader.specs.Fixed.{fixed_lists}
 use Rattle.pit_model.specs.Graph.{Graph, AreSamePairs}
+use Rattle.pit_model.specs.Mine.{Instance}
 use Rattle.pit_model.specs.Fixed.{graph_of_mine}
 use Rattle.mine_graph.specs.FixedBlocks.{IsFixedOf, RefusesFixed}
 use Rattle.merging.proofs.SolvedPart.{graph_is}
-use Rattle.commands.specs.Solve.{FixedInstance, GaveFixed, GaveFixedMine, files_of, mine_files, fixed_instance_of}
+use Rattle.commands.specs.Solve.{FixedInstance, GaveFixed, GaveFixedMine, HoldsMine, files_of, mine_files, fixed_instance_of}
 use Rattle.commands.specs.declared.mine.FixedMine.{FixedMine}
 use Rattle.commands.proofs.Refusing.{model_refused, prec_refused, fixed_refused, pairs_refused, blocks_refused, has_no_clash, memory_refused, still}
 use Rattle.commands.proofs.mine.read_mine.Goals as goal
@@ -87,6 +88,16 @@ returns-in_err-fixed-clause-refused g c =
     let refused = subst (λ (h : Graph). RefusesFixed h lists e.refusal e) whole c.in_err-fixed.ensures.refused in
     rw (p.1, p.2) (blocks_refused e.refusal e files fixed_mine gave refused)
 
+pub returns-in_err-shared-clause-refused : goal.returns-in_err-shared-clause-refused
+returns-in_err-shared-clause-refused g c =
+    let files = files_of g.M.InBytes g.P.InBytes g.F.InBytes (mine_files c.args.model.now c.args.prec.now c.args.fixed.now) (mine_files c.read_upit.new.reader c.read_prec_rows.new.reader c.read_lists.new.fixed) in
+    let m = c.in_ok-model.ensures.answers in
+    let q = c.in_ok-needs.ensures.answers in
+    let p = err_from_is_err_and c.from_residual-in_err-shared.result c.from_residual-in_err-shared.ensures.1 in
+    rw (p.1, p.2) (memory_refused files (upit c.in_ok-model.model.n c.in_ok-model.model.values.items) c.in_ok-needs.needs.pairs _
+    (record { model_text = m.0; prec_text = q.0; model_given = m.1; prec_given = q.1; model_spelled = m.2; prec_spelled = q.2 })
+    c.in_ok-forced.ensures.given)
+
 pub returns-clause-mine : goal.returns-clause-mine
 returns-clause-mine g c =
     let files = files_of g.M.InBytes g.P.InBytes g.F.InBytes (mine_files c.args.model.now c.args.prec.now c.args.fixed.now) (mine_files c.read_upit.new.reader c.read_prec_rows.new.reader c.read_lists.new.fixed) in
@@ -108,4 +119,5 @@ returns-clause-mine g c =
       acyclic = c.in_ok-graph.ensures.acyclic;
       instance = c.law.ensures;
     } in
-    record { gave = gave; no_clash = has_no_clash fixed_mine (subst (λ (h : Graph). IsFixedOf h fixed) whole c.in_ok-fixed.ensures.of_graph) }
+    subst (λ (m : Instance). HoldsMine files (fixed_instance_of (record { mine = m; fixed = fixed }))) (sym c.in_ok-shared.ensures)
+    (record { gave = gave; no_clash = has_no_clash fixed_mine (subst (λ (h : Graph). IsFixedOf h fixed) whole c.in_ok-fixed.ensures.of_graph) })

@@ -51,7 +51,7 @@ loop-block-preserved c =
           let most = w.gain-amount.ensures.most in
           let fits : SFits w128 amount = omega (arith, ints) in
           let size = is.size in
-          let count = subst (λ (m : Instance). length m.values ≡ m.blocks) c.instance.ensures c.law.ensures.limits.value_count in
+          let count = c.law.ensures.limits.value_count in
           let sum : (value old block +ℤ amount) ≡ searched_value c.args.step.direction (price_of columns c.args.step.to block) = omega (arith, ints) in
           subst (λ (m : Instance). HasIncreased c.args.step.direction columns marks c.args.step.to (block + 1) old m) (sym (w.mine-is ∙ w.increase_value.ensures ∙ ap (raised_at mine block) (to_z-of_z w128 amount fits)))
           (risen_raised c.args.step.direction columns marks c.args.step.to block old mine amount is (omega arith) off sum)

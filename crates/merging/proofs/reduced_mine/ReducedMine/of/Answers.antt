@@ -4,9 +4,10 @@ use Rattle.std.specs.Prelude.{ℤ, map, pos}
 use Rattle.std.specs.Arc.{arc_value}
 use Rattle.std.proofs.lemmas.List.{ext_get_or, get_or-map, length-map}
 use Rattle.pit_model.specs.Graph.{Graph}
-use Rattle.pit_model.specs.Mine.{instance_of, value}
+use Rattle.pit_model.specs.Mine.{Instance, instance_of, value}
 use Rattle.pit_model.specs.Fixed.{IsFixedRest, fixed_of, graph_of_mine, is_open}
 use Rattle.mine_graph.specs.FixedBlocks.{forced_closure, barred_closure}
+use Rattle.merging.specs.Reduced.{IsRestIn}
 use Rattle.merging.proofs.SolvedPart.{blocks_below, graph_is}
 use Rattle.merging.proofs.reduced_mine.ReducedMine.of.Goals as goal
 
@@ -67,9 +68,10 @@ returns-clause-rest c =
     let inside : i < length c.deref-2.result.now = (let a = c.in_ok-values.ensures.count in omega arith) in
     let here : i < length blocks = omega arith in
     c.in_ok-values.ensures.each i inside ∙ ap (λ (xs : List ℕ). value mine (get_or xs i 0)) list ∙ sym (get_or-map (value mine) blocks i 0 (pos 0) here)) in
-    record {
+    subst (λ (m : Instance). IsRestIn mine fixed (record { blocks = part.blocks; mine = m })) (sym c.in_ok-mine.ensures)
+    (record {
       is_rest =
           subst (λ (g : Graph). IsFixedRest (graph_of_mine mine) (fixed_of fixed.lists) (forced_closure fixed) (barred_closure fixed) blocks g) own
           (subst (λ (g : Graph). IsFixedRest g (fixed_of fixed.lists) (forced_closure fixed) (barred_closure fixed) blocks part.graph) whole c.in_ok-part.ensures.rest);
       mine_is = ap (λ (vs : List ℤ). instance_of rest.blocks vs rest.pairs) (c.with_counters-rest.ensures.values ∙ values);
-    }
+    })
