@@ -8,11 +8,12 @@ import pandas as pd
 import pytest
 from helpers.block_scenarios import COLUMNS, TWO_YEARS, pillars, prepared, solved_in_turn
 from helpers.dumps import BOTH, FAR, NEAR
+from helpers.verified import wrong
 from helpers.verified_scenarios import answer_of, bend
 from helpers.writings import PLAIN
 
 import pitplan
-from pitplan import PlanError, verify
+from pitplan import PlanError
 from pitplan.studies.scenarios import worker
 
 RICH, POOR = [1, 0.5, 1], [0, 0.5, 0]
@@ -37,16 +38,16 @@ def shares_of(folder):
 
 
 def test_the_near_dump_fills_and_the_far_one_costs_more_by_hand(plan_folder):
-    """Each model alone has two pillars: waste of 100 t each year, of which 150 t fit into the near dump. The common schedule mines the outer pillars first:
+    """The own schedule of each model mines two pillars: waste of 100 t each year, of which 150 t fit into the near dump. The common schedule mines the outer pillars first:
     300 t of waste and 100 t of ore in each model, and then 100 t of waste."""
     folder = answered(plan_folder, pillars([1, 0.5, 0], [0, 0.5, 1]), BOTH)
-    table, told = rows_of(folder), json.loads((folder / "common_schedule.json").read_text())
+    table, record = rows_of(folder), json.loads((folder / "common_schedule.json").read_text())
     assert table["npv"].tolist() == pytest.approx([2500 / 1.1 + 400 / 1.21] * 2) == table["upper_bound"].tolist()
     assert table[["dump_near", "dump_far"]].to_numpy().tolist() == [[150, 50]] * 2
     common = (3000 - 800 - 150 - 450) / 1.1 + (600 - 300) / 1.21
     assert table["common_npv"].tolist() == pytest.approx([common] * 2)
-    assert told["npv_as_planned"] == pytest.approx(common, abs=1e-3)
-    assert told["dumps"] == {"near": 150, "far": 250} and not table["common_excess_waste_tonnes"].any()
+    assert record["npv_as_planned"] == pytest.approx(common, abs=1e-3)
+    assert record["dumps"] == {"near": 150, "far": 250} and not table["common_excess_waste_tonnes"].any()
     years = years_of(folder, "sim_1")
     assert years[["dump_near", "dump_far"]].to_numpy().tolist() == [[150, 150], [0, 100]]
     assert years["cash_flow"].tolist() == pytest.approx([1600, 300])
@@ -60,7 +61,7 @@ def test_a_scenario_with_more_waste_than_its_dump_holds_by_hand(plan_folder):
     for 400 t. The second model overfills it by 100 t in the second year, and is named in a warning."""
     path = plan_folder(pillars(RICH, POOR), TWO_YEARS + NEAR + "capacity = 400\n")
     folder = solved_in_turn(prepared(path))
-    with pytest.warns(pitplan.PlanWarning, match="in 1 scenarios the dumps take more than their limits, up to 100 t"):
+    with pytest.warns(pitplan.PlanWarning, match="in 1 scenario the dumps take more than their limits, up to 100 t"):
         pitplan.gather(folder, writing=PLAIN)
     table = rows_of(folder)
     assert table["common_excess_waste_tonnes"].tolist() == [0, 100]
@@ -75,14 +76,12 @@ def test_ore_of_some_models_falls_back_on_the_dump_with_room(plan_folder):
     folder = answered(plan_folder, pillars([1, 0, 0], [0, 0, 0]), words, ("years = 2", "years = 1"))
     gains = [3000 - 400 - 100, -400 - 100 - 300]
     assert rows_of(folder)["common_npv"].tolist() == pytest.approx([it / 1.1 for it in gains])
-    told = json.loads((folder / "common_schedule.json").read_text())
-    assert told["npv_as_planned"] == pytest.approx(sum(gains) / 2 / 1.1, abs=1e-3)
-    assert told["dumps"] == {"near": 100, "far": 50}
+    record = json.loads((folder / "common_schedule.json").read_text())
+    assert record["npv_as_planned"] == pytest.approx(sum(gains) / 2 / 1.1, abs=1e-3)
+    assert record["dumps"] == {"near": 100, "far": 50}
     found = shares_of(folder)
-    assert found.loc["b0-0-0", ["share_mill", "share_far"]].tolist() == [1, 1] and found["share_near"].tolist() == [
-        1,
-        0,
-    ]
+    assert found.loc["b0-0-0", ["share_mill", "share_far"]].tolist() == [1, 1]
+    assert found["share_near"].tolist() == [1, 0]
 
 
 @pytest.mark.parametrize("words", ['rock_type = ["FR"]', 'domain = ["1"]', "s_pct = { max = 0.3 }"])
@@ -149,7 +148,7 @@ def gathered(tmp_path_factory):
     far = FAR + 'capacity = 100\naccepts = { rock_type = ["FR"] }\n'
     periods = "[[periods]]\ndumps = { near = { max = 250 } }\n"
     (place / "project.toml").write_text(TWO_YEARS + NEAR + "capacity = 320\n" + far + periods)
-    with pytest.warns(pitplan.PlanWarning, match="in 1 scenarios the dumps take more than their limits"):
+    with pytest.warns(pitplan.PlanWarning, match="in 1 scenario the dumps take more than their limits"):
         solved_in_turn(prepared(place / "project.toml"))
     return place
 
@@ -157,10 +156,6 @@ def gathered(tmp_path_factory):
 @pytest.fixture
 def copied(gathered, tmp_path):
     return shutil.copytree(gathered, tmp_path / "mine") / "plan" / "block_scenarios"
-
-
-def wrong(folder):
-    return {rule.name for rule in verify(folder) if rule.differences}
 
 
 def test_what_is_written_is_verified(copied):

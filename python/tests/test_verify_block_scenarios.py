@@ -13,7 +13,7 @@ from helpers.block_problems import problem_of
 from helpers.block_scenarios import TWO_YEARS, pillars, prepared, solved_in_turn
 from helpers.random_projects import pick, project_of, table_of
 from helpers.random_tests import seeds
-from helpers.verified import TEXT
+from helpers.verified import TEXT, wrong
 from helpers.verified_scenarios import SETS, answer_of, bend, simulated
 from helpers.writings import PLAIN
 
@@ -43,10 +43,6 @@ def gathered(tmp_path_factory):
 @pytest.fixture
 def copied(gathered, tmp_path):
     return shutil.copytree(gathered, tmp_path / "mine") / "plan" / "block_scenarios"
-
-
-def wrong(folder):
-    return {rule.name for rule in verify_folder(folder) if rule.differences}
 
 
 def one_of(folder):

@@ -295,6 +295,7 @@ def notes(schedules: Schedules, shared: Shared) -> list[str]:
     )
     spread = f"{told['common_npv']['least']:,.0f} to {told['common_npv']['greatest']:,.0f}"
     excess = schedules.answered.get(f"common_{EXCESS}", pd.Series(dtype=float))
+    over = int((excess > 0).sum())
     share = f", {100 * told['perfect_information'] / bound:.2f} %" if bound > 0 else ""
     return [
         f"common schedule: mean NPV {one:,.0f} over {count:,} scenarios, from {spread}; "
@@ -305,10 +306,10 @@ def notes(schedules: Schedules, shared: Shared) -> list[str]:
         f"information (EVPI) is at most {told['perfect_information']:,.0f}{share}",
         *(
             [
-                f"{WARNING}in {(excess > 0).sum():,} scenarios the dumps take more than their limits, up to {excess.max():,.0f} t: no bound holds "
+                f"{WARNING}in {over:,} scenario{'s' * (over != 1)} the dumps take more than their limits, up to {excess.max():,.0f} t: no bound holds "
                 "for the common schedule there; add room or another of the [[dumps]]"
             ]
-            if (excess > 0).any()
+            if over
             else []
         ),
     ]
