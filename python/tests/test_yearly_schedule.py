@@ -431,7 +431,7 @@ def test_parcels_with_which_the_rule_takes_more_years_than_there_are_end_the_ref
     monkeypatch.setattr(pushback_schedule, "REFINEMENTS", 0)
     first, _ = scheduled(plan_folder)
 
-    def longer(schedule, rules):
+    def longer(schedule, optimum, rules):
         years = schedule.model.years + 6
         mined = np.zeros((len(schedule.benches), years))
         flows = none_of(replace(schedule.model, years=years), mined)

@@ -632,7 +632,7 @@ def relaxations(schedule: PushbackSchedule, rules: ScheduleRules, progress: Prog
         assert schedule.optimum is not None and schedule.upper_bound is not None
         if schedule.upper_bound - schedule.optimum.value <= FINE * abs(schedule.upper_bound):
             break
-        divided = in_finer_bins(schedule, rules)
+        divided = in_finer_bins(schedule, schedule.optimum, rules)
         # With other parcels the rule may take years that the programme and its bound do not have.
         if any(flows.years > divided.model.years for flows in divided.flows.values()):
             break
@@ -650,7 +650,8 @@ def relaxed(schedule: PushbackSchedule, progress: Progress) -> PushbackSchedule:
     minimums that lack, if no schedule meets them."""
     model, programme = schedule.model, FlowProgramme(schedule.model)
     size = f"{model.years} {schedule.settings.calendar.word}s and {len(model.ore):,} parcels, {len(programme.gain):,} variables"
-    with progress.step(f"solving the linear programme of {size}"):
+    done = "searching prices of limits for" if is_searched(programme, schedule.optimum) else "solving"
+    with progress.step(f"{done} the linear programme of {size}"):
         try:
             optimum = optimum_of(programme, schedule.optimum)
         except PlanError as error:
@@ -663,19 +664,23 @@ def relaxed(schedule: PushbackSchedule, progress: Progress) -> PushbackSchedule:
     return found if before is not None and before <= upper else replace(found, upper_bound=upper, prices=optimum.prices)
 
 
+def is_searched(programme: FlowProgramme, before: Optional[FlowOptimum]) -> bool:
+    """Returns whether a large programme is searched for prices in place of solved. Only the solution shows whether minimums can be met."""
+    return programme.is_large and (before is not None or not programme.model.asks_least)
+
+
 def optimum_of(programme: FlowProgramme, before: Optional[FlowOptimum]) -> FlowOptimum:
-    """Returns the optimum of a programme; of a large one nearly, from the prices of a coarser one. Only the solution shows whether minimums can be met."""
-    if not programme.is_large or (before is None and programme.model.asks_least):
+    """Returns the optimum of a programme; nearly, from the prices of a coarser one, if it is searched."""
+    if not is_searched(programme, before):
         return programme.solved()
     return Multipliers(programme).found({} if before is None else before.prices, ROUGH if before is None else CLOSE)
 
 
-def in_finer_bins(schedule: PushbackSchedule, rules: ScheduleRules) -> PushbackSchedule:
+def in_finer_bins(schedule: PushbackSchedule, optimum: FlowOptimum, rules: ScheduleRules) -> PushbackSchedule:
     """Returns the schedule with parcels of blocks that choose alike at the prices of the linear programme, and the rule's flows of these. Of a large
     programme choices count in the years that are near those in which the bench is mined, and ore above a limit of a grade is apart from ore below it.
     """
-    optimum, blocks = schedule.optimum, schedule.material.blocks
-    assert optimum is not None
+    blocks = schedule.material.blocks
     choices = bound.Lagrangian(FlowProgramme(replace(schedule.model, ore=blocks)), optimum.prices).choices[1]
     if FlowProgramme(schedule.model).is_large:
         is_near = years_near(optimum.cumulative, schedule.settings.calendar)

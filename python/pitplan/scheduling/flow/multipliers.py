@@ -24,10 +24,10 @@ from .bound import Lagrangian
 from .model import FlowModel
 from .programme import FlowOptimum, FlowProgramme
 
-# The first half width of the box, as a share of the value, and its changes: after a plane that is lower by half of what was expected, after
-# MISSES planes in turn that are not lower, and when no prices in the box promise more.
-WIDTH, WIDER, NARROWER, MISSES, AGAIN = 2e-3, 2.0, 0.5, 2, 4.0
-EXPECTED = 0.3
+# The first half width of the box, as a share of the value, and its changes: after a plane that is lower by the share EXPECTED of what the box promised,
+# after MISSES planes in turn that are not lower, and when no prices in the box promise more.
+WIDTH, WIDER, NARROWER, AGAIN = 2e-3, 2.0, 0.5, 4.0
+EXPECTED, MISSES = 0.3, 2
 # The greatest number of planes, and of times that the box is made wider at the end.
 MOST_PLANES, MOST_AGAIN = 150, 12
 

@@ -96,7 +96,7 @@ MANY = 60_000
 
 @dataclass(frozen=True)
 class FlowOptimum:
-    """The optimum of the linear programme.
+    """The optimum of the linear programme; of a large one nearly, by `Multipliers`.
 
     Attributes
     ----------
