@@ -234,14 +234,14 @@ def test_the_best_ore_is_that_of_a_linear_programme_of_all_limits(case):
 
 def test_a_limit_of_metal_holds_in_each_scenario(plan_folder):
     """Half a tonne of metal a block of grade 1, and three quarters a year: of two blocks of grade 1 the second goes by half to
-    the mill where both are dug. That scenario's own schedule digs one alone, since years are filled with whole blocks.
+    the mill.
     """
     text = TWO_YEARS.replace("processing_capacity = 100", "processing_capacity = 300")
     text = text.replace("years = 2", "years = 1\nmax_metal_per_year = { copper = 0.75 }")
     folder = answered(plan_folder, pillars([1, 0, 1], [0.5, 0, 0.5]), text)
     table = table_of(folder)
     assert table["common_npv"]["sim_1"] == pytest.approx((3000 + 1500 - 800) / 1.1)
-    assert table["recovered_copper"].tolist() == pytest.approx([0.5, 0.5])
+    assert table["recovered_copper"].tolist() == pytest.approx([0.75, 0.5])
     assert table["common_unprocessed_tonnes"].tolist() == pytest.approx([50, 0])
 
 

@@ -12,7 +12,7 @@ from helpers.random_tests import seeds
 
 from pitplan.config.schedule import Effort
 from pitplan.scheduling import highs_process
-from pitplan.scheduling.blocks import solve
+from pitplan.scheduling.blocks import scheduler, solve
 from pitplan.scheduling.blocks.filling import (
     BlockOrder,
     Filling,
@@ -27,7 +27,7 @@ from pitplan.scheduling.blocks.filling import (
 )
 from pitplan.scheduling.blocks.problem import Assignment, TotalLimit, nothing
 from pitplan.scheduling.blocks.relaxation import reduced, relaxed
-from pitplan.scheduling.blocks.window_milp import window_of
+from pitplan.scheduling.blocks.window_milp import WindowEffort, window_of
 
 
 @pytest.mark.slow
@@ -205,7 +205,7 @@ def test_a_window_frees_blocks_of_its_years_and_keeps_the_others():
     assert window.blocks.tolist() == [0, 2, 3] and window.part.limits[0].most.tolist() == [2, 1]
     assert [bounds.tolist() for bounds in window.bounds()] == [[1, 1, 1], [4, 4, 3]]
     # Room for one in the third year, where each earns one more than in the second: two stay, and any of them may be the third.
-    found = window.solved(Effort(0.0, 60.0))
+    found = window.solved(WindowEffort(0.0, 60.0))
     assert demand_sound(problem, found) == pytest.approx(2 + 2 + 3 + 3 + 1 + 5)
 
 
@@ -233,6 +233,23 @@ def test_windows_find_what_filling_misses(monkeypatch):
     assert min(gains) > -1e-6 and max(gains) > 1
 
 
+@pytest.mark.slow
+def test_a_schedule_far_below_its_bound_is_made_better_unasked(monkeypatch):
+    """No schedule is worse for it, some are better, and one within 1 % of its bound is left as it is."""
+    unasked, gains = scheduler.UNASKED, []
+    for problem in (random_problem(seed, most=50) for seed in range(4000, 4012)):
+        monkeypatch.setattr(scheduler, "UNASKED", WindowEffort(1.0))
+        before = solve(problem)
+        monkeypatch.setattr(scheduler, "UNASKED", unasked)
+        after = solve(problem)
+        assert demand_sound(problem, after.schedule) == pytest.approx(after.value)
+        assert after.value <= after.bound + 1e-6 * abs(after.bound)
+        gains.append((before.gap, after.value - before.value))
+    assert min(gain for _, gain in gains) > -1e-6
+    assert max(gain for gap, gain in gains if gap > 0.01) > 1
+    assert {gain for gap, gain in gains if gap <= 0.01} == {0.0}
+
+
 def test_an_interruption_behind_the_bound_gives_the_best_so_far(monkeypatch):
     problem = random_problem(3003, most=50)
     whole = solve(problem)
@@ -246,8 +263,13 @@ def test_an_interruption_behind_the_bound_gives_the_best_so_far(monkeypatch):
     assert 0 < demand_sound(problem, found.schedule) == pytest.approx(found.value) and found.value <= whole.value
 
 
-def test_an_interruption_while_a_window_is_solved_ends_its_process(highs_apart, monkeypatch):
+@pytest.mark.parametrize("effort", [Effort(0.0, 600.0), None])
+def test_an_interruption_while_a_window_is_solved_ends_its_process(effort, highs_apart, monkeypatch):
     """The process would take ten minutes."""
+    monkeypatch.setattr(scheduler, "UNASKED", WindowEffort(1.0))
+    filled = (it for it in map(random_problem, range(3000, 3100)) if it.years > 1 and solve(it).gap > 1e-3)
+    problem = next(filled)
+    value = solve(problem).value
     popen, begun = highs_process.subprocess.Popen, []
 
     def sleep(arguments, **options):
@@ -256,13 +278,10 @@ def test_an_interruption_while_a_window_is_solved_ends_its_process(highs_apart, 
         return begun[0]
 
     monkeypatch.setattr(highs_process.subprocess, "Popen", sleep)
-    problem = next(it for it in map(random_problem, range(3000, 3100)) if it.years > 1 and solve(it).gap > 1e-3)
-    found = solve(problem, Effort(0.0, 600.0))
-    assert (
-        found.interrupted
-        and begun[0].wait(5) != 0
-        and demand_sound(problem, found.schedule) == pytest.approx(solve(problem).value)
-    )
+    monkeypatch.setattr(scheduler, "UNASKED", WindowEffort(0.0, nodes=1))
+    found = solve(problem, effort)
+    assert found.interrupted and begun[0].wait(5) != 0
+    assert demand_sound(problem, found.schedule) == pytest.approx(value)
 
 
 def test_an_interruption_before_there_is_a_bound_is_passed_on(monkeypatch):

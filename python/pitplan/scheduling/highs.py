@@ -64,8 +64,9 @@ class Optimum:
     prices: Optional[np.ndarray] = None
 
 
-def optimum_of(programme: Programme, gap: float, seconds: Optional[float]) -> Optimum:
-    """The optimum; of an integer programme what is within the gap, a share of its bound, or has been found in the seconds.
+def optimum_of(programme: Programme, gap: float, seconds: Optional[float], nodes: Optional[int] = None) -> Optimum:
+    """The optimum; of an integer programme what is within the gap, a share of its bound, or has been found in the seconds or nodes of the
+    search.
 
     Raises RuntimeError where HiGHS finds nothing although its time is not up.
     """
@@ -77,13 +78,13 @@ def optimum_of(programme: Programme, gap: float, seconds: Optional[float]) -> Op
             raise RuntimeError(f"the linear programme: status {answer.status}: {answer.message}")
         return Optimum(answer.x, -float(answer.fun), np.maximum(-answer.ineqlin.marginals, 0.0))
     # With its presolve HiGHS finds some programmes infeasible that have a solution, and of others an optimum and a bound that are too low.
-    options: dict[str, Any] = {"mip_rel_gap": gap, "presolve": False}
+    options: dict[str, Any] = {"mip_rel_gap": gap, "presolve": False, "time_limit": seconds, "node_limit": nodes}
     answer = milp(
         -programme.gain,
         integrality=programme.whole.astype(int),
         bounds=Bounds(0, programme.upper),
         constraints=LinearConstraint(programme.matrix, -np.inf, programme.most),
-        options=options | ({} if seconds is None else {"time_limit": seconds}),
+        options={name: it for name, it in options.items() if it is not None},
     )
     if answer.status not in (DONE, OUT_OF_TIME):
         raise RuntimeError(f"the integer programme: status {answer.status}: {answer.message}")

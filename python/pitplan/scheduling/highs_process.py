@@ -83,9 +83,11 @@ def end_all() -> None:
         IDLE.pop().end()
 
 
-def solve(programme: Programme, effort: Effort = Effort(), patience: Optional[float] = None) -> Optimum:
-    """The optimum, in a process of its own unless it is a linear programme that takes no time. After this many seconds of `patience` that process is
-    ended, with nothing found, since HiGHS may go on for long when its own time is up.
+def solve(
+    programme: Programme, effort: Effort = Effort(), patience: Optional[float] = None, nodes: Optional[int] = None
+) -> Optimum:
+    """The optimum, in a process of its own unless it is a linear programme that takes no time; of an integer programme the best within the nodes.
+    After this many seconds of `patience` that process is ended, with nothing found, since HiGHS may go on for long when its own time is up.
 
     Raises PlanError where HiGHS finds nothing although its time is not up, and KeyboardInterrupt, with that process ended, where the run
     is interrupted.
@@ -95,7 +97,8 @@ def solve(programme: Programme, effort: Effort = Effort(), patience: Optional[fl
     with tempfile.TemporaryDirectory(prefix="pitplan-") as name:
         folder = Path(name)
         programme.save(folder)
-        (folder / highs.EFFORT).write_text(json.dumps({"gap": effort.gap, "seconds": effort.seconds}), encoding="ascii")
+        limits = {"gap": effort.gap, "seconds": effort.seconds, "nodes": nodes}
+        (folder / highs.EFFORT).write_text(json.dumps(limits), encoding="ascii")
         if not is_solved(folder, patience, is_kept=len(programme.gain) <= MANY):
             return Optimum(None, np.inf)
         with np.load(folder / highs.OPTIMUM) as found:

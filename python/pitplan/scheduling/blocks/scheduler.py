@@ -19,10 +19,12 @@ from pitplan.errors import PlanError
 from .filling import ALL, LEAST, BlockOrder, Divided, Filling, blended, divided, moved, sequences, with_best_shares
 from .problem import Assignment, BlockProblem, demand_room, demand_sound, nothing
 from .relaxation import Reduced, Relaxation, Round, first_required, reduced, relaxed_as_required
-from .window_milp import Window, WindowSize, sizes_of, window_of
+from .window_milp import Window, WindowEffort, WindowSize, least_size, sizes_of, window_of
 
 # The relaxation is solved to this share of its bound.
 RELAXED = 1e-4
+# Without `milp` each window is solved once if the gap is greater than this one. Most of what a search finds, it finds at its first node.
+UNASKED = WindowEffort(gap=0.01, nodes=1)
 # The time limit of a window's programme, in seconds, and the time after which its process is ended.
 WINDOW_SECONDS, PATIENCE = 60.0, 180.0
 # HiGHS ends within this number of seconds after its time limit, or much later.
@@ -64,7 +66,8 @@ def solve(problem: BlockProblem, effort: Optional[Effort] = None, progress: Prog
     """The bound of all schedules and the best schedule that was found.
 
     With an effort integer programmes make the schedule better until it is within the effort's gap, a share of the bound, or its seconds are
-    over, those of the bound among them. Once there is a bound, Ctrl-C stops the search and keeps the best schedule.
+    over, those of the bound among them. Without one, each window of two years is solved once if the gap is above 1 %. Once there is a bound,
+    Ctrl-C stops the search and keeps the best schedule.
 
     Raises PlanError where the problem has a fault or is too large, no schedule keeps what must be held at least, or none was found that
     does, and KeyboardInterrupt where it is interrupted before there is a bound.
@@ -91,7 +94,9 @@ def solve(problem: BlockProblem, effort: Optional[Effort] = None, progress: Prog
             search.fill()
             search.move()
             search.keep_minimums(began)
-            if effort is not None:
+            if effort is None:
+                search.improve()
+            else:
                 search.windows(effort, began)
     except KeyboardInterrupt:
         search.demand_kept()
@@ -207,6 +212,19 @@ class Search:
         why = "no schedule of whole blocks was found that meets the minimums; one with parts of blocks does"
         raise PlanError(f"{why}: {'; '.join(missed)}: reduce the minimums, or increase [schedule] milp seconds")
 
+    def improve(self) -> None:
+        """Solves each small window once, while the gap is above that of UNASKED."""
+        for window in self.each_window(least_size(self.problem)):
+            if self.gap <= UNASKED.gap:
+                return
+            self.offer(self.solved(window, UNASKED))
+
+    def each_window(self, size: WindowSize) -> Iterator[Window]:
+        """The windows of a size, from the first year on, each of the best schedule so far."""
+        for first in range(self.problem.years - size.years + 1):
+            years = range(first, first + size.years)
+            yield window_of(self.problem, self.best, self.relaxation.cumulative, years, most=size.unknowns)
+
     def windows(self, effort: Effort, began: float) -> None:
         """Solves window after window again, larger ones once none has become better, until the gap is reached or the seconds are over."""
         for size in sizes_of(self.problem):
@@ -217,29 +235,23 @@ class Search:
         """Solves each window of a size once, or until nothing lacks of what must be held at least; gives whether
         the schedule has become better and there is time left."""
         before = self.best
-        for first in range(self.problem.years - size.years + 1):
+        for window in self.each_window(size):
             left = np.inf if effort.seconds is None else effort.seconds - (time.monotonic() - began)
             is_kept = not self.best.lacking(self.problem)
             if left <= 0 or (is_kept and (until_kept or self.gap <= effort.gap)):
                 return False
-            window = window_of(
-                self.problem,
-                self.best,
-                self.relaxation.cumulative,
-                range(first, first + size.years),
-                most=size.unknowns,
-            )
-            self.offer(self.solved(window, Effort(effort.gap, min(left, WINDOW_SECONDS)), min(PATIENCE, left + LATE)))
+            limits = WindowEffort(effort.gap, min(left, WINDOW_SECONDS), min(PATIENCE, left + LATE))
+            self.offer(self.solved(window, limits))
         return self.best.is_better(before, self.problem)
 
-    def solved(self, window: Window, effort: Effort, patience: float) -> Assignment:
+    def solved(self, window: Window, effort: WindowEffort) -> Assignment:
         """The schedule with a window solved again, unless that was done of the same blocks in the same years."""
         tried = (window.first, window.last), window.blocks.tobytes(), self.best.year[window.blocks].tobytes()
         if not len(window.blocks) or tried in self.tried:
             return self.best
         self.tried.add(tried)
         with self.progress.step(f"re-optimising years {window.first + 1} to {window.last}, gap {100 * self.gap:.2f} %"):
-            return window.solved(effort, patience)
+            return window.solved(effort)
 
     @property
     def gap(self) -> float:

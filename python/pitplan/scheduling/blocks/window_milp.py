@@ -10,7 +10,7 @@ from __future__ import annotations
 from collections.abc import Iterator
 from dataclasses import dataclass
 from functools import cached_property
-from typing import NamedTuple
+from typing import NamedTuple, Optional
 
 import numpy as np
 from numpy.typing import NDArray
@@ -25,10 +25,26 @@ from .filling import ranks_of
 from .problem import MOST_UNKNOWNS, Assignment, BlockLimit, BlockProblem, TotalLimit
 from .relaxation import earliest_years
 
-# A window has at first about FEWER integer unknowns at most, and at most MOST_YEARS years unless all blocks fit.
-FEWER, MOST_YEARS = 2_500, 4
+# A window has at first about FEWER integer unknowns at most, and at most MOST_YEARS years unless all blocks fit. Of up to FEW unknowns all years take
+# no time.
+FEW, FEWER, MOST_YEARS = 500, 2_500, 4
 # The penalty of a minimum that is missed entirely, as a multiple of what all free blocks earn or cost.
 LACKING = 10.0
+
+
+class WindowEffort(NamedTuple):
+    """When the programme of a window is good enough, and when its search ends.
+
+    gap       to its bound, as a share of it
+    seconds   of its time
+    patience  seconds after which its process is ended, with nothing found
+    nodes     of its search; other than seconds they do not depend on the machine
+    """
+
+    gap: float
+    seconds: Optional[float] = None
+    patience: Optional[float] = None
+    nodes: Optional[int] = None
 
 
 class Running(NamedTuple):
@@ -210,13 +226,12 @@ class Window:
         matrix = csr_matrix((-np.ones(len(some)), (np.arange(len(some)), at)), shape=(len(some), self.width))
         return matrix, -np.ones(len(some))
 
-    def solved(self, effort: Effort, patience: float = np.inf) -> Assignment:
-        """The schedule with the best that was found in the window, or unchanged where that is no better, or is not found in this many
-        seconds of patience.
+    def solved(self, effort: WindowEffort) -> Assignment:
+        """The schedule with the best that the effort found in the window, or unchanged where that is no better, or nothing was found.
 
         Raises PlanError where HiGHS fails, and KeyboardInterrupt where it is interrupted.
         """
-        found = solve(self.programme(), effort, None if np.isinf(patience) else patience)
+        found = solve(self.programme(), Effort(effort.gap, effort.seconds), effort.patience, effort.nodes)
         if found.unknowns is None:
             return self.schedule
         problem, truths = self.problem, self.place.size
@@ -236,6 +251,13 @@ class WindowSize(NamedTuple):
 
     years: int
     unknowns: int
+
+
+def least_size(problem: BlockProblem) -> WindowSize:
+    """The size of windows that take little time: all years of a very small problem, otherwise two."""
+    if problem.blocks * problem.years <= FEW:
+        return WindowSize(problem.years, FEW)
+    return WindowSize(min(2, problem.years), FEWER)
 
 
 def sizes_of(problem: BlockProblem) -> list[WindowSize]:
