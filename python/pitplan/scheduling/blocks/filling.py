@@ -211,7 +211,7 @@ class Filling:
         problem, room = self.problem, Room(self.problem)
         year, destination = [problem.years] * problem.blocks, [0] * problem.blocks
         for block, first in zip(sequence.order.tolist(), sequence.earliest[sequence.order].tolist()):
-            ready = max((year[other] for other in self.needed[block]), default=0)
+            ready = max(map(year.__getitem__, self.needed[block]), default=0)
             place = self.place(block, range(max(first, ready), problem.years), room)
             if place is not None:
                 year[block], destination[block] = place
@@ -321,7 +321,7 @@ class BlockOrder:
 def sequences(
     problem: BlockProblem, ranks: Ranks, cumulative: NDArray[np.float64], shares: tuple[float, ...] = LEAST
 ) -> Iterator[BlockOrder]:
-    """Orders by the expected year, and by that in which a part of a block is mined, with years from which on blocks may be mined.
+    """Orders by the expected year, and by that in which a part of a block is mined, with years from which on blocks may be mined; each once.
 
     cumulative  the share of each block that the relaxation has mined by the end of each year: shape (blocks, years)
     shares      the least share that the relaxation mines of the blocks of an order
@@ -330,10 +330,13 @@ def sequences(
     begun = np.where(cumulative[:, -1] > SOLVER_SUM, (cumulative > SOLVER_SUM).argmax(axis=1), years)
     expected = years - cumulative.sum(axis=1)
     keys = (expected, *((cumulative < part - SOLVER_SUM).sum(axis=1) for part in PARTS))
-    orders = [in_order(problem, ranks, key, expected) for key in keys]
+    orders, yielded = [in_order(problem, ranks, key, expected) for key in keys], set()
     for order, least, earlier in product(orders, shares, EARLIER):
-        earliest = np.zeros_like(begun) if earlier is None else np.maximum(begun - earlier, 0)
-        yield BlockOrder(order[cumulative[order, -1] >= least], earliest)
+        mined = order[cumulative[order, -1] >= least]
+        if (mined.tobytes(), earlier) not in yielded:
+            yielded.add((mined.tobytes(), earlier))
+            earliest = np.zeros_like(begun) if earlier is None else np.maximum(begun - earlier, 0)
+            yield BlockOrder(mined, earliest)
 
 
 def in_order(problem: BlockProblem, ranks: Ranks, key: NDArray, second: NDArray) -> NDArray[np.int64]:
@@ -380,8 +383,8 @@ class Moving:
     def move(self, block: int) -> bool:
         """Moves a block to the year and destination where it earns most, of those that have room; gives whether it has moved."""
         now = self.year[block], self.destination[block]
-        first = max((self.year[other] for other in self.filling.needed[block]), default=0)
-        last = min((self.year[other] for other in self.users[block]), default=self.last)
+        first = max(map(self.year.__getitem__, self.filling.needed[block]), default=0)
+        last = min(map(self.year.__getitem__, self.users[block]), default=self.last)
         worth = self.worth[block]
         self.room.take(block, now[1], now[0], -1)
         best = now
