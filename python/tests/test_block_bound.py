@@ -21,18 +21,10 @@ from hypothesis import given, strategies as st
 from pitplan import PlanError
 from pitplan.config.schedule import Effort
 from pitplan.scheduling.blocks import problem as problems, relaxation
+from pitplan.scheduling.blocks.closure import priced
 from pitplan.scheduling.blocks.filling import ranks_of
 from pitplan.scheduling.blocks.problem import BlockLimit, BlockProblem, demand_sound, upward
-from pitplan.scheduling.blocks.relaxation import (
-    Groups,
-    History,
-    Master,
-    earliest_years,
-    priced,
-    reduced,
-    relaxed,
-    worth_mining,
-)
+from pitplan.scheduling.blocks.relaxation import Groups, History, Master, earliest_years, reduced, relaxed, worth_mining
 
 
 def first_years(problem):

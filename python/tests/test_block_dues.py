@@ -12,8 +12,9 @@ from scipy.optimize import Bounds, LinearConstraint, linprog, milp
 from pitplan import PlanError
 from pitplan.config.schedule import Effort
 from pitplan.scheduling.blocks import solve
+from pitplan.scheduling.blocks.closure import priced
 from pitplan.scheduling.blocks.problem import TotalLimit, demand_sound as demand_problem
-from pitplan.scheduling.blocks.relaxation import priced, reduced, relaxed, worth_mining
+from pitplan.scheduling.blocks.relaxation import reduced, relaxed, worth_mining
 
 
 def with_dues(problem, seed):

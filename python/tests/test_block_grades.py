@@ -19,12 +19,12 @@ from pitplan import PlanError
 from pitplan.config.schedule import Effort
 from pitplan.core.progress import silent
 from pitplan.scheduling.blocks import relaxation, solve
+from pitplan.scheduling.blocks.closure import priced
 from pitplan.scheduling.blocks.filling import paying, ranks_of, schedule_of
 from pitplan.scheduling.blocks.problem import Assignment, BlockLimit, demand_sound as demand_problem
 from pitplan.scheduling.blocks.relaxation import (
     earliest_years,
     first_required,
-    priced,
     reduced,
     relaxed,
     relaxed_as_required,

@@ -18,8 +18,9 @@ import pitplan
 from pitplan import PlanError
 from pitplan.config.schedule import Effort
 from pitplan.scheduling.blocks import solve
+from pitplan.scheduling.blocks.closure import priced
 from pitplan.scheduling.blocks.problem import Assignment, demand_sound as demand_problem
-from pitplan.scheduling.blocks.relaxation import priced, relaxed
+from pitplan.scheduling.blocks.relaxation import relaxed
 
 
 def costly(seed, most):

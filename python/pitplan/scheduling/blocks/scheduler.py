@@ -17,6 +17,7 @@ from pitplan.core.tolerances import SUM_ERROR
 from pitplan.errors import PlanError
 
 from .filling import ALL, LEAST, BlockOrder, Divided, Filling, blended, divided, moved, sequences, with_best_shares
+from .merged_years import groups_by_merged_years
 from .problem import Assignment, BlockProblem, demand_room, demand_sound, nothing
 from .relaxation import Reduced, Relaxation, Round, first_required, reduced, relaxed_as_required
 from .window_milp import Window, WindowEffort, WindowSize, least_size, sizes_of, window_of
@@ -85,8 +86,9 @@ def solve(problem: BlockProblem, effort: Optional[Effort] = None, progress: Prog
         return Scheduled(nothing(problem), 0.0, 0.0, 0, 0)
     progress.say(f"computing the upper bound: {part.problem.blocks:,} blocks, {len(part.nodes):,} nodes")
     until = Effort(RELAXED, effort.seconds if effort else None)
+    groups = groups_by_merged_years(part.nodes, progress)
     part, relaxation = relaxed_as_required(
-        problem, part, until, progress, tell=lambda found: progress.say(line_of(found))
+        problem, part, until, progress, tell=lambda found: progress.say(line_of(found)), groups=groups
     )
     search = Search(part, relaxation, progress)
     try:
