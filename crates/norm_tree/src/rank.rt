@@ -1,11 +1,25 @@
 //! The rank of a tree, a potential function that each merger lowers: first the sum of the positive excesses, then the number of
 //! weak blocks.
-ghost use Rattle.std.specs.Prelude.{◌≡◌, ◌≤◌, pos};
-ghost use Rattle.pit_model.specs.Rank.{positive_excess, rank, weak_count};
+ghost use Rattle.std.specs.Prelude.{◌≡◌, ◌<◌, ◌≤◌, pos, ◌≤ℤ◌};
+ghost use Rattle.pit_model.specs.Flow.{excess};
+ghost use Rattle.pit_model.specs.Limits.{most_worth};
+ghost use Rattle.pit_model.specs.Rank.{positive_excess, positive_part, rank, weak_count};
+ghost use Rattle.pit_model.specs.Tree.{flow};
 
 use crate::tree::NormTree;
 
 impl NormTree {
+    /// Returns the excess of a block if it is above 0, and otherwise 0.
+    fn positive_part(&self, block: u32) -> i128
+        requires { block < self.now.mine.blocks }
+        ensures part { result ≡ positive_part (excess self.now.mine (flow self.now.tree) block) }
+        ensures least { pos 0 ≤ℤ result }
+        ensures most { result ≤ℤ pos most_worth }
+    {
+        self.law();
+        self.excess(block).max(0)
+    }
+
     /// Returns the sum of the excesses above 0.
     fn positive_sum(&self) -> i128
         ensures { result ≡ positive_excess self.now.mine self.now.tree }
@@ -13,10 +27,7 @@ impl NormTree {
         self.law();
         let mut sum = 0;
         for block in 0..self.instance().graph().n() {
-            let excess = self.excess(block);
-            if excess > 0 {
-                sum += excess;
-            }
+            sum += self.positive_part(block);
         }
         sum
     }
