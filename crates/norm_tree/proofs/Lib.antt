@@ -16,3 +16,4 @@ mod Ranking
 mod Rising
 mod Over
 mod Ends
+mod Room

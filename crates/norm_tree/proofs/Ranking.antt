@@ -1,5 +1,5 @@
 -- The rank fits its type: no value is above 10^23, and there are at most 2^22 blocks.
-use Rattle.std.proofs.Common.{◌≡◌, ℕ, zero, suc, ◌+◌, ◌*◌, ◌^◌, ◌<◌, ◌≤◌, true, false, ap, ◌∙◌, arith, ⊎_elim, List, get_or, length, rules}
+use Rattle.std.proofs.Common.{◌≡◌, ℕ, zero, suc, ◌+◌, ◌*◌, ◌^◌, ◌<◌, ◌≤◌, true, false, arith, ⊎_elim, rules}
 use Rattle.std.specs.Prelude.{ℤ, pos, negsuc, ◌+ℤ◌, ◌*ℤ◌, ◌≤ℤ◌, int_lt, FitsSigned}
 use Rattle.std.proofs.lemmas.Bool.{cases_Bool}
 use Rattle.std.proofs.Math.Nat.{mul-le-mul_right, mul-le-mul_left}
@@ -12,8 +12,6 @@ use Rattle.pit_model.specs.Flow.{excess}
 use Rattle.pit_model.specs.Tree.{Tree, flow, IsNormalised}
 use Rattle.pit_model.specs.Limits.{IsInstance, most_worth}
 use Rattle.pit_model.specs.Rank.{positive_part, positive_excess, positive_worth, rank}
-use Rattle.norm_tree.specs.Excesses.{AreTreeExcesses}
-use Rattle.pit_model.proofs.Sums.{total-same}
 use Rattle.pit_model.proofs.Simple.{instance_is_simple}
 use Rattle.pit_model.proofs.Bound.{flows_stay_within_limits}
 use Rattle.pit_model.proofs.RankBound.{positive_excess_most}
@@ -80,13 +78,5 @@ module _ (mine : Instance) (tree : Tree) (good : IsInstance mine) (normalised : 
   pub rank_cast : to_z w128 (of_z w128 (rank mine tree)) ≡ rank mine tree
   rank_cast = to_z-of_z w128 (rank mine tree) rank_fits
 
-  module _ (excesses : List ℤ) (count : length excesses ≡ mine.blocks) (are : AreTreeExcesses mine excesses tree.flows) where
-    pub excesses_small : (u : ℕ) → u < length excesses → get_or excesses u (pos 0) ≤ℤ pos most_worth
-    excesses_small u l =
-        let below : u < mine.blocks = omega arith in
-        rw (are u below) ((flows_stay_within_limits mine tree good normalised).1 u below).1
-
-    pub sum_is : total (length excesses) (λ u. positive_part (get_or excesses u (pos 0))) ≡ positive_excess mine tree
-    sum_is =
-        ap (λ n. total n (λ u. positive_part (get_or excesses u (pos 0)))) count
-        ∙ total-same mine.blocks (λ u. positive_part (get_or excesses u (pos 0))) (λ u. positive_part (excess mine (flow tree) u)) (λ u l. ap positive_part (are u l))
+  pub excess_most : (u : ℕ) → u < mine.blocks → excess mine (flow tree) u ≤ℤ pos most_worth
+  excess_most u l = ((flows_stay_within_limits mine tree good normalised).1 u l).1

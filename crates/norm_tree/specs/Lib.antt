@@ -6,5 +6,4 @@ pub mod Runs
 pub mod Labelled
 pub mod Walk
 pub mod Renewal
-pub mod Excesses
 pub mod Over

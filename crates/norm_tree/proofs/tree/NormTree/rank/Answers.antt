@@ -1,4 +1,4 @@
--- The sum of the kept excesses is the sum of the excesses, and neither the product nor the sum leaves the type.
+-- Neither the product nor the sum leaves the type.
 use Rattle.std.proofs.Common.{ap, ◌∙◌, rules}
 use Rattle.std.specs.Prelude.{pos}
 use Rattle.pit_model.specs.Graph.{Graph}
@@ -6,11 +6,8 @@ use Rattle.pit_model.specs.Mine.{Instance}
 use Rattle.std.proofs.lemmas.Int.{to_z-of_z}
 use mir.Val.{SFits}
 use mir.Syntax.{w128}
-use Rattle.norm_tree.proofs.Ranking.{excesses_small, sum_is, one_more, product_fits, product_cast, rank_fits, rank_cast}
+use Rattle.norm_tree.proofs.Ranking.{one_more, product_fits, product_cast, rank_fits, rank_cast}
 use Rattle.norm_tree.proofs.tree.NormTree.rank.Goals as goal
-
-pub positive_sum-requires-clause-small : goal.positive_sum-requires-clause-small
-positive_sum-requires-clause-small c = excesses_small c.args.self.now.mine c.args.self.now.tree c.law.ensures.instance c.law.ensures.normalised c.excesses.result.now c.excesses.ensures.count c.excesses.ensures.excesses
 
 pub overflow_mul-result : goal.overflow_mul-result
 overflow_mul-result c =
@@ -18,7 +15,7 @@ overflow_mul-result c =
     let tree = c.args.self.now.tree in
     let good = c.law.ensures.instance in
     let fits : SFits w128 c.positive_sum.result = search rules in
-    let sum = to_z-of_z w128 c.positive_sum.result fits ∙ c.positive_sum.ensures ∙ sum_is mine tree good c.law.ensures.normalised c.excesses.result.now c.excesses.ensures.count c.excesses.ensures.excesses in
+    let sum = to_z-of_z w128 c.positive_sum.result fits ∙ c.positive_sum.ensures in
     let n = c.n.ensures ∙ ap (λ (g : Graph). g.blocks) c.deref.ensures ∙ c.graph.ensures.blocks ∙ ap (λ (m : Instance). m.blocks) c.instance.ensures in
     let more = one_more c.from-blocks.result mine.blocks (c.from-blocks.ensures ∙ ap pos n) good.limits.few_blocks in
     rw (sum, more) (product_fits mine tree good c.law.ensures.normalised)
@@ -29,7 +26,7 @@ overflow_add-result-2 c =
     let tree = c.args.self.now.tree in
     let good = c.law.ensures.instance in
     let fits : SFits w128 c.positive_sum.result = search rules in
-    let sum = to_z-of_z w128 c.positive_sum.result fits ∙ c.positive_sum.ensures ∙ sum_is mine tree good c.law.ensures.normalised c.excesses.result.now c.excesses.ensures.count c.excesses.ensures.excesses in
+    let sum = to_z-of_z w128 c.positive_sum.result fits ∙ c.positive_sum.ensures in
     let n = c.n.ensures ∙ ap (λ (g : Graph). g.blocks) c.deref.ensures ∙ c.graph.ensures.blocks ∙ ap (λ (m : Instance). m.blocks) c.instance.ensures in
     let more = one_more c.from-blocks.result mine.blocks (c.from-blocks.ensures ∙ ap pos n) good.limits.few_blocks in
     let fits_weak : SFits w128 c.from.result = search rules in
@@ -42,7 +39,7 @@ returns c =
     let tree = c.args.self.now.tree in
     let good = c.law.ensures.instance in
     let fits : SFits w128 c.positive_sum.result = search rules in
-    let sum = to_z-of_z w128 c.positive_sum.result fits ∙ c.positive_sum.ensures ∙ sum_is mine tree good c.law.ensures.normalised c.excesses.result.now c.excesses.ensures.count c.excesses.ensures.excesses in
+    let sum = to_z-of_z w128 c.positive_sum.result fits ∙ c.positive_sum.ensures in
     let n = c.n.ensures ∙ ap (λ (g : Graph). g.blocks) c.deref.ensures ∙ c.graph.ensures.blocks ∙ ap (λ (m : Instance). m.blocks) c.instance.ensures in
     let more = one_more c.from-blocks.result mine.blocks (c.from-blocks.ensures ∙ ap pos n) good.limits.few_blocks in
     let fits_weak : SFits w128 c.from.result = search rules in
