@@ -1,5 +1,5 @@
 -- Each arc lies in the row of its block.
-use Rattle.std.proofs.Common.{◌≡◌, ℕ, ◌+◌, ◌-◌, ap, arith, ⊎_elim}
+use Rattle.std.proofs.Common.{◌≡◌, ◌+◌, ◌-◌, ap, arith, ⊎_elim}
 use Rattle.std.proofs.lemmas.Bool.{cases_eq}
 use Rattle.pit_model.specs.Graph.{first_of, second_of}
 use Rattle.mine_graph.proofs.no_cycle.need_higher.Goals as goal
