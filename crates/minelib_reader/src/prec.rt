@@ -400,7 +400,7 @@ pub fn read_prec_rows<R: InBytes>(
     read_pieces(alloc, reader, n)
 }
 
-/// Reads the same pairs as a list. It holds rows and list at the same time; [`read_prec_rows`] holds the rows alone.
+/// Reads the same pairs as a list. It holds rows, targets and list at the same time; [`read_prec_rows`] holds the rows alone.
 ///
 /// # Errors
 /// Those of [`read_prec_rows`].
