@@ -25,7 +25,7 @@ pairs_rise n starts needs pairs rows range rise is =
     let same = pairs_are_one n starts needs pairs (pairs_of starts needs) rows is (spell n starts needs rows) in
     let within = subst (λ q. AreInRange q n) same range in
     subst AreRising (sym same)
-    (rows_rising (pairs_of starts needs) starts needs n within (csr_offsets starts needs n rows) (seconds_of_rows starts needs) rise)
+    (rows_rising (pairs_of starts needs) starts needs n (λ k l. (within k l).0) (csr_offsets starts needs n rows) (seconds_of_rows starts needs) rise)
 
 same_in_range : (ps qs : List (ℕ × ℕ)) (n : ℕ) → AreSamePairs ps qs → AreInRange qs n → AreInRange ps n
 same_in_range ps qs n same range k l =

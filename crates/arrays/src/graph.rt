@@ -9,7 +9,7 @@ ghost use Rattle.arrays.specs.Refused.{RefusesRows, RefusesNeedArrays};
 use crate::array_error::ArrayError;
 use crate::needs::{first_of_itself, first_outside, first_repeated};
 use crate::rows::are_rows;
-use csr::{Csr, CsrView};
+use csr::{CsrView, SharedRows};
 use faults::Refusal;
 use mine_graph::Graph;
 use std::alloc::Global;
@@ -20,7 +20,7 @@ const MOST_BLOCKS: usize = 4_194_304;
 const MOST_PAIRS: usize = 67_108_864;
 
 /// The rows, where each pair is of two blocks that there are and stands once.
-fn sound_rows(alloc: Global, blocks: u32, rows: CsrView<'_>) -> Result<Csr, ArrayError>
+fn sound_rows(alloc: Global, blocks: u32, rows: CsrView<'_>) -> Result<SharedRows, ArrayError>
     requires few_blocks { blocks ≤ most_blocks }
     requires few_pairs { length rows.targets.now ≤ most_pairs }
     requires rows { AreRows blocks rows }
@@ -48,11 +48,11 @@ fn sound_rows(alloc: Global, blocks: u32, rows: CsrView<'_>) -> Result<Csr, Arra
             place,
         });
     }
-    Ok(Csr::from_view(alloc, rows)?)
+    Ok(SharedRows::from_view(alloc, blocks, rows)?)
 }
 
 /// The graph of the pairs of rows, or the cycle that they have.
-fn graph_of_rows(alloc: Global, blocks: u32, rows: Csr) -> Result<Arc<Graph>, ArrayError>
+fn graph_of_rows(alloc: Global, blocks: u32, rows: SharedRows) -> Result<Arc<Graph>, ArrayError>
     requires few_blocks { blocks ≤ most_blocks }
     requires few_pairs { length rows.pairs ≤ most_pairs }
     requires rows { rows.blocks ≡ blocks }

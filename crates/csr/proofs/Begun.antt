@@ -1,12 +1,18 @@
 -- Rows as they grow, and rows that are closed.
-use Rattle.std.proofs.Common.{◌≡◌, ℕ, zero, suc, ◌+◌, ◌-◌, ◌<◌, ◌≤◌, leb, refl, sym, ap, subst, ◌∙◌, arith, ⊎_elim, List, [], ◌∷◌, ◌++◌, get_or, length}
+use Rattle.std.proofs.Common.{◌≡◌, ℕ, zero, suc, ◌+◌, ◌-◌, ◌<◌, ◌≤◌, ◌↔◌, leb, refl, sym, ap, subst, ◌∙◌, arith, ⊎_elim, List, [], ◌∷◌, ◌++◌, get_or, length}
 use Rattle.std.proofs.lemmas.Bool.{cases_eq, cases_lt, le-leb, lt-leb}
 use Rattle.std.proofs.lemmas.List.{same_lists, get_or_default, length_push, get_or_append_left, get_or_at}
 use Rattle.pit_model.specs.Graph.{first_of}
-use Rattle.csr.specs.Rows.{row_at, pairs_of, BeginFrom, IsCsr, IsGrowing}
+use Rattle.csr.specs.Rows.{row_at, pairs_of, IsCsr, IsGrowing}
 use Rattle.csr.proofs.Offsets.{AreOffsets}
 use Rattle.csr.proofs.Count.{count-front, count-le}
 use Rattle.csr.proofs.Spelled.{length-pairs_of, pair_same, pairs_of-at, row_at-begins, row_at-between, row_at-cut, row_at-ends}
+
+-- further rows begin at a place, after those that have begun
+pub record BeginFrom (offsets : List ℕ) (place : ℕ) (more : List ℕ) : Type 0 where
+  pub longer : length offsets ≤ length more
+  pub kept : (v : ℕ) → v < length offsets → get_or more v 0 ≡ get_or offsets v 0
+  pub begin : (v : ℕ) → length offsets ≤ v → v < length more → get_or more v 0 ≡ place
 
 module _ (offsets : List ℕ) (places : ℕ) (begun : IsGrowing offsets places) where
   pub begun_some : 0 < length offsets
@@ -185,4 +191,18 @@ csr_offsets offsets targets n rows =
           let begins = row_at-begins offsets rise k (omega arith) (omega arith) in
           let ends = row_at-ends offsets rise k (omega arith) in
           (subst (λ w. get_or offsets w 0 ≤ k) at begins, subst (λ w. k < get_or offsets (w + 1) 0) at ends);
+    }
+
+-- offsets that say which arcs are a block's
+pub own_offsets : (pairs : List (ℕ × ℕ)) (offsets : List ℕ) (n count : ℕ) → n ≡ count → IsCsr n (length pairs) offsets
+    → ((u k : ℕ) → u < n → k < length pairs → (first_of pairs k ≡ u) ↔ ((get_or offsets u 0 ≤ k) × (k < get_or offsets (u + 1) 0)))
+    → AreOffsets pairs offsets count
+own_offsets pairs offsets n count same rows own =
+    let last = rows.last in
+    let rise = λ (v : ℕ) (h : v < n). csr_rise offsets n (length pairs) rows (v + 1) n (omega arith) (omega arith) in
+    record {
+      size = rows.count ∙ ap (λ m. m + 1) same;
+      rises = λ v h. (rows.rising v (omega arith), omega (arith, rise v (omega arith)));
+      owns = λ v k h from to. (own v k (omega arith) (omega (arith, rise v (omega arith)))).1 (from, to);
+      found = λ v k h l e. (own v k (omega arith) l).0 e;
     }

@@ -11,3 +11,4 @@ pub mod Twice
 pub mod Pigeon
 pub mod Queue
 pub mod Patterns
+pub mod Built

@@ -79,17 +79,22 @@ module _ (offsets patterns differences : List ℕ) (are : AreShared offsets patt
   pub difference_inside : (u k : ℕ) → u < length patterns → get_or offsets u 0 ≤ k → k < get_or offsets (u + 1) 0 → get_or patterns u 0 + (k - get_or offsets u 0) < length differences
   difference_inside u k below from to = let inside = are.inside u below in omega arith
 
+  pub shared-in : (u k : ℕ) → u < length patterns → get_or offsets u 0 ≤ k → k < get_or offsets (u + 1) 0
+      → get_or (shared_targets offsets patterns differences) k 0 ≡ target_after u (get_or differences (get_or patterns u 0 + (k - get_or offsets u 0)) 0)
+  shared-in u k below from to =
+      let size = are.rows.count in
+      let rise = begun_rise offsets (get_or offsets (length patterns) 0) (csr_grows offsets (length patterns) (get_or offsets (length patterns) 0) are.rows) in
+      let inside : k < get_or offsets (length patterns) 0 = omega (arith, rise (u + 1) (length patterns) (omega arith) (omega arith)) in
+      let row : row_at offsets k ≡ u = row_at-between offsets rise u k (omega arith) from to in
+      shared-at offsets patterns differences k inside ∙ ap (λ v. shared_target offsets patterns differences v k) row
+
   pub second_shared : (u k : ℕ) → u < length patterns → get_or offsets u 0 ≤ k → k < get_or offsets (u + 1) 0
       → second_of (pairs_of offsets (shared_targets offsets patterns differences)) k ≡ target_after u (get_or differences (get_or patterns u 0 + (k - get_or offsets u 0)) 0)
   second_shared u k below from to =
       let size = are.rows.count in
       let long = length-shared offsets patterns differences in
       let rise = begun_rise offsets (get_or offsets (length patterns) 0) (csr_grows offsets (length patterns) (get_or offsets (length patterns) 0) are.rows) in
-      let inside : k < get_or offsets (length patterns) 0 = omega (arith, rise (u + 1) (length patterns) (omega arith) (omega arith)) in
-      let row : row_at offsets k ≡ u = row_at-between offsets rise u k (omega arith) from to in
-      second_at offsets (shared_targets offsets patterns differences) k (omega arith)
-      ∙ shared-at offsets patterns differences k inside
-      ∙ ap (λ v. shared_target offsets patterns differences v k) row
+      second_at offsets (shared_targets offsets patterns differences) k (omega (arith, rise (u + 1) (length patterns) (omega arith) (omega arith))) ∙ shared-in u k below from to
 
   -- lists with the targets of the arcs are the same
   pub targets_are : (targets : List ℕ) → length targets ≡ length (pairs_of offsets (shared_targets offsets patterns differences))

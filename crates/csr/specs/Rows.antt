@@ -25,12 +25,6 @@ pub record IsGrowing (offsets : List ℕ) (places : ℕ) : Type 0 where
   pub closed : IsCsr (length offsets - 1) (get_or offsets (length offsets - 1) 0) offsets
   pub within : get_or offsets (length offsets - 1) 0 ≤ places
 
--- further rows begin at a place, after those that have begun
-pub record BeginFrom (offsets : List ℕ) (place : ℕ) (more : List ℕ) : Type 0 where
-  pub longer : length offsets ≤ length more
-  pub kept : (v : ℕ) → v < length offsets → get_or more v 0 ≡ get_or offsets v 0
-  pub begin : (v : ℕ) → length offsets ≤ v → v < length more → get_or more v 0 ≡ place
-
 -- the target of each arc stands at the arc's place
 pub record AreTargets (pairs : List (ℕ × ℕ)) (targets : List ℕ) : Type 0 where
   pub count : length targets ≡ length pairs

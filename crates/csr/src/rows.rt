@@ -4,11 +4,9 @@ ghost use Rattle.pit_model.specs.Graph.{first_of, second_of};
 ghost use Rattle.csr.specs.Rows.{pairs_of, IsCsr};
 ghost use Rattle.csr.specs.View.{pairs_in, AreRows};
 
-use crate::builder::CsrBuilder;
 use crate::view::CsrView;
 use std::alloc::{AllocError, Global};
 use std::marker::Model;
-use std::ops::Range;
 
 /// The arcs of blocks 0 to `blocks` - 1, in compressed rows: 4 bytes for each arc and 4 for each block.
 #[derive(Drop)]
@@ -49,42 +47,6 @@ impl Csr {
         (offsets, targets)
     }
 
-    /// Copies borrowed rows.
-    ///
-    /// # Errors
-    ///
-    /// If memory runs out.
-    pub fn from_view(alloc: Global, rows: CsrView<'_>) -> Result<Csr, AllocError>
-        requires { AreRows (length rows.offsets.now - 1) rows }
-        ensures blocks { IfOk result (λ r. r.blocks ≡ length rows.entry.offsets.now - 1) }
-        ensures pairs { IfOk result (λ r. r.pairs ≡ pairs_in rows.entry) }
-    {
-        Ok(Csr::from_closed(
-            Vec::from_slice(alloc, rows.offsets)?,
-            Vec::from_slice(alloc, rows.targets)?,
-        ))
-    }
-
-    /// Returns the rows of `blocks` blocks with these arcs, which are sorted by their first block.
-    ///
-    /// # Errors
-    ///
-    /// If memory runs out.
-    pub fn from_pairs(alloc: Global, blocks: u32, pairs: &[(u32, u32)]) -> Result<Csr, AllocError>
-        requires few { length pairs.now < 2 ^ 32 }
-        requires order { (k l : ℕ) → k ≤ l → l < length pairs.now → first_of pairs.now k ≤ first_of pairs.now l }
-        requires below { (k : ℕ) → k < length pairs.now → first_of pairs.now k < blocks }
-        ensures blocks { IfOk result (λ r. r.blocks ≡ blocks) }
-        ensures pairs { IfOk result (λ r. r.pairs ≡ pairs.now) }
-    {
-        let mut rows = CsrBuilder::new(alloc)?;
-        for k in 0..pairs.len() {
-            rows.open_row(pairs[k].0)?;
-            rows.push(pairs[k].1)?;
-        }
-        rows.finish(blocks)
-    }
-
     /// Borrows the rows.
     pub fn view(&self) -> CsrView<'_>
         ensures rows { AreRows self.now.blocks result }
@@ -99,31 +61,6 @@ impl Csr {
     /// Returns the allocator of the rows.
     pub fn alloc(&self) -> Global {
         *self.targets.allocator()
-    }
-
-    /// Returns the number of arcs.
-    pub fn len(&self) -> usize
-        ensures { result ≡ length self.now.pairs }
-    {
-        self.targets.len()
-    }
-
-    /// Returns the range of places of a block's arcs.
-    pub fn row(&self, u: u32) -> Range<u32>
-        requires { u < self.now.blocks }
-        ensures order { result.start ≤ result.end }
-        ensures inside { result.end ≤ length self.now.pairs }
-        ensures own { (k : ℕ) → k < length self.now.pairs → (first_of self.now.pairs k ≡ u) ↔ ((result.start ≤ k) × (k < result.end)) }
-    {
-        self.offsets[u as usize]..self.offsets[u as usize + 1]
-    }
-
-    /// Returns the target of arc `k`.
-    pub fn target(&self, k: u32) -> u32
-        requires { k < length self.now.pairs }
-        ensures { result ≡ second_of self.now.pairs k }
-    {
-        self.targets[k as usize]
     }
 
     /// Copies the arcs into a list, in order.

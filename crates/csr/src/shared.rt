@@ -1,13 +1,16 @@
 //! Compressed rows that share equal parts (dictionary encoding). A row is kept as the differences from its block to its targets, and
 //! rows with the same differences share one list of them, their pattern. A mine on a grid has few patterns: its rows differ only at
 //! the walls of the grid.
-ghost use Rattle.std.specs.Prelude.{◌≡◌, ◌↔◌, ℕ, ◌+◌, ◌^◌, ◌<◌, ◌≤◌, length, get_or, IfOk};
-ghost use Rattle.pit_model.specs.Graph.{first_of, second_of};
-ghost use Rattle.csr.specs.Rows.{IsCsr};
-ghost use Rattle.csr.specs.Shared.{target_after};
+ghost use Rattle.std.specs.Prelude.{◌≡◌, ◌↔◌, ℕ, ◌+◌, ◌^◌, ◌<◌, ◌≤◌, IsTrue, length, get_or, IfOk};
+ghost use Rattle.pit_model.specs.Graph.{first_of, second_of, AreRising};
+ghost use Rattle.csr.specs.Rows.{pairs_of, IsCsr};
+ghost use Rattle.csr.specs.Shared.{shared_targets, target_after, AreShared};
+ghost use Rattle.csr.specs.View.{pairs_in, AreRows};
 
+use crate::builder::CsrBuilder;
 use crate::rows::Csr;
 use crate::sharing::{SLOTS, share_rows};
+use crate::view::CsrView;
 use std::alloc::{AllocError, Global};
 use std::marker::Model;
 use std::ops::Range;
@@ -45,6 +48,68 @@ impl Model for SharedRows {
 }
 
 impl SharedRows {
+    /// Returns the rows of these arrays.
+    pub(crate) fn from_closed(
+        offsets: Vec<u32>,
+        patterns: Vec<u32>,
+        differences: Vec<u32>,
+    ) -> SharedRows
+        requires { AreShared offsets.items patterns.items differences.items }
+        ensures blocks { result.blocks ≡ length patterns.items }
+        ensures pairs { result.pairs ≡ pairs_of offsets.items (shared_targets offsets.items patterns.items differences.items) }
+    {
+        SharedRows {
+            offsets,
+            patterns,
+            differences,
+        }
+    }
+
+    /// Returns the rows of `blocks` blocks with these arcs, which are sorted by their first block.
+    ///
+    /// # Errors
+    ///
+    /// If memory runs out.
+    pub fn from_pairs(
+        alloc: Global,
+        blocks: u32,
+        pairs: &[(u32, u32)],
+    ) -> Result<SharedRows, AllocError>
+        requires few { length pairs.now < 2 ^ 32 }
+        requires order { (k l : ℕ) → k ≤ l → l < length pairs.now → first_of pairs.now k ≤ first_of pairs.now l }
+        requires below { (k : ℕ) → k < length pairs.now → first_of pairs.now k < blocks }
+        ensures blocks { IfOk result (λ r. r.blocks ≡ blocks) }
+        ensures pairs { IfOk result (λ r. r.pairs ≡ pairs.now) }
+    {
+        let mut rows = CsrBuilder::new(alloc)?;
+        for k in 0..pairs.len() {
+            rows.open_row(pairs[k].0)?;
+            rows.push(pairs[k].1)?;
+        }
+        rows.finish(blocks)
+    }
+
+    /// Copies borrowed rows of `n` blocks.
+    ///
+    /// # Errors
+    ///
+    /// If memory runs out.
+    pub fn from_view(alloc: Global, n: u32, rows: CsrView<'_>) -> Result<SharedRows, AllocError>
+        requires few { length rows.targets.now < 2 ^ 32 }
+        requires rows { AreRows n rows }
+        ensures blocks { IfOk result (λ r. r.blocks ≡ n) }
+        ensures pairs { IfOk result (λ r. r.pairs ≡ pairs_in rows.entry) }
+    {
+        let mut shared = CsrBuilder::new(alloc)?;
+        for u in 0..n {
+            shared.open_row(u)?;
+            for k in rows.offsets[u as usize]..rows.offsets[u as usize + 1] {
+                shared.push(rows.targets[k as usize])?;
+            }
+        }
+        shared.finish(n)
+    }
+
     /// Returns rows with the same arcs. The differences take the memory of the targets, and what they leave is released.
     ///
     /// # Errors
@@ -87,6 +152,23 @@ impl SharedRows {
             }
         }
         Ok(Csr::from_closed(Vec::from_slice(alloc, &self.offsets)?, targets))
+    }
+
+    /// Returns whether the arcs are sorted by (block, target).
+    pub(crate) fn is_sorted(&self) -> bool
+        requires { self.now.blocks < 2 ^ 32 }
+        ensures { IsTrue result ↔ AreRising self.now.pairs }
+    {
+        for u in 0..self.patterns.len() as u32 {
+            let row = self.shared_row(u);
+            for i in 1..row.differences.len() {
+                let before = u.wrapping_add(row.differences[i - 1]);
+                if before >= u.wrapping_add(row.differences[i]) {
+                    return false;
+                }
+            }
+        }
+        true
     }
 
     /// Returns the allocator of the rows.

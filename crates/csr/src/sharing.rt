@@ -86,6 +86,35 @@ fn share_row(numbers: &mut [u32], row: Span, used: usize, guess: usize, recent: 
     used
 }
 
+/// Shares the row of `block`, whose targets are the numbers from `begin` on. Returns the place of its pattern; its differences take
+/// the place of the targets if no earlier pattern leads to them, and are removed otherwise.
+pub(crate) fn share_last(
+    numbers: &mut Vec<u32>,
+    block: u32,
+    begin: usize,
+    guess: usize,
+    recent: &mut [u32],
+) -> usize
+    requires begin { begin ≤ length numbers.old.items }
+    requires few { begin < 2 ^ 32 }
+    requires slots { length recent.old ≡ 1024 }
+    ensures leads { LeadTo numbers.new.items result block numbers.old.items begin (length numbers.old.items) }
+    ensures inside { result + (length numbers.old.items - begin) ≤ length numbers.new.items }
+    ensures place { result ≤ begin }
+    ensures kept { begin ≤ length numbers.new.items }
+    ensures upto { length numbers.new.items ≤ length numbers.old.items }
+    ensures before { (k : ℕ) → k < begin → get_or numbers.new.items k 0 ≡ get_or numbers.old.items k 0 }
+{
+    let row = Span {
+        block,
+        begin,
+        end: numbers.len(),
+    };
+    let place = share_row(numbers, row, begin, guess, recent);
+    numbers.truncate(begin.max(place + (row.end - row.begin)));
+    place
+}
+
 /// Writes the differences of all rows over their targets, and the place of each row's pattern. Returns the number of differences.
 pub(crate) fn share_rows(
     offsets: &[u32],

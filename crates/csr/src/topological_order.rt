@@ -3,25 +3,27 @@
 ghost use Rattle.std.specs.Prelude.{◌≡◌, ℕ, suc, ◌+◌, ◌^◌, ◌<◌, ◌≤◌, length, get_or, IfOk, IfSome, IfNone};
 ghost use Rattle.pit_model.specs.Graph.{second_of, AreInRange};
 ghost use Rattle.pit_model.specs.Cycle.{IsLeast};
-ghost use Rattle.csr.specs.View.{pairs_in, AreRows};
 ghost use Rattle.csr.specs.Count.{count};
 ghost use Rattle.csr.specs.Queue.{leads_to, IsQueue, IsProcessed, IsAllProcessed};
 ghost use Rattle.csr.specs.Left.{left_over};
 
-use crate::rows::Csr;
-use crate::view::CsrView;
+use crate::shared::SharedRows;
 use std::alloc::{AllocError, Global};
 
 /// Counts the predecessors of each block.
-fn count_in_degrees(rows: CsrView<'_>, left: &mut [u32])
-    requires few { length (pairs_in rows) < 2 ^ 32 }
-    requires range { (k : ℕ) → k < length (pairs_in rows) → second_of (pairs_in rows) k < length left.old }
+fn count_in_degrees(rows: &SharedRows, left: &mut [u32])
+    requires few { length rows.now.pairs < 2 ^ 32 }
+    requires range { (k : ℕ) → k < length rows.now.pairs → second_of rows.now.pairs k < length left.old }
+    requires blocks { rows.now.blocks < 2 ^ 32 }
     requires zero { (v : ℕ) → v < length left.old → get_or left.old v 0 ≡ 0 }
-    ensures { (u : ℕ) → u < length left.old → get_or left.new u 0 ≡ count (length (pairs_in rows.entry)) (leads_to (pairs_in rows.entry) u) }
+    ensures { (u : ℕ) → u < length left.old → get_or left.new u 0 ≡ count (length rows.now.pairs) (leads_to rows.now.pairs u) }
 {
-    for i in 0..rows.targets.len() {
-        let block = rows.targets[i] as usize;
-        left[block] += 1;
+    let offsets = rows.offsets();
+    for u in 1..offsets.len() {
+        for k in offsets[u - 1]..offsets[u] {
+            let block = rows.target(u as u32 - 1, k) as usize;
+            left[block] += 1;
+        }
     }
 }
 
@@ -43,26 +45,27 @@ fn queue_sources(left: &[u32], order: &mut [u32]) -> usize
 
 /// Processes the arcs of the block at `head` and returns the new length of the queue.
 fn process_head(
-    rows: CsrView<'_>,
+    rows: &SharedRows,
     head: usize,
     left: &mut [u32],
     order: &mut [u32],
     tail: usize,
 ) -> usize
-    requires range { (k : ℕ) → k < length (pairs_in rows) → second_of (pairs_in rows) k < length left.old }
-    requires rows { AreRows (length left.old) rows }
+    requires range { (k : ℕ) → k < length rows.now.pairs → second_of rows.now.pairs k < length left.old }
+    requires blocks { rows.now.blocks ≡ length left.old }
     requires same { length order.old ≡ length left.old }
     requires head { head < tail }
-    requires settled { IsProcessed (pairs_in rows) left.old order.old tail head }
-    ensures settled { IsProcessed (pairs_in rows.entry) left.new order.new result (suc head) }
+    requires settled { IsProcessed rows.now.pairs left.old order.old tail head }
+    ensures settled { IsProcessed rows.now.pairs left.new order.new result (suc head) }
     ensures grows { tail ≤ result }
 {
-    let block = order[head] as usize;
-    let begin = rows.offsets[block] as usize;
-    let end = rows.offsets[block + 1] as usize;
+    let block = order[head];
+    let offsets = rows.offsets();
+    let begin = offsets[block as usize];
+    let end = offsets[block as usize + 1];
     let mut last = tail;
     for k in begin..end {
-        let user = rows.targets[k];
+        let user = rows.target(block, k);
         left[user as usize] -= 1;
         if left[user as usize] == 0 {
             order[last] = user;
@@ -73,14 +76,14 @@ fn process_head(
 }
 
 /// Processes blocks in topological order and returns the final length of the queue.
-fn topological_order(rows: CsrView<'_>, left: &mut [u32], order: &mut [u32]) -> usize
-    requires few { length (pairs_in rows) < 2 ^ 32 }
+fn topological_order(rows: &SharedRows, left: &mut [u32], order: &mut [u32]) -> usize
+    requires few { length rows.now.pairs < 2 ^ 32 }
     requires few_blocks { length left.old < 2 ^ 32 }
-    requires range { (k : ℕ) → k < length (pairs_in rows) → second_of (pairs_in rows) k < length left.old }
+    requires range { (k : ℕ) → k < length rows.now.pairs → second_of rows.now.pairs k < length left.old }
     requires zero { (v : ℕ) → v < length left.old → get_or left.old v 0 ≡ 0 }
-    requires rows { AreRows (length left.old) rows }
+    requires blocks { rows.now.blocks ≡ length left.old }
     requires same { length order.old ≡ length left.old }
-    ensures { IsProcessed (pairs_in rows.entry) left.new order.new result result }
+    ensures { IsProcessed rows.now.pairs left.new order.new result result }
 {
     count_in_degrees(rows, left);
     let mut tail = queue_sources(left, order);
@@ -99,7 +102,7 @@ fn topological_order(rows: CsrView<'_>, left: &mut [u32], order: &mut [u32]) -> 
 /// # Errors
 ///
 /// If memory runs out.
-pub fn in_degrees_left(alloc: Global, n: u32, rows: &Csr) -> Result<Vec<u32>, AllocError>
+pub fn in_degrees_left(alloc: Global, n: u32, rows: &SharedRows) -> Result<Vec<u32>, AllocError>
     requires few { length rows.now.pairs < 2 ^ 32 }
     requires blocks { rows.now.blocks ≡ n }
     requires range { AreInRange rows.now.pairs n }
@@ -108,7 +111,7 @@ pub fn in_degrees_left(alloc: Global, n: u32, rows: &Csr) -> Result<Vec<u32>, Al
 {
     let mut left = vec![in alloc; 0; n as usize]?;
     let mut order = vec![in alloc; 0; n as usize]?;
-    topological_order(rows.view(), &mut left, &mut order);
+    topological_order(rows, &mut left, &mut order);
     Ok(left)
 }
 

@@ -8,7 +8,7 @@ ghost use Rattle.faults.specs.Refused.{no_memory};
 ghost use Rattle.pit_model.specs.Mine.{arcs};
 
 use crate::lowest_label::{merge_by_lowest_label, mergers_by_lowest_label};
-use csr::{Csr, CsrBuilder};
+use csr::{CsrBuilder, SharedRows};
 use faults::Fault;
 use mine_graph::{Graph, Instance, acyclic_is_well_founded, marked_numbers};
 use norm_tree::BareTree;
@@ -57,7 +57,7 @@ fn link_marks(alloc: Global, tree: &BareTree) -> Result<Vec<bool>, AllocError>
 }
 
 /// Returns the arcs with these numbers, as rows.
-fn pairs_at(alloc: Global, graph: &Graph, arcs: &[u32]) -> Result<Csr, AllocError>
+fn pairs_at(alloc: Global, graph: &Graph, arcs: &[u32]) -> Result<SharedRows, AllocError>
     requires below { (i : ℕ) → i < length arcs.now → get_or arcs.now i 0 < length graph.now.pairs }
     requires rising { (i j : ℕ) → i < j → j < length arcs.now → get_or arcs.now i 0 < get_or arcs.now j 0 }
     requires few { length arcs.now ≤ length graph.now.pairs }

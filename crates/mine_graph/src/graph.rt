@@ -57,7 +57,7 @@ impl Graph {
     {
         let mut pairs = pairs;
         pairs.sort_unstable();
-        let rows = Csr::from_pairs(alloc, n, &pairs)?;
+        let rows = SharedRows::from_pairs(alloc, n, &pairs)?;
         drop(pairs);
         Graph::of_rows(alloc, n, rows)
     }
@@ -67,7 +67,7 @@ impl Graph {
     ///
     /// # Errors
     /// `NoMemory`, and `Cycle` with the cycle of the pairs where they have one.
-    pub fn of_rows(alloc: Global, n: u32, rows: Csr) -> Result<Graph, Fault>
+    pub fn of_rows(alloc: Global, n: u32, rows: SharedRows) -> Result<Graph, Fault>
         requires few_blocks { n ≤ most_blocks }
         requires few_pairs { length rows.pairs ≤ most_pairs }
         requires rows { rows.blocks ≡ n }
@@ -87,7 +87,7 @@ impl Graph {
     pub(crate) fn of_acyclic_rows(
         alloc: Global,
         n: u32,
-        predecessors: Csr,
+        predecessors: SharedRows,
     ) -> Result<Graph, AllocError>
         requires few_blocks { n ≤ most_blocks }
         requires few_pairs { length predecessors.pairs ≤ most_pairs }
@@ -96,10 +96,10 @@ impl Graph {
         ensures blocks { IfOk result (λ g. g.blocks ≡ n) }
         ensures pairs { IfOk result (λ g. g.pairs ≡ predecessors.pairs) }
     {
-        let row_samples = sample_rows(alloc, n, predecessors.view())?;
+        let row_samples = sample_rows(alloc, n, &predecessors)?;
         Ok(Graph {
             blocks: n,
-            predecessors: SharedRows::from_rows(alloc, predecessors)?,
+            predecessors,
             row_samples,
         })
     }
@@ -202,7 +202,8 @@ impl Graph {
         ensures no_memory { IfErr result (λ e. e ≡ no_memory) }
     {
         self.law();
-        let predecessors = self.successors()?;
+        let turned = self.successors()?;
+        let predecessors = SharedRows::from_rows(self.alloc(), turned)?;
         Ok(Graph::of_acyclic_rows(self.alloc(), self.blocks, predecessors)?)
     }
 

@@ -7,20 +7,20 @@ ghost use Rattle.mine_graph.specs.Directions.{NeedLower, NeedHigher};
 ghost use Rattle.mine_graph.specs.Faults.{IsGraphFault};
 
 use crate::cycle::cycle_of;
-use csr::{Csr, first_left, in_degrees_left, transposed_rows};
+use csr::{SharedRows, first_left, in_degrees_left, transposed_rows};
 use faults::{Fault, Refusal, Source};
 use std::alloc::Global;
 
 /// Returns whether each block needs blocks of lower numbers alone.
-fn need_lower(n: u32, rows: &Csr) -> bool
+fn need_lower(n: u32, rows: &SharedRows) -> bool
     requires range { AreInRange rows.now.pairs n }
     requires blocks { rows.now.blocks ≡ n }
     ensures { IsTrue result ↔ NeedLower rows.now.pairs }
 {
     for u in 0..n {
-        let row = rows.row(u);
-        for k in row.start..row.end {
-            if rows.target(k) >= u {
+        let row = rows.shared_row(u);
+        for i in 0..row.differences.len() {
+            if u.wrapping_add(row.differences[i]) >= u {
                 return false;
             }
         }
@@ -29,15 +29,15 @@ fn need_lower(n: u32, rows: &Csr) -> bool
 }
 
 /// Returns whether each block needs blocks of higher numbers alone.
-fn need_higher(n: u32, rows: &Csr) -> bool
+fn need_higher(n: u32, rows: &SharedRows) -> bool
     requires range { AreInRange rows.now.pairs n }
     requires blocks { rows.now.blocks ≡ n }
     ensures { IsTrue result ↔ NeedHigher rows.now.pairs }
 {
     for u in 0..n {
-        let row = rows.row(u);
-        for k in row.start..row.end {
-            if rows.target(k) <= u {
+        let row = rows.shared_row(u);
+        for i in 0..row.differences.len() {
+            if u.wrapping_add(row.differences[i]) <= u {
                 return false;
             }
         }
@@ -46,7 +46,7 @@ fn need_higher(n: u32, rows: &Csr) -> bool
 }
 
 /// Errors: the cycle that the pairs have, if they have one (14); lack of memory (1).
-fn refuse_cycle(alloc: Global, n: u32, rows: &Csr) -> Result<(), Fault>
+fn refuse_cycle(alloc: Global, n: u32, rows: &SharedRows) -> Result<(), Fault>
     requires few_blocks { n < 2 ^ 31 }
     requires few { length rows.now.pairs < 2 ^ 32 }
     requires range { AreInRange rows.now.pairs n }
@@ -55,13 +55,14 @@ fn refuse_cycle(alloc: Global, n: u32, rows: &Csr) -> Result<(), Fault>
     ensures acyclic { IfOk result (λ _. IsAcyclic rows.now.pairs) }
     ensures refused { IfErr result (IsGraphFault rows.now.pairs n) }
 {
-    let transposed = transposed_rows(alloc, n, rows.view())?;
+    let plain = rows.to_rows()?;
+    let transposed = SharedRows::from_rows(alloc, transposed_rows(alloc, n, plain.view())?)?;
     let left = in_degrees_left(alloc, n, &transposed)?;
     match first_left(&left) {
         None => Ok(()),
         Some(first) => Err(Fault::at_line(
             Source::Precedence,
-            Refusal::Cycle(cycle_of(alloc, rows.view(), &left, first)?),
+            Refusal::Cycle(cycle_of(alloc, plain.view(), &left, first)?),
             0,
         )),
     }
@@ -69,7 +70,7 @@ fn refuse_cycle(alloc: Global, n: u32, rows: &Csr) -> Result<(), Fault>
 
 /// Errors: the cycle that the pairs have, if they have one (14); lack of memory (1). Without a cycle it allocates for the blocks
 /// at most.
-pub fn check_acyclic(alloc: Global, n: u32, rows: &Csr) -> Result<(), Fault>
+pub fn check_acyclic(alloc: Global, n: u32, rows: &SharedRows) -> Result<(), Fault>
     requires few_blocks { n < 2 ^ 31 }
     requires few { length rows.now.pairs < 2 ^ 32 }
     requires range { AreInRange rows.now.pairs n }

@@ -1,10 +1,9 @@
 //! Finds the row of a place by binary search between samples: the rows of every 64th place, which take a 64th of the places' memory.
 ghost use Rattle.std.specs.Prelude.{◌≡◌, ℕ, ◌+◌, ◌^◌, ◌<◌, ◌≤◌, length, get_or, IfOk};
 ghost use Rattle.pit_model.specs.Graph.{AreInRange};
-ghost use Rattle.csr.specs.View.{pairs_in, AreRows};
 ghost use Rattle.mine_graph.specs.RowSamples.{AreRowSamples};
 
-use csr::CsrView;
+use csr::SharedRows;
 use std::alloc::{AllocError, Global};
 
 /// The number of places from one sample to the next.
@@ -36,17 +35,18 @@ pub fn next_row_sample(row_samples: &[u32], mark: usize, last: u32) -> u32
 }
 
 /// Samples the row of every 64th place.
-pub fn sample_rows(alloc: Global, n: u32, rows: CsrView<'_>) -> Result<Vec<u32>, AllocError>
-    requires few { length (pairs_in rows) < 2 ^ 31 }
+pub fn sample_rows(alloc: Global, n: u32, rows: &SharedRows) -> Result<Vec<u32>, AllocError>
+    requires few { length rows.now.pairs < 2 ^ 31 }
     requires few_blocks { n < 2 ^ 31 }
-    requires range { AreInRange (pairs_in rows) n }
-    requires rows { AreRows n rows }
-    ensures { IfOk result (λ v. AreRowSamples (pairs_in rows.entry) v.items) }
+    requires range { AreInRange rows.now.pairs n }
+    requires blocks { rows.now.blocks ≡ n }
+    ensures { IfOk result (λ v. AreRowSamples rows.now.pairs v.items) }
 {
-    let mut row_samples = Vec::with_capacity(alloc, rows.targets.len() / STEP + 1)?;
+    let mut row_samples = Vec::with_capacity(alloc, rows.len() / STEP + 1)?;
+    let offsets = rows.offsets();
     let last = n.saturating_sub(1);
-    for i in 0..rows.targets.len().div_ceil(STEP) {
-        row_samples.push(row_between(rows.offsets, 0, last, (i * STEP) as u32))?;
+    for i in 0..rows.len().div_ceil(STEP) {
+        row_samples.push(row_between(offsets, 0, last, (i * STEP) as u32))?;
     }
     Ok(row_samples)
 }

@@ -1,6 +1,6 @@
 -- Reading the predecessors of a block one after the other, with marks for those that were seen.
-use Rattle.std.proofs.Common.{◌≡◌, ◌≢◌, ℕ, ◌+◌, ◌<◌, drop, map, Bool, true, false, eqb, ◌||◌, List, [], ◌∷◌, ◌++◌, length, get_or, set, Result, Ok, Err, refl, sym, ap, ◌∙◌, append_assoc, arith, tests, rules, Some, ltb, ◌≤◌, get_or-set_same, get_or-set_other, eq-eqb}
-use Rattle.std.proofs.lemmas.List.{append-nil, map-append}
+use Rattle.std.proofs.Common.{◌≡◌, ◌≢◌, ℕ, ◌+◌, ◌-◌, ◌<◌, drop, map, Bool, true, false, eqb, ◌||◌, List, [], ◌∷◌, ◌++◌, length, get_or, set, Result, Ok, Err, refl, sym, ap, ◌∙◌, append_assoc, arith, tests, rules, Some, ltb, ◌≤◌, get_or-set_same, get_or-set_other, eq-eqb}
+use Rattle.std.proofs.lemmas.List.{append-nil, get_or-append_right, get_or-map, length-append, length-map, map-append}
 use Rattle.std.proofs.Math.Seq.{drop-append_seam}
 use Rattle.std.proofs.lemmas.Bool.{eqb-true, eqb-false, ne_eqb}
 use Rattle.std.proofs.lemmas.List.Folds.{list_any-append, list_any_none}
@@ -10,6 +10,7 @@ use Rattle.faults.specs.declared.fault.Fault.{Fault}
 use Rattle.minelib_reader.specs.Checks.{◌>>=◌}
 use Rattle.minelib_reader.specs.Marks.{AddsFirst, AreMarked, with_seen}
 use Rattle.pit_model.specs.Fixed.{is_among}
+use Rattle.pit_model.specs.Graph.{first_of}
 use Rattle.minelib_reader.specs.Number.{whole_of}
 use Rattle.minelib_reader.specs.Prec.{need_of, needs_from, pairs_of_line}
 
@@ -150,6 +151,17 @@ rises_none n id all old = record {
 needs_named : (id : ℕ) (needs : List ℕ) → map (λ pair. pair.1) (pairs_of_line id needs) ≡ needs
 needs_named id [] = refl
 needs_named id (p ∷ ps) = ap (λ (xs : List ℕ). p ∷ xs) (needs_named id ps)
+
+-- the pairs that were added last are of this block
+pub named_own : (id : ℕ) (old : List (ℕ × ℕ)) (needs : List ℕ) (new : List (ℕ × ℕ)) (count : ℕ) → count ≡ length old → new ≡ old ++ pairs_of_line id needs
+    → (k : ℕ) → count ≤ k → k < length new → first_of new k ≡ id
+named_own id old needs new count same is k from to =
+    let pair : ℕ → ℕ × ℕ = λ p. (id, p) in
+    let long = ap (λ (ps : List (ℕ × ℕ)). length ps) is in
+    let mapped = length-map needs pair in
+    ap (λ (ps : List (ℕ × ℕ)). first_of ps k) is
+    ∙ ap (λ (q : ℕ × ℕ). q.0) (get_or-append_right old (map pair needs) (length old) k (0, 0) refl (omega arith)
+    ∙ get_or-map pair needs (k - length old) 0 (0, 0) (omega (arith, length-append old (map pair needs))))
 
 -- the blocks that the pairs name which were added last
 pub named_last : (id : ℕ) (old : List (ℕ × ℕ)) (needs : List ℕ) (new : List (ℕ × ℕ)) (count : ℕ) (named : List ℕ) → count ≡ length old → new ≡ old ++ pairs_of_line id needs

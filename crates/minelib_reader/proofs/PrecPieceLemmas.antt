@@ -1,5 +1,6 @@
 -- Reading a precedence file piece by piece: what was read so far, and what comes of whatever is read behind it.
-use Rattle.std.proofs.Common.{◌≡◌, ℕ, Bool, true, false, List, [], ◌++◌, Ok, Err, refl, sym, ap, ◌∙◌, append_assoc, subst}
+use Rattle.std.proofs.Common.{◌≡◌, ℕ, Bool, true, false, List, [], ◌++◌, Ok, Err, Option, None, Some, refl, sym, ap, ◌∙◌, append_assoc, subst}
+use Rattle.std.specs.Io.KnownBytes.{Keeps}
 use Rattle.std.proofs.lemmas.List.{append-nil}
 use Rattle.faults.specs.declared.fault.Fault.{Fault}
 use Rattle.faults.specs.declared.refusal.Refusal.TheVariants.{NoMemory}
@@ -12,6 +13,13 @@ use Rattle.minelib_reader.specs.Prec.{pairs_from, prec_of}
 use Rattle.minelib_reader.specs.Text.{Row, rows_at, lines_at}
 use Rattle.minelib_reader.proofs.AnswerLemmas.{refuses_memory, refuses_read}
 use Rattle.minelib_reader.proofs.PieceLemmas.{rows_behind}
+
+-- what is kept from one state to the next is kept over both
+pub keeps_on : (old between new : Option (List ℕ)) → Keeps old between → Keeps between new → Keeps old new
+keeps_on None between new one two = tt
+keeps_on (Some xs) None new one two = absurd one
+keeps_on (Some xs) (Some ys) None one two = absurd two
+keeps_on (Some xs) (Some ys) (Some zs) one two = two ∙ one
 
 -- the pairs of the lines read so far, with those of what was kept and whatever comes behind it, are those of the whole text
 pub record HasRead (n : ℕ) (old now : Progress) (from total line : ℕ) (kept : List ℕ) (pairs : List (ℕ × ℕ)) : Type 0 where

@@ -24,7 +24,7 @@ use crate::limits::MOST_PAIRS;
 use crate::lines::{count_fields, has_fields, next_whole, plain_whole};
 use crate::pieces::{read_past, read_piece};
 use crate::rows::{Row, TextRows};
-use csr::{Csr, CsrBuilder};
+use csr::{CsrBuilder, SharedRows};
 use faults::{Fault, Refusal, Source};
 use std::alloc::{AllocError, Global};
 
@@ -316,7 +316,7 @@ fn read_lines(
 }
 
 /// The pairs of all lines of a text.
-fn parse_lines(alloc: Global, text: &[u8], n: u32) -> Result<Csr, Fault>
+fn parse_lines(alloc: Global, text: &[u8], n: u32) -> Result<SharedRows, Fault>
     ensures pairs { Gives (λ v. v.pairs) result (prec_of n text.now) }
     ensures blocks { IfOk result (λ v. v.blocks ≡ n) }
 {
@@ -328,7 +328,7 @@ fn parse_lines(alloc: Global, text: &[u8], n: u32) -> Result<Csr, Fault>
 
 /// Returns the pairs of all lines that a reader has left, read piece by piece. The counters receive the pairs of each piece. A
 /// fault in the text is reported after the whole text is read.
-fn read_pieces<R: InBytes>(alloc: Global, reader: &mut R, n: u32) -> Result<Csr, Fault>
+fn read_pieces<R: InBytes>(alloc: Global, reader: &mut R, n: u32) -> Result<SharedRows, Fault>
     requires countable { (R.progress reader.old).failures < 2 ^ 63 }
     ensures exact { Answers (λ v. v.pairs) (prec_of n) sources.Precedence (R.progress reader.old) (R.progress reader.new) (R.IsAtEnd reader.new) result }
     ensures blocks { IfOk result (λ v. v.blocks ≡ n) }
@@ -366,7 +366,7 @@ pub fn prec_law()
 
 /// The pairs (u, p) of "u needs p" that a text spells for n blocks, by rows, in order of line and place, else the first fault of
 /// the text, or `NoMemory`.
-pub fn parse_prec_rows(alloc: Global, text: &[u8], n: u32) -> Result<Csr, Fault>
+pub fn parse_prec_rows(alloc: Global, text: &[u8], n: u32) -> Result<SharedRows, Fault>
     // Which pairs or which fault it is.
     ensures exact { Gives (λ v. v.pairs) result (prec_of n text.now) }
     // What is read is spelled so, and what is spelled so is read, unless memory runs out.
@@ -383,7 +383,11 @@ pub fn parse_prec_rows(alloc: Global, text: &[u8], n: u32) -> Result<Csr, Fault>
 ///
 /// # Errors
 /// The first fault of that text; `ReadFailed` exactly where the reader counted a failure in this call; `NoMemory`.
-pub fn read_prec_rows<R: InBytes>(alloc: Global, reader: &mut R, n: u32) -> Result<Csr, Fault>
+pub fn read_prec_rows<R: InBytes>(
+    alloc: Global,
+    reader: &mut R,
+    n: u32,
+) -> Result<SharedRows, Fault>
     requires countable { (R.progress reader.old).failures < 2 ^ 63 }
     ensures answers { AnswersBy (λ v. v.pairs) (SpellsPrec n) (IsFirstPrecFault n) sources.Precedence (R.progress reader.old) (R.progress reader.new) (R.IsAtEnd reader.new) result }
     ensures blocks { IfOk result (λ v. v.blocks ≡ n) }
@@ -396,7 +400,7 @@ pub fn read_prec_rows<R: InBytes>(alloc: Global, reader: &mut R, n: u32) -> Resu
     read_pieces(alloc, reader, n)
 }
 
-/// Reads the same pairs as a list. It holds rows and list at the same time; [`read_prec_rows`] holds the rows alone.
+/// Reads the same pairs as a list. It holds rows, targets and list at the same time; [`read_prec_rows`] holds the rows alone.
 ///
 /// # Errors
 /// Those of [`read_prec_rows`].
@@ -412,5 +416,5 @@ pub fn read_prec<R: InBytes>(
     ensures exact { Answers (λ v. v.items) (prec_of n) sources.Precedence (R.progress reader.old) (R.progress reader.new) (R.IsAtEnd reader.new) result }
 {
     let needs = read_prec_rows(alloc, reader, n)?;
-    Ok(needs.to_pairs(alloc)?)
+    Ok(needs.to_rows()?.to_pairs(alloc)?)
 }

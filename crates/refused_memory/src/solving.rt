@@ -1,7 +1,7 @@
 //! A worker solves a small mine. If memory is refused to its pass over the board, it leaves the sweep, its ask is taken back, and
 //! the driver goes on: the journal shows it.
 use crew::{OpenGate, solve_shared};
-use csr::Csr;
+use csr::SharedRows;
 use faults::Fault;
 use mine_graph::{Graph, Instance};
 use std::alloc::AllocGlobal;
@@ -13,7 +13,7 @@ use tree_lock::Entry;
 /// first, which is also the driver's first. Errors: `NoMemory`, or a refused thread or seat.
 pub fn solved<R: AllocGlobal + Threads + Wait + Sync>(rt: &R) -> Result<Vec<Entry>, Fault> {
     let alloc = rt.alloc();
-    let needs = Csr::from_pairs(alloc, 4, &[(0, 3), (1, 2)])?;
+    let needs = SharedRows::from_pairs(alloc, 4, &[(0, 3), (1, 2)])?;
     let graph = Arc::new(alloc, Graph::of_rows(alloc, 4, needs)?)?;
     let values = vec![in alloc; 5, 5, -3, -3]?;
     let mine = Instance::new(graph, values);

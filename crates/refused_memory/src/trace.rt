@@ -2,7 +2,7 @@
 //! branches, and one uses a residual up exactly and keeps the link.
 ghost use Rattle.std.specs.Prelude.{◌≡◌, IfOk};
 
-use csr::Csr;
+use csr::SharedRows;
 use faults::Fault;
 use mine_graph::{Graph, Instance};
 use norm_tree::NormTree;
@@ -28,7 +28,7 @@ pub struct Trace {
 fn pairs(alloc: Global) -> Result<Arc<Graph>, Fault>
     ensures { IfOk result (λ graph. graph.value.blocks ≡ 4) }
 {
-    let needs = Csr::from_pairs(alloc, 4, &[(0, 1), (0, 3), (2, 1)])?;
+    let needs = SharedRows::from_pairs(alloc, 4, &[(0, 1), (0, 3), (2, 1)])?;
     Ok(Arc::new(alloc, Graph::of_rows(alloc, 4, needs)?)?)
 }
 

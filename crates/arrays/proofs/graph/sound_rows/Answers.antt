@@ -2,7 +2,6 @@
 use Rattle.std.proofs.Common.{◌≡◌, ℕ, ◌<◌, IfSome, length, get_or, ap, refl, subst, sym, ◌∙◌, arith}
 use Rattle.pit_model.specs.Graph.{first_of, AreInRange}
 use Rattle.csr.specs.View.{pairs_in}
-use Rattle.csr.proofs.Begun.{csr_sized}
 use Rattle.csr.proofs.Spelled.{length-pairs_of, second_at}
 use Rattle.arrays.specs.Named.{IsRepeated}
 use Rattle.arrays.specs.Encoded.{IsInRow, EncodesPairs}
@@ -32,9 +31,6 @@ returns-in-Some-2-clause-refused c =
       same = sym (second_at starts seconds before (omega arith)) ∙ ap (λ (q : ℕ × ℕ). q.1) is.0.3 ∙ second_at starts seconds place (omega arith);
     } in
     (twice, λ k less again. is.1 k less (twice_repeats c.args.blocks starts seconds c.requires.rows k again))
-
-pub from_view-requires : goal.from_view-requires
-from_view-requires c = let rows = c.args.rows in csr_sized rows.offsets.now c.args.blocks (length rows.targets.now) (length rows.targets.now) c.requires.rows refl
 
 pub returns-clause-encoded : goal.returns-clause-encoded
 returns-clause-encoded c =

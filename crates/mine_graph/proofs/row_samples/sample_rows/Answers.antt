@@ -4,34 +4,31 @@ use Rattle.std.proofs.lemmas.Bool.{cases_eq}
 use Rattle.std.proofs.lemmas.Grind.{div_ceil_times}
 use Rattle.std.proofs.lemmas.List.{get_or_append_left, get_or_at, length_push}
 use Rattle.pit_model.specs.Graph.{first_of}
-use Rattle.csr.proofs.Begun.{csr_offsets}
-use Rattle.csr.specs.Rows.{pairs_of}
-use Rattle.csr.proofs.Spelled.{length-pairs_of, starts_rise}
+use Rattle.csr.proofs.Begun.{csr_rise}
 use Rattle.mine_graph.proofs.row_samples.sample_rows.Goals as goal
 
 pub row_between-requires-clause-inside : goal.row_between-requires-clause-inside
 row_between-requires-clause-inside c =
-    let m : ℕ = length c.args.rows.targets.now in
+    let m : ℕ = length c.args.rows.now.pairs in
     let up = (div_ceil_times m 64 (omega arith)).1 in
     let ceil = c.div_ceil-i-end.ensures in
-    let size = (csr_offsets c.args.rows.offsets.now c.args.rows.targets.now _ c.requires.rows).size in
-    let below = (c.requires.range (c.loop-i.i * 64) (omega (arith, c.loop-i-test.true, length-pairs_of c.args.rows.offsets.now c.args.rows.targets.now))).0 in
+    let size = c.offsets-offsets.ensures.rows.count in
+    let below = (c.requires.range (c.loop-i.i * 64) (omega (arith, c.loop-i-test.true))).0 in
     omega (arith, c.saturating_sub-last.ensures)
 
 pub row_between-requires-clause-rise : goal.row_between-requires-clause-rise
-row_between-requires-clause-rise c v w h l = let size = (csr_offsets c.args.rows.offsets.now c.args.rows.targets.now _ c.requires.rows).size in starts_rise (pairs_of c.args.rows.offsets.now c.args.rows.targets.now) c.args.rows.offsets.now c.args.n (csr_offsets c.args.rows.offsets.now c.args.rows.targets.now _ c.requires.rows) v w h (omega arith)
+row_between-requires-clause-rise c v w h l = let size = c.offsets-offsets.ensures.rows.count in csr_rise c.offsets-offsets.result.now c.args.rows.now.blocks (length c.args.rows.now.pairs) c.offsets-offsets.ensures.rows v w h (omega arith)
 
 pub loop-i-preserved : goal.loop-i-preserved
 loop-i-preserved c =
-    let starts = c.args.rows.offsets.now in
-    let pairs = pairs_of starts c.args.rows.targets.now in
-    let m : ℕ = length c.args.rows.targets.now in
+    let pairs = c.args.rows.now.pairs in
+    let m : ℕ = length c.args.rows.now.pairs in
     let i = c.loop-i.i in
     let up = (div_ceil_times m 64 (omega arith)).1 in
     let ceil = c.div_ceil-i-end.ensures in
-    let inside : i * 64 < length pairs = omega (arith, c.loop-i-test.true, length-pairs_of starts c.args.rows.targets.now) in
+    let inside : i * 64 < length pairs = omega (arith, c.loop-i-test.true) in
     let below = (c.requires.range (i * 64) inside).0 in
-    let there = (csr_offsets c.args.rows.offsets.now c.args.rows.targets.now _ c.requires.rows).found (first_of pairs (i * 64)) (i * 64) below inside refl in
+    let there = (c.offsets-offsets.ensures.own (first_of pairs (i * 64)) (i * 64) (omega arith) inside).0 refl in
     let is : c.row_between.result ≡ first_of pairs (i * 64) = c.row_between.ensures (first_of pairs (i * 64)) (omega arith) (omega (arith, c.saturating_sub-last.ensures)) there.0 there.1 in
     let old = c.loop-i.row_samples.items in
     let new = c.in_ok-push.ensures.items in
@@ -51,11 +48,11 @@ loop-i-preserved c =
 
 pub returns : goal.returns
 returns c =
-    let m : ℕ = length c.args.rows.targets.now in
+    let m : ℕ = length c.args.rows.now.pairs in
     let low = (div_ceil_times m 64 (omega arith)).0 in
     let ceil = c.div_ceil-i-end.ensures in
     let size = c.loop-i.invariant.size in
     record {
-      enough = omega (arith, c.loop-i-test.false, length-pairs_of c.args.rows.offsets.now c.args.rows.targets.now);
+      enough = omega (arith, c.loop-i-test.false);
       each = λ i l. c.loop-i.invariant.each i (omega arith);
     }

@@ -6,7 +6,7 @@ use Rattle.minelib_reader.specs.Marks.{AddsFirst, AreMarked}
 use Rattle.minelib_reader.specs.Prec.{needs_from}
 use Rattle.minelib_reader.specs.Text.{fields_of}
 use Rattle.minelib_reader.proofs.AnswerLemmas.{fails_map}
-use Rattle.minelib_reader.proofs.PrecLemmas.{both_added, first_alone, first_stops, named_last}
+use Rattle.minelib_reader.proofs.PrecLemmas.{both_added, first_alone, first_stops, named_last, named_own}
 use Rattle.minelib_reader.proofs.PrecLineLemmas.{named}
 use Rattle.minelib_reader.proofs.prec.read_needs.Goals as goal
 use Rattle.minelib_reader.proofs.prec.read_needs.Goals.{then-has_fields+in_ok-push_marked, else-has_fields}
@@ -18,6 +18,12 @@ mark_needs-requires-clause-below c =
     let first = c.in_ok-rest.ensures.ok in
     let are = named_last id c.open_row.new.self.pairs first.seen c.push_rising.new.needs.pairs c.len-before.result c.targets_from.result.now c.len-before.ensures first.pairs c.targets_from.ensures in
     subst (All (λ p. p < n)) (sym are) first.below
+
+pub targets_from-requires-clause-own : goal.targets_from-requires-clause-own
+targets_from-requires-clause-own c k from to =
+    let first = c.in_ok-rest.ensures.ok in
+    named_own c.args.block.id c.open_row.new.self.pairs first.seen c.push_rising.new.needs.pairs c.len-before.result c.len-before.ensures first.pairs k from to
+    ∙ sym c.push_rising.ensures.row
 
 pub returns-in_err-push_marked-clause-err : goal.returns-in_err-push_marked-clause-err
 returns-in_err-push_marked-clause-err c =

@@ -1,5 +1,7 @@
 -- Each piece is read behind those before it.
-use Rattle.std.proofs.Common.{◌∙◌, ◌++◌, ℕ, List, Ok, ap, subst, sym, rules}
+use Rattle.std.proofs.Common.{◌∙◌, ◌++◌, ◌≤◌, ℕ, List, Ok, ap, arith, subst, sym, rules}
+use Rattle.std.specs.List.{All}
+use Rattle.std.proofs.lemmas.List.Elements.{All-replicate}
 use Rattle.minelib_reader.specs.Answer.{FailsBy}
 use Rattle.minelib_reader.specs.Marks.{AddsRows, with_pairs}
 use Rattle.minelib_reader.specs.Prec.{pairs_from}
@@ -7,7 +9,7 @@ use Rattle.minelib_reader.specs.Pieces.{IsPiece}
 use Rattle.minelib_reader.specs.Text.{Row, lines_at, rows_at, rows_of}
 use Rattle.minelib_reader.proofs.PrecGrammarLemmas.{spelled}
 use Rattle.minelib_reader.proofs.PrecLimitLemmas.{lawful}
-use Rattle.minelib_reader.proofs.PrecPieceLemmas.{goes_on, ends, read_to_end, faulty_end, faulty_piece, no_room}
+use Rattle.minelib_reader.proofs.PrecPieceLemmas.{goes_on, keeps_on, ends, read_to_end, faulty_end, faulty_piece, no_room}
 use Rattle.minelib_reader.proofs.prec.read_pieces.Goals as goal
 use Rattle.minelib_reader.proofs.prec.read_pieces.Goals.{then-not-ended+then-not-matches+in_ok-read_past-in-Err, in-NoMemory, in_default, else-not-ended, else-not-ended-via-then-not-ended+else-not-matches, else-not-ended-via-else-not-ended}
 
@@ -103,3 +105,25 @@ loop-kept-preserved g c =
       sizes = c.in-Ok.ensures.sizes;
       marks = c.in-Ok.ensures.new_marks;
     }
+
+pub loop-kept-init : goal.loop-kept-init
+loop-kept-init g c = record {
+  countable = omega arith;
+  read = search rules;
+  known = search rules;
+  so_far = search rules;
+  few = omega arith;
+  sizes = search rules;
+  marks = subst (All (λ m. m ≤ 0)) (sym (c.in_ok-marks.ensures.items_if_clones_equal (λ y e. e))) (All-replicate (λ m. m ≤ 0) c.args.n 0 (omega arith));
+}
+
+pub returns-in-Err-clause-known : goal.returns-in-Err-clause-known
+returns-in-Err-clause-known g c =
+    let old = g.R.InBytes.known_text c.args.reader.now in
+    let between = g.R.InBytes.known_text c.loop-kept.reader in
+    let new = g.R.InBytes.known_text c.read_piece.new.reader in
+    let known = keeps_on old between new c.loop-kept.invariant.known c.in_ok-ended.ensures.known in
+    elim c.if-not-ended.branch [
+      | then-not-ended+then-not-matches+in_ok-read_past-in-Err w ↦ rw w.reader-is (keeps_on old new (g.R.InBytes.known_text w.read_past.new.reader) known w.in_ok-read_past-in-Err.ensures.known)
+      | else-not-ended w ↦ rw w.reader-is known
+    ]

@@ -1,9 +1,14 @@
--- Without targets there is no pair.
-use Rattle.std.proofs.Common.{ap, length, ◌∙◌}
-use Rattle.std.proofs.lemmas.List.{nil_from_length}
-use Rattle.csr.specs.Rows.{pairs_of}
-use Rattle.csr.proofs.Spelled.{length-pairs_of}
+-- Without targets there is no arc.
+use Rattle.std.proofs.Common.{◌≡◌, [], ◌∷◌, ◌++◌, ap, arith, ◌∙◌}
+use Rattle.csr.proofs.Built.{none_built, none_pairs}
 use Rattle.csr.proofs.builder.CsrBuilder.new.Goals as goal
 
+pub invariant_of-result : goal.invariant_of-result
+invariant_of-result c =
+    let start : c.push.new.self.items ≡ 0 ∷ [] = c.in_ok-push.ensures.items ∙ ap (λ q. q ++ 0 ∷ []) c.new-offsets.ensures.items in
+    rw (start, c.new.ensures.items, c.new-2.ensures.items) (none_built c.in_ok-recent.recent.items (omega (arith, c.in_ok-recent.ensures.len, c.in_ok-recent.recent.ok.0)))
+
 pub returns-clause-pairs : goal.returns-clause-pairs
-returns-clause-pairs c = nil_from_length (pairs_of c.push.new.self.items c.new.result.items) (length-pairs_of c.push.new.self.items c.new.result.items ∙ ap length c.new.ensures.items)
+returns-clause-pairs c =
+    let start : c.push.new.self.items ≡ 0 ∷ [] = c.in_ok-push.ensures.items ∙ ap (λ q. q ++ 0 ∷ []) c.new-offsets.ensures.items in
+    rw (start, c.new.ensures.items, c.new-2.ensures.items) none_pairs

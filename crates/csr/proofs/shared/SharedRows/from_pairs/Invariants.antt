@@ -1,7 +1,7 @@
 -- The pairs so far; the open row is not after that of the next.
 use Rattle.std.proofs.Common.{◌≡◌, ◌<◌, ◌≤◌, ℕ, length, take}
 use Rattle.pit_model.specs.Graph.{first_of}
-use Rattle.csr.proofs.rows.Csr.from_pairs.Given as goal
+use Rattle.csr.proofs.shared.SharedRows.from_pairs.Given as goal
 
 abbrev pub invariant-loop-k : goal.invariant-loop-k
 invariant-loop-k l = record {
