@@ -20,7 +20,7 @@ Processor seconds and megabytes of whole runs. `bench/bench.py` writes a section
 SLOPES = ("1:5", "1:9", "cone")
 sys.path.insert(0, str(ROOT / "tools"))
 from bench_tables import sections  # noqa: E402
-from make_mine import write_mine  # noqa: E402
+from make_mine import BODIES, write_mine  # noqa: E402
 
 
 class Mine(NamedTuple):
@@ -32,13 +32,13 @@ class Mine(NamedTuple):
     broken: pathlib.Path
 
 
-def mine_of(blocks: int, slopes: str) -> Mine:
-    """The mine of about `blocks` blocks (tools/make_mine.py, seed 1), made if it is missing."""
+def mine_of(blocks: int, slopes: str, ore: str = BODIES) -> Mine:
+    """The mine of about `blocks` blocks with a kind of ore (tools/make_mine.py, seed 1), made if it is missing."""
     WORK.mkdir(exist_ok=True)
-    prefix = WORK / f"mine_{blocks}_{slopes.replace(':', '_')}"
+    prefix = WORK / f"mine_{blocks}_{slopes.replace(':', '_')}{f'_{ore}' * (ore != BODIES)}"
     mine = Mine(*(prefix.with_suffix(end) for end in (".upit", ".blocks", ".prec", ".broken.prec")))
     if not mine.broken.exists():
-        write_mine(str(prefix), blocks, slopes, 1)
+        write_mine(str(prefix), blocks, slopes, 1, ore)
         mine.broken.write_text(mine.prec.read_text() + "0 0\n")
     return mine
 

@@ -17,9 +17,10 @@ a mine with the strongest peer. The suite `peers` has all peers next to mode sin
 """
 
 import dataclasses
+import itertools
 import multiprocessing
 import pathlib
-from collections.abc import Callable
+from collections.abc import Callable, Sequence
 
 import kit
 import peers
@@ -84,13 +85,14 @@ def pairs_of(prec: pathlib.Path) -> int:
         return sum(int(line.split(maxsplit=2)[1]) for line in file)
 
 
-def made(blocks: int, slopes: str) -> None:
-    """Makes the mine in a process of its own: what a process holds when it starts another counts for the other's peak."""
-    maker = multiprocessing.get_context("spawn").Process(target=kit.mine_of, args=(blocks, slopes))
+def made(blocks: int, slopes: str, ore: str) -> kit.Mine:
+    """The mine, made in a process of its own: what a process holds when it starts another counts for the other's peak."""
+    maker = multiprocessing.get_context("spawn").Process(target=kit.mine_of, args=(blocks, slopes, ore))
     maker.start()
     maker.join()
     if maker.exitcode != 0:
         raise SystemExit(f"the mine of {blocks} blocks with slopes {slopes} could not be made in {kit.WORK}")
+    return kit.mine_of(blocks, slopes, ore)
 
 
 class Bench:
@@ -105,9 +107,8 @@ class Bench:
             raise SystemExit(f"no such peer, or its headers are missing: {', '.join(missing)}; there are {', '.join(found)}")
         self.late: set[tuple[str, str]] = set()
 
-    def turns(self, slopes: str, blocks: int) -> dict[str, Turn]:
+    def turns(self, mine: kit.Mine) -> dict[str, Turn]:
         """What is timed on a mine, each by its name in the table."""
-        mine = kit.mine_of(blocks, slopes)
         solve = [self.program, "solve", "--model", mine.model]
         shells = [self.program, "shells", "--revenue", "0", "--cost", "1", "--blocks", mine.blocks, "--factors", FACTORS]
         commands = {f"pitshell, {mode}": [*solve, *words] for mode, words in MODES.items()} | {SHELLS: shells}
@@ -121,10 +122,10 @@ class Bench:
             turns[peers.NAMES[peer]] = lambda p=peer: peers.time_peer(self.others, p, (mine.model, mine.prec), self.limit)
         return turns
 
-    def measure(self, slopes: str, blocks: int) -> Mine:
+    def measure(self, slopes: str, blocks: int, ore: str = kit.BODIES) -> Mine:
         """All rows of one mine: each solver runs once a round, so that what else the machine does meets all of them."""
-        made(blocks, slopes)
-        turns = self.turns(slopes, blocks)
+        files = made(blocks, slopes, ore)
+        turns, slopes = self.turns(files), slopes if ore == kit.BODIES else f"{slopes}, {ore}"
         times: dict[str, list[tuple[Run, float]]] = {name: [] for name in turns}
         for _ in range(3 if blocks <= SHORT else 2):
             for name, turn in turns.items():
@@ -140,7 +141,7 @@ class Bench:
         rows = [row_of(name, times[name]) for name in turns]
         for row in rows:
             print(f"{slopes} {blocks} {row.solver}: {f'{row.run.processor:.3f}' if row.run else f'more than {self.limit}'}", flush=True)
-        return Mine(slopes, blocks, pairs_of(kit.mine_of(blocks, slopes).prec), rows)
+        return Mine(slopes, blocks, pairs_of(files.prec), rows)
 
 
 def short(mines: list[Mine], limit: int) -> list[str]:
@@ -179,7 +180,7 @@ def long(mines: list[Mine], limit: int) -> list[str]:
     return lines
 
 
-def measure(words: list[str], suite: str, about: str | None, sizes: list[int], usual: set[str]) -> None:
+def measure(words: list[str], suite: str, about: str | None, sizes: list[int], usual: set[str], ores: Sequence[str] = (kit.BODIES,)) -> None:
     """Times the peers that are named, or the usual ones, next to the program; the suite `table` has its other modes too."""
     parser = kit.options(suite, about, sizes, kit.SLOPES)
     parser.add_argument("--peers", nargs="*", help="their names; a wrong one lists those that there are")
@@ -190,9 +191,9 @@ def measure(words: list[str], suite: str, about: str | None, sizes: list[int], u
     bench = Bench(given.bin, not given.single, given.peers, usual, given.limit)
     mines: list[Mine] = []
     for blocks in sorted(given.blocks):
-        for slopes in given.slopes:
-            mines.append(bench.measure(slopes, blocks))
-            mines.sort(key=lambda mine: (given.slopes.index(mine.slopes), mine.blocks))
+        for slopes, ore in itertools.product(given.slopes, ores):
+            mines.append(bench.measure(slopes, blocks, ore))
+            mines.sort(key=lambda mine: (given.slopes.index(mine.slopes.partition(",")[0]), mine.blocks))
             lines = [*short(mines, given.limit), "", *long(mines, given.limit)]
             kit.keep(given, "Next to other people's maximum flows; all pits of a mine are the same bytes", lines)
 

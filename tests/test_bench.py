@@ -33,6 +33,14 @@ def test_a_suite_writes_its_section_and_keeps_the_others(suite: str, tmp_path: p
 LONG = "\n| slopes | blocks | pairs | solver | whole s |\n|---|---|---|---|---|\n"
 
 
+def test_the_ratios_on_irregular_mines() -> None:
+    """A peer that is past the limit has no ratio."""
+    section = "Words.\n\n| slopes | blocks | pairs | whole | solve | MB | whole | solve | MB | which |\n|---|---|---|---|---|---|---|---|---|---|\n"
+    section += "| 1:5, pipes | 1,000 | 7 | 0.10 | 0.05 | 13 | 0.40 | 0.30 | 20 | Boykov |\n| 1:5, noise | 1,000 | 7 | 0.20 | 0.1 | 13 | more than 20 | | | all |\n"
+    found = bench_tables.irregular(section)[1:]
+    assert found == [["1:5, pipes", "1,000", "0.10", "13", "0.40", "20", "0.25"], ["1:5, noise", "1,000", "0.20", "13", "more than 20", "", ""]]
+
+
 def test_the_ratios_of_peers() -> None:
     """To the fastest peer of each mine; a peer that is past the limit on a mine has the ratios of the others."""
     rows = [("1", "pitshell, single", "0.1"), ("1", "first", "2.0"), ("1", "second", "3.0"), ("2", "first", "6.0"), ("2", "second", "more than 16")]

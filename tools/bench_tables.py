@@ -41,6 +41,15 @@ def pit(section: str) -> Rows:
     return columns([rows[0], *chosen], names)
 
 
+def irregular(section: str) -> Rows:
+    """Both solvers by slopes and kind of ore, and their ratio; none where theirs is past the limit."""
+    found = [["slopes, ore", "blocks", "pitshell s", "MB", "theirs s", "their MB", "ratio"]]
+    for slopes, blocks, _, own, _, peak, theirs, _, their_peak, *_ in tables(section)[0][1:]:
+        ratio = f"{float(own) / float(theirs):.2f}" if theirs[:1].isdigit() else ""
+        found.append([slopes, blocks, own, peak, theirs, their_peak, ratio])
+    return found
+
+
 def clock(section: str) -> Rows:
     """Both kinds of seconds of the program and of the authors' own code, at the two largest sizes of each slope, and their ratios."""
     ours, theirs = ({(row[0], row[1]): row for row in tables(section)[1] if row[3].startswith(name)} for name in ("pitshell, single", "Boykov"))
@@ -94,6 +103,7 @@ MADE: dict[str, tuple[str, Callable[[str], Rows]]] = {
     "pit": ("table", pit),
     "clock": ("table", clock),
     "peers": ("peers", peers),
+    "irregular": ("irregular", irregular),
     "shared": ("shared", shared),
     "fixed": ("fixed", first),
     "greatest": ("greatest", first),
