@@ -82,7 +82,7 @@ def test_both_notations_of_one_mine_have_the_same_value_and_bound(plan_folder):
     words = "feed = { as_ppm = { max = 110 } }\n[schedule]\nyears = 3\n"
     named, folder = scheduled(plan_folder, words, named_mill(), pillars(**DIRTY))
     assert plain["npv"] == pytest.approx(named["npv"]) and plain["upper_bound"] == pytest.approx(named["upper_bound"])
-    # Year 1 mills the second ore. Year 2 mines the waste over the others, of which year 3 mills what together has 110 ppm.
+    # Year 1 mills the second ore. Year 2 mines the waste over the others. Year 3 mills 40 t of the first and 60 t of the third ore: 110 ppm.
     assert shares(folder) == pytest.approx([0.4, 1, 0.6])
     assert plain["npv"] == pytest.approx(1400 / 1.1 - 400 / 1.21 + 1400 / 1.331)
 

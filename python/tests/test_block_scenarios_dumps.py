@@ -38,8 +38,8 @@ def shares_of(folder):
 
 
 def test_the_near_dump_fills_and_the_far_one_costs_more_by_hand(plan_folder):
-    """The own schedule of each model mines two pillars: waste of 100 t each year, of which 150 t fit into the near dump. The common schedule mines the outer pillars first:
-    300 t of waste and 100 t of ore in each model, and then 100 t of waste."""
+    """The own schedule of each model mines a pillar in each of two years, with 100 t of waste each; the near dump has room for 150 t. The common
+    schedule mines the outer pillars first: 300 t of waste and 100 t of ore in each model, and then 100 t of waste."""
     folder = answered(plan_folder, pillars([1, 0.5, 0], [0, 0.5, 1]), BOTH)
     table, record = rows_of(folder), json.loads((folder / "common_schedule.json").read_text())
     assert table["npv"].tolist() == pytest.approx([2500 / 1.1 + 400 / 1.21] * 2) == table["upper_bound"].tolist()

@@ -452,10 +452,9 @@ class RelaxationSolver:
         """As far as it is solved, by one round at least."""
         assert self.restricted is not None and self.label is not None
         cumulative = self.nodes.gathered(self.restricted.share[self.label])[:, -1]
-        prices = self.restricted.prices
-        found = tuple(self.rounds)
+        prices, rounds = self.restricted.prices, tuple(self.rounds)
         return Relaxation(
-            self.bound, cumulative, prices, self.multipliers, found, self.groups, self.history, interrupted
+            self.bound, cumulative, prices, self.multipliers, rounds, self.groups, self.history, interrupted
         )
 
 

@@ -25,8 +25,8 @@ from .filling import ranks_of
 from .problem import MOST_UNKNOWNS, Assignment, BlockLimit, BlockProblem, TotalLimit
 from .relaxation import earliest_years
 
-# A window has at first about FEWER integer unknowns at most, and at most MOST_YEARS years unless all blocks fit. Of up to FEW unknowns all years take
-# no time.
+# A window has at first about FEWER integer unknowns at most, and at most MOST_YEARS years unless all blocks fit. A
+# problem of up to FEW unknowns is one window.
 FEW, FEWER, MOST_YEARS = 500, 2_500, 4
 # The penalty of a minimum that is missed entirely, as a multiple of what all free blocks earn or cost.
 LACKING = 10.0
