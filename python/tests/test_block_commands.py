@@ -140,10 +140,16 @@ def test_rock_without_metal_is_waste(plan_folder):
     assert not blocks.loc[blocks["cu"] == 0, ["share_leach", "share_mill"]].any(axis=None)
 
 
+LAID = "{ reclaim_cost = 1, opening = { tonnes = 5, cu = 1, rock_type = 'A' } }"
+
+
 @pytest.mark.parametrize(
     ("words", "said"),
     [
-        ("[schedule]\nstockpile = { reclaim_cost = 1 }", "[schedule] stockpile: found one, expected none by block"),
+        (
+            f"[schedule]\nstockpile = {LAID}",
+            "[schedule] stockpile opening: found 5 tonnes on stockpile at the start, expected",
+        ),
         ("[schedule]\nmining_capacity = 90", "holds 100 of total_tonnes, and a year takes at most 90"),
     ],
 )
@@ -153,10 +159,10 @@ def test_what_is_refused(plan_folder, words, said):
     assert said in str(error.value) and "project.toml" in str(error.value)
 
 
-def test_a_stockpile_is_refused_before_the_table_is_read(plan_folder):
-    path = plan_folder(pillars(), YEARLY + "[schedule]\nstockpile = { reclaim_cost = 1 }\n")
+def test_ore_on_a_stockpile_at_the_start_is_refused_before_the_table_is_read(plan_folder):
+    path = plan_folder(pillars(), f"{YEARLY}[schedule]\nstockpile = {LAID}\n")
     (path.parent / "blocks.csv").unlink()
-    with pytest.raises(PlanError, match=r"\[schedule\] stockpile: found one"):
+    with pytest.raises(PlanError, match=r"\[schedule\] stockpile opening: found 5 tonnes"):
         pitplan.write_block_schedule(path, writing=PLAIN)
 
 

@@ -459,7 +459,10 @@ def test_factors_are_no_part_of_a_schedule(plan_folder):
         ("bench_lag = 1", "[schedule] bench_lag: applies to pushbacks"),
         ("vertical_advance_rate = 2", "[schedule] vertical_advance_rate: applies to pushbacks"),
         ("bins = 2", "[schedule] bins: applies to pushbacks"),
-        ("bins = 2\nstockpile = { reclaim_cost = 1 }", "[schedule] stockpile: found one, expected none by block"),
+        (
+            "bins = 2\nstockpile = { reclaim_cost = 1 }",
+            "[schedule] stockpile: ore goes to a process in the period in which",
+        ),
         ("minimum = { feed = 10 }", "[schedule] minimum: a common schedule cannot meet it in each scenario"),
         (
             '[[schedule.limits]]\ncolumn = "tonnes"\nmin = 5',

@@ -137,6 +137,7 @@ def test_each_column_that_is_written_is_in_the_schema_and_each_of_the_schema_is_
         assert missing <= ({"process_revenue_factor"} if "sensitivity" in path.parts else set()), path
         found.setdefault(table.file, set()).update(table.find(name) for name in names)
     by_block = {"sum_NAME", "head_grade_COLUMN", "share_PROCESS", "share_DUMP", "blocks", "equivalent_METAL"}
+    by_block |= {"share_STOCKPILE"}
     for file in (
         "blocks.csv",
         "shells.csv",

@@ -280,5 +280,7 @@ def test_a_rock_type_without_a_cost_is_named(tmp_path):
 
 
 def test_by_block_there_is_none(tmp_path):
-    with pytest.raises(PlanError, match=r"\[schedule\] stockpile: found one, expected none by block"):
+    with pytest.raises(
+        PlanError, match=r"\[schedule\] stockpile opening: found .* at the start, expected none by block"
+    ):
         pitplan.write_block_schedule(written_to(tmp_path, PILE), writing=PLAIN)

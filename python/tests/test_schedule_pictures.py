@@ -37,7 +37,7 @@ def schedule():
     }
     grid = SimpleNamespace(toes=lambda: np.array([10.0, 0.0]))
     project = SimpleNamespace(economics=SimpleNamespace(currency="USD"), metals=(METAL,))
-    project.processes, project.schedule, project.shells = (), None, problem.settings
+    project.processes, project.dumps, project.schedule, project.shells = (), (), None, problem.settings
     pushbacks = SimpleNamespace(plan=SimpleNamespace(grid=grid, project=project), factors=(0.5, 1.0))
     model, nothing = without_flows(problem, 3), np.zeros((0, 3))
     cumulative, cash = np.array([[1.0, 1, 1], [0.5, 1, 1], [0, 0.5, 1]]), np.array([300.0, 700, 300])
@@ -152,7 +152,9 @@ def test_each_destination_is_a_layer_of_its_own(schedule):
         lp[lp["year"] == 1].assign(destination="stockpile", total_tonnes=30, feed_tonnes=0),
         lp[lp["year"] == 2].assign(source="stockpile", total_tonnes=30, feed_tonnes=30),
     ]
-    stocked = replace(schedule, model=replace(schedule.model, stockpiles=(Stockpile(0.5),)))
+    piles = (Stockpile(0.5),)
+    stocked = replace(schedule, model=replace(schedule.model, stockpiles=piles))
+    stocked.pushbacks.plan.project.schedule = SimpleNamespace(stockpiles=piles)
     stocked.__dict__["material_flows"] = pd.concat([flows, *more])
     mill, leach = SimpleNamespace(name="mill"), SimpleNamespace(name="leach")
     stocked.pushbacks.plan.project.processes = (mill, leach)

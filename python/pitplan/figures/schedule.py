@@ -18,7 +18,7 @@ from matplotlib.ticker import MaxNLocator
 
 from pitplan.blockmodel.grid import metres
 from pitplan.config.economics import Metal
-from pitplan.config.material import PIT, WASTE as AS_WASTE
+from pitplan.config.material import PIT, WASTE as AS_WASTE, Stockpile
 from pitplan.config.periods import Calendar
 from pitplan.config.project import Project
 from pitplan.config.shells import ShellRules
@@ -26,7 +26,7 @@ from pitplan.core.magnitude import money_unit, scaled
 from pitplan.core.revenue_factors import factor_text
 from pitplan.pushbacks.bench_table import ROCK
 from pitplan.results.rounding import metal_unit
-from pitplan.scheduling.cash_flow.tables import BlockOperation
+from pitplan.scheduling.flow.material import names_of
 from pitplan.scheduling.methods import BLOCK, LP, MILP, NAMES, RULE
 from pitplan.scheduling.pushback_schedule import PushbackSchedule
 from pitplan.scheduling.schedule import Schedule
@@ -431,39 +431,44 @@ def add_legend(found: list[Axes], layers: list[str]) -> None:
     )
 
 
-def tonnes_of(schedule: PushbackSchedule) -> pd.Series:
+def stockpiles_of(schedule: Schedule) -> tuple[Stockpile, ...]:
+    rules = schedule.plan.project.schedule
+    return rules.stockpiles if rules else ()
+
+
+def tonnes_of(schedule: Schedule) -> pd.Series:
     """Returns the in-situ tonnes that flow, by method, year, source and destination."""
     return schedule.material_flows.groupby(["method", "year", "source", "destination"])["total_tonnes"].sum()
 
 
-def layers_of(schedule: PushbackSchedule) -> list[tuple[str, str, str, dict[str, Any]]]:
+def layers_of(schedule: Schedule) -> list[tuple[str, str, str, dict[str, Any]]]:
     """Returns the layers of a year's bar from below: source, destination, label and look."""
-    processes, stockpiles = palette.of_processes(schedule.names), schedule.model.stockpiles
+    processes, stockpiles = palette.of_processes(names_of(schedule.plan)), stockpiles_of(schedule)
     found: list[tuple[str, str, str, dict[str, Any]]] = [
         (PIT, name, name, {"color": colour}) for name, colour in processes.items()
     ]
     for name, colour in palette.of_stockpiles(it.name for it in stockpiles).items():
         label = "to the stockpile" if len(stockpiles) == 1 else f"to {name}"
         found.append((PIT, name, label, {"color": colour}))
-    dumps = schedule.model.dumps
+    dumps = schedule.plan.project.dumps
     for name, colour in palette.of_dumps(it.name for it in dumps).items():
         found.append((PIT, name, f"waste to {name}", {"color": colour}))
     return found if dumps else [*found, (PIT, AS_WASTE, "waste", {"color": palette.WASTE})]
 
 
-def reclaimed_layers(schedule: PushbackSchedule) -> list[tuple[str, str, str, dict[str, Any]]]:
+def reclaimed_layers(schedule: Schedule) -> list[tuple[str, str, str, dict[str, Any]]]:
     """Returns the layers of the ore that is reclaimed in a year, as `layers_of` does."""
     found: list[tuple[str, str, str, dict[str, Any]]] = []
-    for name, colour in palette.of_processes(schedule.names).items():
+    for name, colour in palette.of_processes(names_of(schedule.plan)).items():
         look = {"color": colour, "alpha": 0.55, "hatch": "///", "edgecolor": "white"}
-        found += [(it.name, name, f"{name}, reclaimed", look) for it in schedule.model.stockpiles]
+        found += [(it.name, name, f"{name}, reclaimed", look) for it in stockpiles_of(schedule)]
     return found
 
 
-def draw_flows(ax: Axes, schedule: PushbackSchedule, way: str, size: float) -> None:
+def draw_flows(ax: Axes, schedule: Schedule, way: str, size: float) -> None:
     """Draws a bar per year with a layer per destination, and one beside it of the ore that is reclaimed; a text if nothing is mined."""
-    count = schedule.flows[way].years
-    ax.set_xlabel(label_of(schedule.settings.calendar, count))
+    count = schedule.last_years[way]
+    ax.set_xlabel(label_of(schedule.plan.project.shells.calendar, count))
     if not count:
         ax.text(0.5, 0.5, "nothing is mined", transform=ax.transAxes, ha="center", va="center")
         ax.set_xlim(0.4, 1.6)
@@ -475,8 +480,8 @@ def draw_flows(ax: Axes, schedule: PushbackSchedule, way: str, size: float) -> N
         keys = pd.MultiIndex.from_product([[way], years, [source], [destination]], names=tonnes.index.names)
         return np.asarray(tonnes.reindex(keys, fill_value=0.0).to_numpy() / size)
 
-    fed = np.sum([high(PIT, name) for name in palette.of_processes(schedule.names)], axis=0)
-    wide = WIDTH - BESIDE if schedule.is_stocked else WIDTH
+    fed = np.sum([high(PIT, name) for name in palette.of_processes(names_of(schedule.plan))], axis=0)
+    wide = WIDTH - BESIDE if stockpiles_of(schedule) else WIDTH
     bars = (
         (layers_of(schedule), 0.0 * fed, wide, (wide - WIDTH) / 2),
         (reclaimed_layers(schedule), fed, BESIDE, wide / 2),
@@ -579,37 +584,11 @@ def plot(made: BlockSchedule, axes: Any) -> list[Axes]:
     return [tonnes, money]
 
 
-def draw_bars(ax: Axes, made: BlockSchedule, size: float) -> None:
-    """Draws the in-situ tonnes of each year by process, and waste by dump; a text if nothing is mined."""
-    years, calendar = made.years, made.planned.plan.project.shells.calendar
-    ax.set_xlabel(label_of(calendar, len(years)))
-    if years.empty:
-        ax.text(0.5, 0.5, "nothing is mined", transform=ax.transAxes, ha="center", va="center")
-        ax.set_xlim(0.4, 1.6)
-        ax.set_xticks([])
-        return
-    operation, below = BlockOperation(made), np.zeros(len(years))
-    tonnes = operation.plan.values.tonnes
-    for number, (process, colour) in enumerate(palette.of_processes(made.planned.destinations.processes).items()):
-        high = operation.fed(tonnes, number) / size
-        ax.bar(years["year"], high, 0.8, bottom=below, color=colour, label=process, linewidth=0)
-        below = below + high
-    for number, (dump, colour) in enumerate(palette.of_dumps(it.name for it in operation.plan.project.dumps).items()):
-        high = operation.placed(tonnes, number) / size
-        ax.bar(years["year"], high, 0.8, bottom=below, color=colour, label=f"waste to {dump}", linewidth=0)
-        below = below + high
-    if not operation.plan.project.dumps:
-        waste = (years["total_tonnes"] / size - below).clip(lower=0)
-        ax.bar(years["year"], waste, 0.8, bottom=below, color=palette.WASTE, label="waste", linewidth=0)
-    ax.xaxis.set_major_locator(MaxNLocator(integer=True))
-    ax.set_xlim(0.4, float(years["year"].max()) + 0.6)
-
-
 def plot_block_tonnes(made: BlockSchedule, ax: Axes) -> None:
     years, limits = made.years, made.planned.limits
     top = max(float(years["total_tonnes"].max()), 1.0) if len(years) else 1.0
     size, sign = scaled(top)
-    draw_bars(ax, made, size)
+    draw_flows(ax, made, BLOCK, size)
     capacities = (("feed_tonnes", "processing capacity", MILL), ("total_tonnes", "mining capacity", SHOVELS))
     for name, label, colour in capacities:
         per_year = sum(it.amount for it in limits.parts(name))
@@ -618,7 +597,8 @@ def plot_block_tonnes(made: BlockSchedule, ax: Axes) -> None:
             draw_limit(ax, most, colour, f"{label}: {round(per_year / size, 3):,.12g} {sign}t a year")
             top = max(top, most.max() * size)
     ax.set_ylim(0, 1.2 * MARGIN * top / size)
-    ax.set_ylabel(f"total material, {sign}t")
+    what = "total material; hatched, beside it: reclaimed ore" if stockpiles_of(made) else "total material"
+    ax.set_ylabel(f"{what}, {sign}t")
     ax.legend(loc="upper right", ncol=2, facecolor="white", edgecolor="none", framealpha=0.9)
 
 

@@ -297,6 +297,11 @@ STOCKPILES = TableDeclaration(
         ),
     ),
 )
+RECLAIMS = TableDeclaration(
+    "reclaims.csv",
+    "by block with `[[schedule.stockpiles]]`: a row per block, stockpile, process and year of reclaim",
+    (Column("id", COUNT, "of the block"), YEAR, *MATERIAL_FLOWS.columns[5:7], Column("share", SHARE, "of the block")),
+)
 DUMPS = TableDeclaration(
     "dumps.csv",
     "with `[[dumps]]`: a row per method, dump and year, in tonnes of waste",
@@ -764,7 +769,8 @@ BLOCK_TABLE = TableDeclaration(
         replace(YEAR, holds="in which its bench is completed; 0: never", when="with a schedule"),
         replace(BIN, when="with a schedule of pushbacks"),
         Column("share_mined", SHARE, "share of the block that is mined", when="with a schedule of pushbacks"),
-        Column("share_PROCESS", SHARE, "share of the block that a process takes", when="with a schedule"),
+        Column("share_PROCESS", SHARE, "that a process takes, from a stockpile too", when="with a schedule"),
+        Column("share_STOCKPILE", SHARE, "that is placed on a stockpile", when="by block, with stockpiles"),
         Column("share_DUMP", SHARE, "share of the block that lies in a dump", when="by block, with `[[dumps]]`"),
         replace(FIRST, name="free_revenue_factor", holds="without the constraints", when="of `pitplan pit`"),
         replace(
@@ -773,18 +779,9 @@ BLOCK_TABLE = TableDeclaration(
     ),
     digits=0,
 )
-TABLES: tuple[TableDeclaration, ...] = (
-    BLOCK_TABLE,
-    SHELLS,
-    YEARLY,
-    PITS,
-    PUSHBACKS,
-    SCHEDULE,
-    METHODS,
-    SENSITIVITY,
-    HILL,
-)
-TABLES += (MATERIAL_FLOWS, FEEDS, CUTOFFS, STOCKPILES, DUMPS, LIMITS, CASH_FLOW, VALUATION, INVENTORY, GRADE_TONNAGE)
+TABLES: tuple[TableDeclaration, ...] = (BLOCK_TABLE, SHELLS, YEARLY, PITS, PUSHBACKS, SCHEDULE, METHODS)
+TABLES += (SENSITIVITY, HILL, MATERIAL_FLOWS, FEEDS, CUTOFFS, STOCKPILES, RECLAIMS, DUMPS, LIMITS, CASH_FLOW)
+TABLES += (VALUATION, INVENTORY, GRADE_TONNAGE)
 TABLES += (MULTIPLIERS, PROBABILITY, SCENARIOS, QUANTILES, COMMON, COMMON_YEARS, SCHEDULES, BLOCK_QUANTILES)
 TABLES += (PRICE_PATHS, PRICE_QUANTILES, *COMPARISON)
 

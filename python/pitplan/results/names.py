@@ -9,7 +9,7 @@ TABLE, SHELLS, YEARS = f"{TABLES}/blocks.csv", f"{TABLES}/shells.csv", f"{TABLES
 PITS, PUSHBACKS = f"{TABLES}/pits.csv", f"{TABLES}/pushbacks.csv"
 SCHEDULE, METHODS = f"{TABLES}/schedule.csv", f"{TABLES}/methods.csv"
 MATERIAL_FLOWS, FEED, STOCKPILES = f"{TABLES}/flows.csv", f"{TABLES}/feed.csv", f"{TABLES}/stockpiles.csv"
-DUMPS = f"{TABLES}/dumps.csv"
+RECLAIMS, DUMPS = f"{TABLES}/reclaims.csv", f"{TABLES}/dumps.csv"
 CASH_FLOW, VALUATION, INVENTORY = f"{TABLES}/cash_flow.csv", f"{TABLES}/valuation.csv", f"{TABLES}/inventory.csv"
 GRADE_TONNAGE = f"{TABLES}/grade_tonnage.csv"
 PRICE_PATHS, PRICE_QUANTILES = f"{TABLES}/price_paths.csv", f"{TABLES}/price_path_quantiles.csv"
@@ -33,7 +33,19 @@ MOST_COMPARED = 20
 # What only some commands write. A run removes those of an earlier run that it does not write itself, since they show other results.
 OF_SOME = (
     *(SHELLS, YEARS, PITS, PUSHBACKS, SCHEDULE, METHODS, BOUND, WORKBOOK),
-    *(MATERIAL_FLOWS, FEED, STOCKPILES, DUMPS, LIMITS, CUTOFFS, CASH_FLOW, VALUATION, INVENTORY, GRADE_TONNAGE),
+    *(
+        MATERIAL_FLOWS,
+        FEED,
+        STOCKPILES,
+        RECLAIMS,
+        DUMPS,
+        LIMITS,
+        CUTOFFS,
+        CASH_FLOW,
+        VALUATION,
+        INVENTORY,
+        GRADE_TONNAGE,
+    ),
     *(SCHEDULE_RECORD, BLOCK_SCHEDULE, REPORT, VIEW, PRICE_PATHS, PRICE_QUANTILES, *OF_CERTIFICATE),
 )
 

@@ -14,7 +14,6 @@ import pandas as pd
 import scipy
 from numpy.typing import NDArray
 
-from pitplan.config.economics import GRADE_UNITS
 from pitplan.config.material import MILL
 from pitplan.config.periods import Calendar
 from pitplan.config.project import Project
@@ -43,7 +42,7 @@ from .flow import bound, opening, scheduler, tables
 from .flow.certificate import FlowCertificate
 from .flow.conflicts import Conflict
 from .flow.flows import Flows
-from .flow.mixed_reclaim import loss_by_mixing
+from .flow.mixed_reclaim import loss_by_mixing, notes_of_mixing
 from .flow.model import FlowModel
 from .flow.multipliers import Multipliers
 from .flow.opening import OpeningLots
@@ -90,8 +89,6 @@ FINE, REFINEMENTS = 0.002, 3
 FEW_BINS, FEW_PARTS = 4, 2
 # The search for the prices of large programmes ends when less than this share is promised: of the first programme, and of finer ones.
 ROUGH, CLOSE = 3e-3, 3e-4
-# A grade that differs by a smaller share from another is the same for a planner.
-APART = 0.01
 # The integer programme of so few benches times years, and unknowns in all, is solved unasked for some seconds, if the gap exceeds this share.
 SMALL, SMALL_UNKNOWNS, UNASKED, WORTH_SEARCHING = 40, 5_000, Effort(gap=1e-4, seconds=10.0), 1e-3
 
@@ -385,23 +382,11 @@ class PushbackSchedule(Schedule):
 
     def notes_of_stockpiles(self) -> list[str]:
         """Returns what a planner should know of stockpiles whose reclaimed grade differs from the mean of the pile, and what the mean would earn."""
-        found, metals = [], self.plan.project.metals
-        table = stockpile_table(self).query("method == @self.shown") if self.is_stocked else pd.DataFrame()
-        for name, rows in table.groupby("stockpile", sort=False) if len(table) else ():
-            start = balance_at_start(self, str(name))
-            for metal in metals:
-                at_start = float(start[f"contained_{metal.name}"]) / float(GRADE_UNITS[metal.unit])
-                first = at_start / start["feed_tonnes"] if start["feed_tonnes"] > 0 else np.nan
-                lay, taken = np.append(first, rows[f"grade_{metal.name}"])[:-1], rows[f"reclaimed_grade_{metal.name}"]
-                apart = np.flatnonzero(np.abs(taken - lay) > APART * np.abs(lay))
-                by_year = [f"{rows['year'].iloc[k]}: {taken.iloc[k]:.4g} of {lay[k]:.4g}" for k in apart]
-                if by_year:
-                    what = f"reclaimed grade of {metal.name} of the mean of the pile, {metal.sign}"
-                    found.append(f"stockpile {name}: {what}, by {self.settings.calendar.word}: {', '.join(by_year)}")
-        if found:
-            value = self.value(self.shown) - loss_by_mixing(self.flows[self.shown])
-            found.append(f"{WARNING}if each stockpile gives back the mean of what lies there, the NPV is {value:,.0f}")
-        return found
+        if not self.is_stocked:
+            return []
+        table = self.stockpiles.query("method == @self.shown")
+        value = self.value(self.shown) - loss_by_mixing(self.flows[self.shown])
+        return notes_of_mixing(table, self.starts, self.plan.project, value)
 
     @property
     def blocks_year(self) -> np.ndarray:
@@ -445,9 +430,19 @@ class PushbackSchedule(Schedule):
         """Tables of material by name, the inventory among them; a workbook has these."""
         found = {"feed": self.feed, "flows": self.material_flows, "cutoffs": tables.cutoff_table(self)}
         found["inventory"] = inventory.inventory_table(self)
-        found |= {"stockpiles": tables.stockpile_table(self)} if self.is_stocked else {}
+        found |= {"stockpiles": self.stockpiles} if self.is_stocked else {}
         dumps = self.model.dumps
         return found | ({"dumps": tables.dump_table(self.material_flows, self.last_years, dumps)} if dumps else {})
+
+    @property
+    def stockpiles(self) -> pd.DataFrame:
+        """What lies on each stockpile, and what is placed and reclaimed, in each year of each method."""
+        return stockpile_table(self.material_flows, self.last_years, self.starts, self.plan.project.metals)
+
+    @property
+    def starts(self) -> dict[str, pd.Series]:
+        """By stockpile the feed and the metals that lie there at the start."""
+        return {it.name: balance_at_start(self, it.name) for it in self.model.stockpiles}
 
     @property
     def last_years(self) -> dict[str, int]:

@@ -83,6 +83,16 @@ class Schedule(Answer):
 
     @property
     @abstractmethod
+    def material_flows(self) -> pd.DataFrame:
+        """Flows by method, year, source and destination."""
+
+    @property
+    @abstractmethod
+    def last_years(self) -> dict[str, int]:
+        """The last year of each method."""
+
+    @property
+    @abstractmethod
     def material_tables(self) -> dict[str, pd.DataFrame]:
         """Tables of material by name, the inventory among them; a workbook has these."""
 

@@ -29,6 +29,7 @@ from planaudit.inputs.matching import (
     rows_of,
     said_of,
     shares_of,
+    stockpile_shares_of,
 )
 from planaudit.inputs.project import GRADE_UNITS, Project, Section
 from planaudit.inputs.record import PLAN, read_plan
@@ -54,7 +55,7 @@ def read_shells(
     schedule = read_table(folder / "tables/schedule.csv", ["method"]) if "schedule" in record else None
     is_by_block = "by_block" in record
     shares = shares_of(project) if is_by_block or schedule is not None else []
-    shares += dump_shares_of(project) if is_by_block else []
+    shares += [*dump_shares_of(project), *stockpile_shares_of(project)] if is_by_block else []
     more = [
         *([PUSHBACK] if pushbacks is not None else []),
         *([YEAR] if schedule is not None or is_by_block else []),
@@ -90,6 +91,8 @@ def read_pits(
     )
 
 
+# The columns of reclaims.csv with text.
+TEXTS = ("source", "destination")
 # Instead of a revenue factor: a cell that is never mined, and one without material.
 UNMINED, NOTHING = np.inf, 0.0
 
@@ -316,6 +319,28 @@ class Answer:
             np.copyto(cube[level], cube[level - 1], where=cube[level] < 0)
         return np.where(cube < 0, np.int16(others), cube)
 
+    @cached_property
+    def reclaims(self) -> pd.DataFrame:
+        """By block reclaims.csv: the `row` of each block, the year in which it is reclaimed, the stockpile as `source`, the process as `destination`, and the
+        share; without stockpiles it has no rows.
+
+        Raises
+        ------
+        AuditError
+            If a row is of no block.
+        """
+        columns = ["row", "year", "source", "destination", "share"]
+        if not (self.is_by_block and stockpile_shares_of(self.project)):
+            return pd.DataFrame({name: pd.Series(dtype=object if name in TEXTS else float) for name in columns})
+        said = read_table(self.folder / "tables/reclaims.csv", list(TEXTS))
+        numbers = np.ravel_multi_index(self.cells, self.shape)
+        row = pd.Series(np.arange(len(numbers)), index=numbers).reindex(said["id"])
+        if row.isna().any():
+            raise AuditError(
+                f"reclaims.csv: found id {said['id'][row.isna().to_numpy()].iloc[0]}, expected those of blocks.csv"
+            )
+        return said.assign(row=row.to_numpy(dtype=int))[columns]
+
     def levels(self, domain: Section) -> int:
         """Returns the precedence benches of an entry of `[[slopes.domains]]`."""
         if domain["pattern"]:
@@ -373,6 +398,7 @@ def read(written: Path, folder: Optional[Path] = None, table: Optional[pd.DataFr
             MINED,
             *shares_of(project),
             *dump_shares_of(project),
+            *stockpile_shares_of(project),
             *own,
         )
         blocks = read_blocks(written / "tables/blocks.csv", project, results)

@@ -46,6 +46,11 @@ def dump_shares_of(project: Project) -> list[str]:
     return [f"{SHARE}{dump['name']}" for dump in project.dumps]
 
 
+def stockpile_shares_of(project: Project) -> list[str]:
+    """Returns the columns of blocks.csv of a schedule by block with the share of a block that is placed on each stockpile."""
+    return [f"{SHARE}{it['name']}" for it in (project.schedule["stockpiles"] if project.schedule else ())]
+
+
 def said_of(project: Project) -> tuple[str, ...]:
     """Returns the columns of results in blocks.csv for a project."""
     hauled = HAULED if project.haulage else ()

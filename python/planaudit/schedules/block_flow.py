@@ -13,9 +13,9 @@ import pandas as pd
 from planaudit.inputs.answer import Answer
 from planaudit.inputs.matching import own_name
 from planaudit.inputs.tables import TABLES, YEAR, read_prices, read_table
+from planaudit.money.period_costs import mining_factor
 from planaudit.rules import TOLD, Checks, Rule, rule
 from planaudit.schedules import (
-    block_grades,
     bounds,
     cash_flow,
     dumps,
@@ -24,8 +24,9 @@ from planaudit.schedules import (
     limit_table,
     material_flow,
     price_paths,
+    stockpiles,
 )
-from planaudit.schedules.limits import amounts_of, placed_of, shares_of
+from planaudit.schedules.limits import placed_of, shares_of, stocked_of
 from planaudit.schedules.lots import MILL, BlockAmounts
 from planaudit.schedules.material_flow import PIT, WASTE, MaterialFlow
 from planaudit.schedules.pushback_schedule import by_year
@@ -65,24 +66,34 @@ class SingleBlocks(BlockAmounts):
 def flow_of(answer: Answer) -> MaterialFlow:
     """Returns a row per mined block and destination that takes a share of it, with its amounts. No amount is rounded."""
     blocks = SingleBlocks(answer)
-    shares = [(name or MILL, share[blocks.inside]) for name, share in shares_of(answer)]
+    shares = [(name or MILL, share[blocks.inside]) for name, share in (*shares_of(answer), *stocked_of(answer))]
     placed = [(name, share[blocks.inside]) for name, share in placed_of(answer)]
     shares += placed or [(WASTE, 1.0 - np.sum([share for _, share in shares], axis=0))]
-    year = answer.said[YEAR].to_numpy()[blocks.inside]
-    parts = []
+    year, parts = answer.said[YEAR].to_numpy()[blocks.inside], []
     for destination, share in shares:
         some = np.flatnonzero(share > SLIGHT)
-        found = {"method": CASE, "year": year[some], "source": PIT, "destination": destination}
-        found["total_tonnes"] = blocks.tonnes[some] * share[some]
-        found["bench"] = answer.toes[blocks.keys["level"].to_numpy()[some]]
-        parts.append(pd.concat([blocks.keys.iloc[some].reset_index(drop=True), pd.DataFrame(found)], axis=1))
-    flow = MaterialFlow(answer, blocks, pd.concat(parts, ignore_index=True), rounded=0.0)
+        parts.append(
+            rows_of(blocks, some, share[some], {"year": year[some], "source": PIT, "destination": destination})
+        )
+    place = np.full(len(answer.rows), -1)
+    place[blocks.inside] = np.arange(len(blocks.inside))
+    again = answer.reclaims[place[answer.reclaims["row"].astype(int)] >= 0]
+    legs = {name: again[name].to_numpy() for name in ("year", "source", "destination")}
+    parts.append(rows_of(blocks, place[again["row"].astype(int)], again["share"].to_numpy(), legs))
+    flow = MaterialFlow(answer, blocks, pd.concat(parts, ignore_index=True).astype({"year": int}), rounded=0.0)
     return replace(flow, rows=flow.rows.assign(**{name: due for name, (due, _) in flow.expected.items()}))
 
 
-def checks_of(answer: Answer, record: dict[str, Any]) -> Checks:
+def rows_of(blocks: SingleBlocks, some: np.ndarray, share: np.ndarray, legs: dict[str, Any]) -> pd.DataFrame:
+    """Returns the rows of shares of some blocks; `legs` are their year, source and destination."""
+    keys = blocks.keys.iloc[some].reset_index(drop=True)
+    found = {"method": CASE, **legs, "total_tonnes": blocks.tonnes[some] * share}
+    return pd.concat([keys, pd.DataFrame(found | {"bench": blocks.answer.toes[keys["level"].to_numpy()]})], axis=1)
+
+
+def checks_of(flow: MaterialFlow, record: dict[str, Any]) -> Checks:
     """Returns the checks of feed.csv, limits.csv, inventory.csv, cash_flow.csv, valuation.csv and grade_tonnage.csv, and of dumps and price paths if there are any."""
-    flow = flow_of(answer)
+    answer = flow.answer
     found: Checks = {
         "inventory": lambda: [inventory.rule_of([*untaken(flow), *inventory.unlike_rows(flow)])],
         "feed and limits": lambda: [verify_feed(flow, record)],
@@ -91,6 +102,8 @@ def checks_of(answer: Answer, record: dict[str, Any]) -> Checks:
     }
     if answer.project.dumps:
         found = {**found, "dumps": lambda: [verify_dumps(flow)]}
+    if flow.blocks.stockpiles:
+        found = {**found, "material flow": lambda: [verify_stockpiles(flow)]}
     if not answer.project.price_paths:
         return found
     return {**found, "price paths": lambda: [price_paths.verify(answer, CASE, recovered_of(flow))]}
@@ -117,25 +130,56 @@ def verify_feed(flow: MaterialFlow, record: dict[str, Any]) -> Rule:
 
 def used(flow: MaterialFlow, name: str, last: int) -> tuple[pd.Series, pd.Series]:
     """Returns by year what is used of an amount, of the excess of a head grade, or as `feed K` by a process; and its tolerance."""
-    answer, year = flow.answer, flow.answer.said[YEAR].to_numpy()
     if name.startswith((dumps.DUMP, dumps.DUMPED)):
         return dumps.used(flow, name, CASE, last)
-    shares = shares_of(answer)
-    if name.startswith("feed "):
-        of_blocks = shares[int(name.removeprefix("feed "))][1] * answer.feed
-    else:
-        excess = dict(it for grade in block_grades.graded(answer, shares) for it in grade.excess())
-        of_blocks = excess[name] if name in excess else amounts_of(answer, shares)[name].to_numpy()
-    sums = np.bincount(year, of_blocks, minlength=last + 1)
+    if name.startswith(limit_table.STOCK):
+        return flow.lying(name.removeprefix(limit_table.STOCK), CASE, last)
+    year = flow.answer.said[YEAR].to_numpy()[flow.blocks.inside]
+    sums = np.bincount(flow.rows["year"], fed(flow, name), minlength=last + 1)
+    sums = sums + np.bincount(year, flow.blocks.of_mining(name), minlength=last + 1)
     return pd.Series(sums, index=range(len(sums))), pd.Series(dtype=float)
+
+
+def fed(flow: MaterialFlow, name: str) -> np.ndarray:
+    """Returns what each row adds to an amount in its process."""
+    if name == "total_tonnes":
+        return np.zeros(len(flow.rows))
+    number = flow.names.get(name.removeprefix("feed_tonnes_"), -1)
+    if name.startswith("feed "):
+        number = int(name.removeprefix("feed "))
+    if number >= 0 or name == "feed_tonnes":
+        return np.where(flow.process == number if number >= 0 else flow.process >= 0, flow.rows["feed_tonnes"], 0.0)
+    return flow.rows[name].to_numpy() if name.startswith("recovered_") else flow.by_process(name) * flow.share
+
+
+def of_years(flow: MaterialFlow) -> pd.DataFrame:
+    """Returns the sums of years: rock, feed, limited sums, recovered metal, and the cash flow at the prices of each."""
+    answer, blocks = flow.answer, flow.blocks
+    last, year = int(flow.rows["year"].max()) if len(flow.rows) else 0, answer.said[YEAR].to_numpy()[blocks.inside]
+    names = ["total_tonnes", "feed_tonnes", *(f"feed_tonnes_{name}" for name in blocks.processes if name)]
+    names += [f"sum_{it['name']}" for it in blocks.sums]
+    names += [f"recovered_{metal['name']}" for metal in answer.project.metals]
+    found = {name: used(flow, name, last)[0] for name in names}
+    factors = np.array([mining_factor(answer.project, it) for it in range(last + 1)])
+    cash = np.bincount(year, blocks.mining_cash * factors[year], minlength=last + 1)
+    cash = cash + np.bincount(flow.rows["year"], flow.rows["cash_flow"], minlength=last + 1)
+    return pd.DataFrame(found | {"cash_flow": pd.Series(cash)}).loc[1:]
+
+
+def verify_stockpiles(flow: MaterialFlow) -> Rule:
+    """Verifies that stockpiles hold what is placed on them until it is reclaimed, within their limits, and stockpiles.csv."""
+    found = list(stockpiles.differences(flow))
+    holds = "a stockpile accepts what is placed on it, holds it until it is reclaimed in a later year, and no more or less than its limits"
+    return rule("material flow", holds, found[:TOLD], len(found))
 
 
 def verify_dumps(flow: MaterialFlow) -> Rule:
     """Verifies that each mined block goes to dumps that accept it or to processes, within the limits of dumps, and dumps.csv."""
     answer, blocks = flow.answer, flow.blocks
-    whole = np.sum([share for _, share in (*shares_of(answer), *placed_of(answer))], axis=0)[blocks.inside]
+    shares = (*shares_of(answer), *placed_of(answer), *stocked_of(answer))
+    whole = np.sum([share for _, share in shares], axis=0)[blocks.inside]
     lost = blocks.inside[np.abs(whole - 1.0) > SHARE]
-    found = [f"{answer.called(row)}: its shares of dumps and processes do not add up to 1" for row in lost]
+    found = [f"{answer.called(row)}: its shares of dumps, processes and stockpiles do not add up to 1" for row in lost]
     found += dumps.differences(flow)
     holds = "each mined block goes whole to dumps that accept it and to processes, and no dump takes or holds more than its limits"
     return rule("dumps", holds, found[:TOLD], len(found))

@@ -2,21 +2,21 @@
 
 from __future__ import annotations
 
-from collections.abc import Iterator
+from collections.abc import Callable, Iterator
 from dataclasses import dataclass
 from typing import Any
 
 import numpy as np
+import pandas as pd
 
 from planaudit.inputs.answer import Answer
 from planaudit.inputs.project import Section, limit_key
-from planaudit.inputs.tables import YEAR
 from planaudit.schedules.grade_limits import GradeLimit, codes_of, grade_limits, grade_name, most_of
 from planaudit.schedules.limits import Shares, shares_of
 
 CASE = "block"
-# Tolerance of limits, as a share of them, and of the last decimal place of a grade.
-LOOSE, GRADE = 1e-8, 0.6e-6
+# Tolerance of limits, as a share of them, of a grade of nothing as a difference of sums, and of the last decimal place of a grade.
+LOOSE, HAIR, GRADE = 1e-8, 1e-12, 0.6e-6
 
 
 @dataclass(frozen=True)
@@ -26,6 +26,8 @@ class Graded:
     Attributes
     ----------
     limit : Section
+    process : int
+        The number of the process.
     sides : tuple of GradeLimit
         Its limits, one for each value that some period has.
     content, feed : array, shape (rows,)
@@ -35,6 +37,7 @@ class Graded:
     """
 
     limit: Section
+    process: int
     sides: tuple[GradeLimit, ...]
     content: np.ndarray
     feed: np.ndarray
@@ -64,7 +67,9 @@ def graded(answer: Answer, shares: Shares) -> Iterator[Graded]:
             content = np.where(
                 codes_of(answer.rows, answer.project, limit["column"]) == limit["code"], answer.feed, 0.0
             )
-        yield Graded(limit, sides, share * content, share * answer.feed, (answer.said[revenues[number]] > 0).to_numpy())
+        yield Graded(
+            limit, number, sides, share * content, share * answer.feed, (answer.said[revenues[number]] > 0).to_numpy()
+        )
 
 
 def limits_of(answer: Answer) -> dict[str, float]:
@@ -81,21 +86,23 @@ def most_of_years(answer: Answer, years: int) -> dict[tuple[str, int], float]:
     return found
 
 
-def differences(answer: Answer, told: dict[str, Any]) -> list[str]:
-    """Returns years whose head grades are beyond a limit or are not those of years.csv, and limits that the record does not have."""
+def differences(answer: Answer, told: dict[str, Any], used: Callable[[str], pd.Series]) -> list[str]:
+    """Returns years whose head grades are beyond a limit or are not those of years.csv, and limits that the record does not have; `used` returns by year
+    what is used of the excess of a limit, or as `feed K` by a process."""
     assert answer.years is not None
     expected = limits_of(answer)
     found = (
         [] if told.get("feed", {}) == expected else [f"head grades are recorded as {told.get('feed')} for {expected}"]
     )
-    year, said = answer.said[YEAR].to_numpy(), answer.years[answer.years["case"] == CASE].set_index("year")
+    said = answer.years[answer.years["case"] == CASE].set_index("year")
     for it in graded(answer, shares_of(answer)):
-        content, feed = (np.bincount(year, amounts, minlength=told["years"] + 1) for amounts in (it.content, it.feed))
+        feed, first = used(f"feed {it.process}"), it.sides[0]
+        content = first.sign * used(first.name) + first.grade * feed
         of_years = [answer.project.grades_by_period(it.limit, side, told["years"]) for side in ("min", "max")]
-        for number in np.flatnonzero(feed[1:] > 0) + 1:
+        for number in feed.index[feed > 0]:
             grade, (low, high) = content[number] / feed[number], (side[number - 1] for side in of_years)
             least, most = low or 0.0, np.inf if high is None else high
-            if not least * (1 - LOOSE) <= grade <= most * (1 + LOOSE):
+            if not least * (1 - LOOSE) - HAIR <= grade <= most * (1 + LOOSE) + HAIR:
                 found.append(f"year {number}: head grade {it.called} {grade:.10g}, limits {least:.10g} and {most:.10g}")
             written = float(said[f"head_grade_{it.called}"].get(number, np.nan))
             if not abs(written - grade) <= GRADE + 1e-9 * abs(grade):

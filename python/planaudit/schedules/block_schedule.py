@@ -15,12 +15,13 @@ from planaudit.blocks import constraints
 from planaudit.ground import slopes
 from planaudit.inputs.answer import Answer
 from planaudit.inputs.tables import YEAR
-from planaudit.money import ore_costs
-from planaudit.money.period_costs import capex, fixed_cost, has_costs, mining_factor, premiums
+from planaudit.money.period_costs import capex, fixed_cost, has_costs
 from planaudit.rules import TOLD, Checks, Rule, rule
 from planaudit.schedules import block_flow, block_grades, bounds, certificate, methods as ways_table
 from planaudit.schedules.discounts import discount, present_costs
-from planaudit.schedules.limits import amounts_of, limits_of, minima_of, placed_of, shares_of
+from planaudit.schedules.limits import limits_of, minima_of, shares_of, stocked_of
+from planaudit.schedules.material_flow import MaterialFlow
+from planaudit.schedules.mixed_reclaim import npv_at_mean_grade
 from planaudit.schedules.periods import counted
 from planaudit.schedules.pushback_schedule import CENT
 
@@ -31,15 +32,14 @@ SLIGHT = 1e-6
 def checks_of(answer: Answer) -> Checks:
     """Returns the checks of constraints, order, limits and values, and of the tables of money and material."""
     told = counted(json.loads((answer.folder / FILE).read_text(encoding="utf-8")), answer.project)
-    flows = flows_of(answer)
-    sums = flows.groupby(answer.said[YEAR].to_numpy()).sum()
+    flow = block_flow.flow_of(answer)
     return {
         "block order": lambda: [verify_order(answer, told)],
-        "block limits": lambda: [verify_limits(answer, told, sums)],
+        "block limits": lambda: [verify_limits(flow, told)],
         "block constraints": lambda: verify_fixed(answer),
-        "block value": lambda: [verify_value(answer, told, sums)],
+        "block value": lambda: [verify_value(flow, told)],
         "upper bound": lambda: [bounds.verify(answer, told)],
-        **block_flow.checks_of(answer, told),
+        **block_flow.checks_of(flow, told),
         "certificate": lambda: certificate.verify(answer, told),
     }
 
@@ -57,32 +57,6 @@ def verify_fixed(answer: Answer) -> list[Rule]:
     return [rule("block constraints", holds, differences, len(left) + len(mined))]
 
 
-def flows_of(answer: Answer) -> pd.DataFrame:
-    """Returns the amounts of each mined block with tonnes, and its cash flow at the prices of its year."""
-    shares, said = shares_of(answer), answer.said
-    frame, amounts = amounts_of(answer, shares), zip(shares, answer.amounts_of_ways)
-    gain = sum(share * (said[revenue] - said[cost]).to_numpy() for (_, share), (revenue, cost) in amounts)
-    placed = zip(placed_of(answer), answer.project.dumps)
-    gain -= sum((share * dump["cost"] for (_, share), dump in placed), np.zeros(len(said))) * answer.tonnes
-    return frame.assign(cash_flow=gain - said["mining_cost"].to_numpy() + more_by_years(answer, frame))
-
-
-def more_by_years(answer: Answer, flows: pd.DataFrame) -> np.ndarray:
-    """Returns the gain of each block by the prices and the mining costs of its year."""
-    year, more = answer.said[YEAR].to_numpy(), np.zeros(len(flows))
-    shares = np.stack([share for _, share in shares_of(answer)])
-    amounts = dict(flows.items()) | {
-        name: (shares * it).sum(axis=0) for name, it in ore_costs.of_blocks(answer).items()
-    }
-    for each in np.unique(year[year > 0]).tolist():
-        premium = sum(
-            (price * np.asarray(amounts[name]) for name, price in premiums(answer.project, each).items()),
-            (1 - mining_factor(answer.project, each)) * answer.said["mining_cost"].to_numpy(),
-        )
-        more += np.where(year == each, premium, 0.0)
-    return more
-
-
 def verify_order(answer: Answer, told: dict[str, Any]) -> Rule:
     """Verifies that no block is mined before its whole cone or after the last year, and that its shares sum to at most 1."""
     year = answer.said[YEAR].to_numpy()
@@ -92,23 +66,27 @@ def verify_order(answer: Answer, told: dict[str, Any]) -> Rule:
         difference.replace("mined at revenue factor", "mined in year", 1) for difference in found.differences
     ]
     wrong = (year < 0) | (year > told["years"])
-    shares = [share for _, share in shares_of(answer)]
+    shares = [share for _, share in (*shares_of(answer), *stocked_of(answer))]
     whole = np.sum(shares, axis=0)
     wrong |= (whole > 1 + SLIGHT) | (np.min(shares, axis=0) < -SLIGHT)
     wrong |= (year == 0) & (whole > SLIGHT)
     rows = np.flatnonzero(wrong)[:TOLD]
     differences += [f"{answer.called(row)}: year {year[row]}, share processed {whole[row]:.6g}" for row in rows]
+    late = answer.reclaims["year"] > told["years"]
+    differences += [
+        f"{answer.called(int(row))}: reclaimed after year {told['years']}" for row in answer.reclaims["row"][late]
+    ]
     holds = "no block is mined before all blocks of its slope cone"
-    return rule("block order", holds, differences, found.count + int(wrong.sum()))
+    return rule("block order", holds, differences, found.count + int(wrong.sum()) + int(late.sum()))
 
 
-def verify_limits(answer: Answer, told: dict[str, Any], sums: pd.DataFrame) -> Rule:
+def verify_limits(flow: MaterialFlow, told: dict[str, Any]) -> Rule:
     """Verifies that no year exceeds a limit, ramp-up included, or falls below a minimum."""
-    differences = []
+    answer, sums, differences = flow.answer, block_flow.of_years(flow), []
     for name, ramps, most in limits_of(answer):
         if told["limits"].get(name) != most:
             differences.append(f"limit of {name} is recorded as {told['limits'].get(name)} for {most:.10g}")
-        for year, amount in sums[name][sums.index > 0].items():
+        for year, amount in sums[name].items():
             allowed = most * ramps[min(int(year), len(ramps)) - 1]
             if amount > allowed * (1 + 1e-8) + CENT:
                 differences.append(f"year {year}: {name} {amount:.10g} above {allowed:.10g}")
@@ -130,7 +108,10 @@ def verify_limits(answer: Answer, told: dict[str, Any], sums: pd.DataFrame) -> R
     return rule(
         "block limits",
         "no year exceeds a limit of feed, total material, metal, a sum or a head grade, nor falls below a minimum",
-        [*differences, *block_grades.differences(answer, told)],
+        [
+            *differences,
+            *block_grades.differences(answer, told, lambda name: block_flow.used(flow, name, told["years"])[0]),
+        ],
     )
 
 
@@ -150,8 +131,9 @@ def with_costs(answer: Answer, sums: pd.DataFrame) -> pd.DataFrame:
     return sums.assign(**costs, cash_flow=sums["cash_flow"] - costs["fixed_cost"] - costs["capex"])
 
 
-def verify_value(answer: Answer, told: dict[str, Any], sums: pd.DataFrame) -> Rule:
+def verify_value(flow: MaterialFlow, told: dict[str, Any]) -> Rule:
     """Verifies that years.csv has the sums of blocks and discounted cash flow, and that the NPV is their sum and at most the bound."""
+    answer, sums = flow.answer, block_flow.of_years(flow)
     assert answer.years is not None
     said = answer.years[answer.years["case"] == CASE].set_index("year")
     last = int(sums.index.max()) if len(sums) else 0
@@ -172,6 +154,9 @@ def verify_value(answer: Answer, told: dict[str, Any], sums: pd.DataFrame) -> Ru
     if abs(told["gap"] - gap) > 1e-6:
         differences.append(f"gap {told['gap']:.9g} for {gap:.9g}")
     mined = int(((answer.said[YEAR] > 0) & (answer.tonnes > 0)).sum())
-    differences += ways_table.differences(answer, {CASE: {"npv": told["npv"], "upper_bound": bound, "blocks": mined}})
+    record, loose = {"npv": told["npv"], "upper_bound": bound, "blocks": mined}, {}
+    if flow.blocks.stockpiles:
+        record["npv_at_mean_grade"], loose[CASE] = npv_at_mean_grade(flow, CASE, told["npv"])
+    differences += ways_table.differences(answer, {CASE: record}, loose)
     holds = "cash flows are discounted as in the project, years and NPV are sums over blocks, and the NPV is within its bound"
     return rule("block value", holds, differences)

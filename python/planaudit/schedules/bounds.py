@@ -20,12 +20,15 @@ from planaudit.inputs.codes import refused
 from planaudit.inputs.project import Section
 from planaudit.inputs.tables import TABLES, read_prices
 from planaudit.money import ore_costs
-from planaudit.money.period_costs import differing, mining_factor, premiums
+from planaudit.money.period_costs import BY_TERMS, SELLING, differing, mining_factor, premiums
+from planaudit.money.smelter import net
 from planaudit.rules import Rule, rule
 from planaudit.schedules import block_grades, dumps
 from planaudit.schedules.closure import Closure, maximum_closure
 from planaudit.schedules.discounts import discount, present_costs
+from planaudit.schedules.limit_table import STOCK
 from planaudit.schedules.limits import amounts_of, at, limits_of, minima_of, shares_of
+from planaudit.schedules.periods import stock_limits
 from planaudit.schedules.precedences import Precedences, precedences_of
 from planaudit.schedules.pushback_schedule import CENT
 
@@ -92,6 +95,8 @@ class Bound:
             found |= {(name, MIN, year): at(by_year, year) for year in self.every_year}
         of_grades = block_grades.most_of_years(self.answer, self.years)
         found |= {(name, MAX, year): most for (name, year), most in of_grades.items()}
+        for name, sides in stock_limits(self.answer.project, self.years).items():
+            found |= limited_years(f"{STOCK}{name}", *sides)
         if self.must.any():
             found[MUST_MINE, MIN, 0] = float(np.count_nonzero(self.must))
         return found | self.limits_of_dumps
@@ -104,9 +109,7 @@ class Bound:
             if name.startswith(dumps.DUMPED):
                 found[name, MAX, 0] = float(most[-1])
                 continue
-            for side, of_years, is_limited in ((MAX, most, np.isfinite(most)), (MIN, least, least > 0)):
-                if is_limited.any():
-                    found |= {(name, side, year): float(amount) for year, amount in enumerate(of_years, 1)}
+            found |= limited_years(name, least, most)
         return found
 
     @property
@@ -165,18 +168,43 @@ class Bound:
         for (name, _), (revenue, _) in zip(shares_of(answer), answer.amounts_of_ways):
             is_taken = (answer.said[revenue] > 0).to_numpy() | (not answer.project.dumps)
             best = np.where(is_taken[:, None], np.maximum(best, self.earned_as(name)), best)
+        for pile in answer.project.schedule["stockpiles"] if answer.project.schedule else ():
+            accepts = ~refused(answer.rows, answer.project, pile["accepts"])
+            pays = np.any([answer.said[revenue] > 0 for revenue, _ in answer.amounts_of_ways], axis=0)
+            best = np.where((accepts & pays)[:, None], np.maximum(best, self.earned_over(pile)), best)
         return best
+
+    def earned_over(self, pile: Section) -> np.ndarray:
+        """Returns the same of blocks that are all placed on a stockpile, from which the process where that earns most takes them in the best later year,
+        or none, by the year in which they are mined."""
+        answer, feed, found = self.answer, self.answer.feed, self.earned_as(None)
+        later = np.full((len(answer.rows), self.years + 1), -np.inf)
+        for (name, _), (revenue, _) in zip(shares_of(answer), answer.amounts_of_ways):
+            pays = (answer.said[revenue] > 0).to_numpy()[:, None]
+            later[:, :-1] = np.where(pays, np.maximum(later[:, :-1], self.earned_as(name, pile=pile)), later[:, :-1])
+        mine = self.prices[self.prices["limit"] == f"{STOCK}{pile['name']}"]
+        waits, lies = np.zeros(len(answer.rows)), np.empty_like(found)
+        for year in reversed(self.every_year):
+            # A tonne that lies there at the end of a year pays for its capacity.
+            waits = np.maximum(waits, later[:, year]) - feed * mine["price"][mine["year"] == year].sum()
+            lies[:, year - 1] = waits
+        factors = [discount(answer, year) for year in self.every_year]
+        return found + lies - np.outer(feed, factors) * pile["stacking_cost"]
 
     @cached_property
     def costs(self) -> dict[str, np.ndarray]:
         """The costs of ore that periods multiply, shape (processes, rows)."""
         return ore_costs.of_blocks(self.answer)
 
-    def earned_as(self, process: str | None, dump: Optional[Section] = None) -> np.ndarray:
-        """Returns the same of blocks that are all sent to one process, or are waste, in a dump if there are any."""
+    def earned_as(
+        self, process: str | None, dump: Optional[Section] = None, pile: Optional[Section] = None
+    ) -> np.ndarray:
+        """Returns the same of blocks that are all sent to one process, or are waste, in a dump if there are any; without mining if the process takes them from
+        a stockpile."""
         answer, said, names = self.answer, self.answer.said, [name for name, _ in shares_of(self.answer)]
         shares = [(name, np.full(len(said), float(name == process))) for name in names]
-        amounts, cash, pays = amounts_of(answer, shares), -said["mining_cost"].to_numpy(), np.zeros(len(said), bool)
+        mining = np.zeros(len(said)) if pile else said["mining_cost"].to_numpy()
+        amounts, cash, pays = amounts_of(answer, shares), -mining, np.zeros(len(said), bool)
         amounts = amounts.assign(**dict(it for grade in block_grades.graded(answer, shares) for it in grade.excess()))
         amounts = amounts.assign(**dict.fromkeys(differing(answer.project), 0.0))
         for it in answer.project.dumps:
@@ -188,19 +216,38 @@ class Bound:
             amounts = amounts.assign(**{name: it[names.index(process)] for name, it in self.costs.items()})
             revenue, cost = answer.amounts_of_ways[names.index(process)]
             cash, pays = cash + (said[revenue] - said[cost]).to_numpy(), (said[revenue] > 0).to_numpy()
+            if pile is not None:
+                amounts, lost = self.reclaimed(amounts, names.index(process), pile)
+                cash = cash - lost
         found = np.empty((len(said), self.years))
         for year in self.every_year:
             more = sum(price * amounts[it].to_numpy() for it, price in premiums(answer.project, year).items())
-            costs = (mining_factor(answer.project, year) - 1) * said["mining_cost"].to_numpy()
+            costs = (mining_factor(answer.project, year) - 1) * mining
             found[:, year - 1] = (cash + more - costs) * discount(answer, year)
-        return found - self.priced(amounts, pays)
+        return found - self.priced(amounts, pays, is_mined=pile is None)
 
-    def priced(self, amounts: pd.DataFrame, pays: np.ndarray) -> np.ndarray:
-        """Returns the prices of what blocks use, shape (rows, years). Without revenue processed ore does not count towards a minimum."""
+    def reclaimed(self, amounts: pd.DataFrame, process: int, pile: Section) -> tuple[pd.DataFrame, np.ndarray]:
+        """Returns the amounts that blocks add when a process takes them from a stockpile, and what that costs."""
+        answer, found, charges = self.answer, dict[str, np.ndarray](), ore_costs.charges(self.answer)
+        for metal in answer.project.metals:
+            name, kept = metal["name"], pile["recovery"].get(metal["name"], 1.0)
+            missing = amounts[f"recovered_{name}"].to_numpy() * (1 - kept)
+            if SELLING in amounts:
+                found[SELLING] = found.get(SELLING, amounts[SELLING].to_numpy()) - missing * charges[name][process]
+            of_metal = {f"recovered_{name}", f"{BY_TERMS}{name}"} & set(amounts)
+            found |= {it: amounts[it].to_numpy() * kept for it in of_metal}
+        found |= {name: np.zeros(len(amounts)) for name in amounts if is_of_all(answer, str(name))}
+        return amounts.assign(**found), lost_by_reclaim(answer, process, pile)
+
+    def priced(self, amounts: pd.DataFrame, pays: np.ndarray, is_mined: bool = True) -> np.ndarray:
+        """Returns the prices of what blocks use, shape (rows, years), of mining too unless a process takes them from a stockpile. Without revenue processed
+        ore does not count towards a minimum."""
         found = np.zeros((len(amounts), self.years))
         for it in self.prices.itertuples(index=False):
             if it.limit == MUST_MINE:
-                found += it.price * self.must[:, None]
+                found += it.price * self.must[:, None] * is_mined
+                continue
+            if it.limit.startswith(STOCK):
                 continue
             used = amounts[it.limit].to_numpy()
             if it.limit.startswith(dumps.DUMPED):
@@ -264,6 +311,28 @@ class Bound:
         assert self.arcs is not None
         count = len(self.arcs)
         return bool((one[2].inside[-count:] <= other[2].inside[:count]).all())
+
+
+def lost_by_reclaim(answer: Answer, process: int, pile: Section) -> np.ndarray:
+    """Returns what the whole of each block earns less in a process, by its number, if a stockpile gives it back: the cost of that, and metal that is lost."""
+    found, names = answer.feed * pile["reclaim_cost"], [name for name, _ in shares_of(answer)]
+    way = answer.project.by_process[process]
+    whole = amounts_of(
+        answer, [(name, np.full(len(answer.rows), float(number == process))) for number, name in enumerate(names)]
+    )
+    for metal in way.metals:
+        missing = whole[f"recovered_{metal['name']}"].to_numpy() * (1 - pile["recovery"].get(metal["name"], 1.0))
+        found = found + missing * float(net(metal, metal["price"], way.economics["royalty"]))
+    return np.asarray(found)
+
+
+def limited_years(name: str, least: np.ndarray, most: np.ndarray) -> dict[tuple[str, str, int], float]:
+    """Returns what lies on a stockpile, or goes to a dump, at most and at least in each year, if some year has such a limit."""
+    found: dict[tuple[str, str, int], float] = {}
+    for side, of_years, is_limited in ((MAX, most, np.isfinite(most)), (MIN, least, least > 0)):
+        if is_limited.any():
+            found |= {(name, side, year): float(amount) for year, amount in enumerate(of_years, 1)}
+    return found
 
 
 def is_of_all(answer: Answer, name: str) -> bool:

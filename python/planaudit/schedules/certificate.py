@@ -8,6 +8,7 @@ from __future__ import annotations
 from collections.abc import Iterator
 from dataclasses import dataclass
 from functools import cached_property
+from itertools import product
 from typing import Any
 
 import numpy as np
@@ -16,9 +17,10 @@ import pandas as pd
 from planaudit.inputs.answer import Answer
 from planaudit.inputs.codes import refused
 from planaudit.inputs.matching import SHARE
+from planaudit.inputs.project import Section
 from planaudit.inputs.tables import PERIOD, TABLES, YEAR, read_table
 from planaudit.rules import TOLD, Rule, rule
-from planaudit.schedules.bounds import MAX, MIN, Bound
+from planaudit.schedules.bounds import MAX, MIN, Bound, lost_by_reclaim
 from planaudit.schedules.certificate_texts import FOLDER, KEY, MONEY, NAME, ROUNDING, UNFIT, UNIT, Texts
 from planaudit.schedules.discounts import discount
 from planaudit.schedules.dumps import DUMP, DUMPED
@@ -58,15 +60,43 @@ class BlockCertificate:
 
     @cached_property
     def values(self) -> np.ndarray:
-        """The value of each block in each destination, shape (blocks, destinations)."""
-        return np.column_stack([amounts for _, amounts in sorted(self.texts.terms().items())])
+        """What each block earns in each destination as it is mined, shape (blocks, destinations)."""
+        return np.column_stack([amounts for (_, lag), amounts in sorted(self.texts.terms().items()) if not lag])
+
+    @cached_property
+    def reclaimed(self) -> np.ndarray:
+        """What each block earns as it is reclaimed, shape (blocks, destinations)."""
+        found = np.zeros_like(self.values)
+        for (number, lag), amounts in self.texts.terms().items():
+            found[:, number] += amounts * (lag > 0)
+        return found
 
     @property
-    def destinations(self) -> list[str]:
-        """The destinations by name: dumps, or waste without a name, and the processes."""
-        project = self.answer.project
-        waste = [dump["name"] for dump in project.dumps] or [""]
-        return [*waste, *([process["name"] for process in project.processes] or ["mill"])]
+    def waste(self) -> list[str]:
+        """The dumps, or waste without a name."""
+        return [dump["name"] for dump in self.answer.project.dumps] or [""]
+
+    @property
+    def processes(self) -> list[str]:
+        return [process["name"] for process in self.answer.project.processes] or ["mill"]
+
+    @cached_property
+    def routes(self) -> list[tuple[Section, int, int]]:
+        """The ways over a stockpile to a process, by its number, after some years."""
+        rules = self.answer.project.schedule
+        piles = rules["stockpiles"] if rules else ()
+        return list(product(piles, range(len(self.processes)), range(1, self.texts.periods + 1)))
+
+    @property
+    def destinations(self) -> list[tuple[str, str, int]]:
+        """Stockpile, destination and years of each: waste and processes, then the routes."""
+        direct = [("", name, 0) for name in (*self.waste, *self.processes)]
+        return [*direct, *((pile["name"], self.processes[number], lag) for pile, number, lag in self.routes)]
+
+    def of_blocks(self, of_rows: np.ndarray) -> np.ndarray:
+        """Returns values of rows by block; of air 0."""
+        ids = self.answer.said["id"].to_numpy()
+        return pd.Series(of_rows, index=ids).reindex(self.written.index, fill_value=0.0).to_numpy()
 
     @cached_property
     def dumped(self) -> list[np.ndarray]:
@@ -77,9 +107,7 @@ class BlockCertificate:
         is_open[0] |= ~is_open.any(axis=0)
         costs = np.where(is_open, np.array([it["cost"] for it in answer.project.dumps])[:, None], np.inf)
         costs = np.where(is_open, costs, costs.min(axis=0)) * np.where(answer.tonnes > 0, answer.tonnes, 1.0)
-        costs = np.where(answer.tonnes > 0, costs, 0.0)
-        ids = answer.said["id"].to_numpy()
-        return [pd.Series(it, index=ids).reindex(self.written.index, fill_value=0.0).to_numpy() for it in costs]
+        return [self.of_blocks(it) for it in np.where(answer.tonnes > 0, costs, 0.0)]
 
     @cached_property
     def shares(self) -> np.ndarray:
@@ -94,27 +122,56 @@ class BlockCertificate:
         ways = [self.written[revenue] - self.written[cost] for revenue, cost in self.answer.amounts_of_ways]
         as_waste = self.dumped if self.answer.project.dumps else [np.zeros(len(mining))]
         own = np.column_stack([*(-mining - cost for cost in as_waste), *(way.to_numpy() - mining for way in ways)])
-        for number, (revenue, _) in enumerate(self.answer.amounts_of_ways, len(as_waste)):
+        barren = [(self.written[revenue] <= 0).to_numpy() for revenue, _ in self.answer.amounts_of_ways]
+        cheapest = own[:, : len(as_waste)].max(axis=1)
+        for number, is_barren in enumerate(barren, len(as_waste)):
             # What a process gains nothing from goes to its cheapest dump.
-            barren = (self.written[revenue] <= 0).to_numpy()
-            own[barren, number] = own[barren, : len(as_waste)].max(axis=1)
+            own[is_barren, number] = cheapest[is_barren]
+        again = np.zeros_like(own)
+        for pile, process, lag in self.routes:
+            refuses = self.of_blocks(refused(self.answer.rows, self.answer.project, pile["accepts"]).astype(float)) > 0
+            closed, feed = refuses | barren[process], self.of_blocks(self.answer.feed)
+            own = np.column_stack([own, np.where(closed, cheapest, -mining - pile["stacking_cost"] * feed)])
+            gain = ways[process].to_numpy() - self.of_blocks(lost_by_reclaim(self.answer, process, pile))
+            again = np.column_stack([again, np.where(closed | (lag == self.texts.periods), 0.0, gain)])
         if own.shape != self.values.shape:
             yield f"values of {self.values.shape[1]} destinations for {own.shape[1]}"
             return
-        for block in np.flatnonzero((np.abs(own - self.values) > self.texts.cent).any(axis=1)):
-            yield f"block {self.written.index[block]}: values {self.values[block].tolist()} for {own[block].tolist()}"
+        # What a pile refuses and a process gains nothing from is waste at once.
+        for said, due in ((self.values, own), (self.reclaimed, again)):
+            for block in np.flatnonzero((np.abs(due - said) > self.texts.cent * (1 + len(self.routes))).any(axis=1)):
+                yield f"block {self.written.index[block]}: values {said[block].tolist()} for {due[block].tolist()}"
 
     def unlike_shares(self) -> Iterator[str]:
         """Yields the blocks whose years or shares differ from blocks.csv."""
         year = self.written[YEAR].to_numpy()
-        own = np.zeros_like(self.shares)
+        own, said = np.zeros_like(self.shares), self.shares.copy()
         mined = np.flatnonzero(year > 0)
-        for number, name in enumerate(self.destinations):
+        again = self.answer.reclaims
+        block = pd.Index(self.written.index).get_indexer(self.answer.said["id"].to_numpy()[again["row"].astype(int)])
+        place, first = {it: number for number, it in enumerate(self.destinations)}, len(self.waste)
+        for number, name in enumerate((*self.waste, *self.processes)):
             if name:
                 own[mined, year[mined] - 1, number] = self.written[SHARE + name].to_numpy()[mined]
+        for at, row in zip(block, again.itertuples()):
+            share, process = row.share, first + self.processes.index(row.destination)
+            own[at, year[at] - 1, place[row.source, row.destination, int(row.year) - year[at]]] += share
+            own[at, year[at] - 1, process] -= share
+        # What no year is left to reclaim has any way over its stockpile.
+        for pile in {pile["name"] for pile, _, _ in self.routes}:
+            over = np.array([number for number, it in enumerate(self.destinations) if it[0] == pile])
+            lags = np.array([self.destinations[number][2] for number in over])
+            late = over[None] * ((year[:, None] + lags) > self.texts.periods)
+            for at in mined:
+                stays = late[at][late[at] > 0]
+                if len(stays):
+                    placed = self.written[SHARE + pile].to_numpy()[at] - own[at, year[at] - 1, over].sum()
+                    own[at, year[at] - 1, stays[0]] += placed
+                    said[at, year[at] - 1, stays[0]] += said[at, year[at] - 1, stays[1:]].sum()
+                    said[at, year[at] - 1, stays[1:]] = 0.0
         # Air lies in no dump of blocks.csv; without dumps the rest of a block is waste.
         own[mined, year[mined] - 1, 0] += 1 - own[mined, year[mined] - 1].sum(axis=1)
-        for block in np.flatnonzero((np.abs(own - self.shares) > MOVED * UNIT).any(axis=(1, 2))):
+        for block in np.flatnonzero((np.abs(own - said) > MOVED * UNIT).any(axis=(1, 2))):
             yield f"block {self.written.index[block]}: shares differ from those of year {year[block]} in blocks.csv"
 
     def unlike_periods(self, told: dict[str, Any]) -> Iterator[str]:
@@ -129,7 +186,7 @@ class BlockCertificate:
         sides = list(dict.fromkeys(zip(bound.prices["limit"], bound.prices["side"])))
         # Where nothing can be mined bound.csv has no limits, whose prices are then 0.
         sides = sides or [(name, side) for name, side in told[KEY]["limits"]]
-        record = {"limits": [list(it) for it in sides], "destinations": [["", name, 0] for name in self.destinations]}
+        record = {"limits": [list(it) for it in sides], "destinations": [list(it) for it in self.destinations]}
         yield from (f"{name} {told[KEY][name]} for {due}" for name, due in record.items() if told[KEY][name] != due)
         if len(sides) != len(capacities) or len(sides) != len(prices):
             yield f"{len(capacities)} limits and {len(prices)} rows of prices for {len(sides)}"
@@ -158,6 +215,9 @@ class BlockCertificate:
         """Yields value and bound of the certificate if they are not those of the schedule."""
         discounts = self.texts.discounts
         worth = self.shares * self.values[:, None, :] * discounts[None, :, None]
+        year = np.arange(len(discounts))[:, None] + [lag for _, _, lag in self.destinations]
+        later = np.where(year < len(discounts), np.append(discounts, 0.0)[np.minimum(year, len(discounts))], 0.0)
+        worth = worth + self.shares * self.reclaimed[:, None, :] * later
         proved = told[KEY]
         if proved["value"] is None:
             return

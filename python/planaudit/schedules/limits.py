@@ -18,9 +18,24 @@ Shares = list[tuple[str, np.ndarray]]
 
 
 def shares_of(answer: Answer) -> Shares:
-    """Returns the share of each block that goes to a process, by process; without named processes the name is empty."""
+    """Returns the share of each block that goes to a process as it is mined, by process; without named processes the name is empty."""
     names = {process["name"]: process["name"] for process in answer.project.processes} or {"": "mill"}
-    return [(name, answer.said[SHARE + column].to_numpy()) for name, column in names.items()]
+    return [
+        (name, answer.said[SHARE + column].to_numpy() - reclaimed_share(answer, "destination", column))
+        for name, column in names.items()
+    ]
+
+
+def reclaimed_share(answer: Answer, side: str, name: str) -> np.ndarray:
+    """Returns the share of each block that is reclaimed, from the stockpile or for the process of this name as `side` has it."""
+    rows = answer.reclaims[answer.reclaims[side] == name]
+    return np.bincount(rows["row"].astype(int), rows["share"].astype(float), minlength=len(answer.rows))
+
+
+def stocked_of(answer: Answer) -> Shares:
+    """Returns the share of each block that is placed on a stockpile, by stockpile."""
+    piles = answer.project.schedule["stockpiles"] if answer.project.schedule else ()
+    return [(it["name"], answer.said[SHARE + it["name"]].to_numpy()) for it in piles]
 
 
 def placed_of(answer: Answer) -> Shares:

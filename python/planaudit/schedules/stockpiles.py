@@ -41,8 +41,8 @@ def refused(flow: MaterialFlow, stockpile: Section) -> Iterator[str]:
     placed = (flow.rows["destination"] == stockpile["name"]) & (flow.rows["total_tonnes"] > AMOUNT)
     off = placed & (flow.whole[f"refused {stockpile['name']}"] > 0)
     for row in flow.rows[off].itertuples():
-        at = f"{row.method}, year {row.year}, pushback {row.pushback}, bench {row.bench:.10g}, bin {row.bin}"
-        yield f"flows.csv: {at}: {stockpile['name']} does not accept these blocks"
+        at = ", ".join(f"{name} {getattr(row, name)}" for name in ("year", "bench", *flow.keys))
+        yield f"{row.method}, {at}: {stockpile['name']} does not accept these blocks"
 
 
 def unlike_stock(flow: MaterialFlow, stockpile: Section) -> Iterator[str]:

@@ -25,7 +25,9 @@ from planaudit.inputs.codes import refused
 from planaudit.inputs.kept_arrays import read_arrays
 from planaudit.inputs.project import Project
 from planaudit.inputs.tables import TABLES, YEAR
+from planaudit.money import ore_costs
 from planaudit.money.dump_costs import as_waste
+from planaudit.money.period_costs import mining_factor, premiums
 from planaudit.money.weighing import at_price
 from planaudit.rules import TOLD, Rule, rule, unlike
 from planaudit.schedules import block_schedule
@@ -34,7 +36,7 @@ from planaudit.schedules.block_grades import graded
 from planaudit.schedules.discounts import discount, present_costs
 from planaudit.schedules.dumps import DUMP, DUMPED, Sides, limits_of as dumps_limits
 from planaudit.schedules.grade_limits import grade_limits, most_of
-from planaudit.schedules.limits import limits_of, placed_of, shares_of
+from planaudit.schedules.limits import amounts_of, limits_of, placed_of, shares_of
 from planaudit.schedules.pushback_schedule import CENT
 from planaudit.studies.placed_blocks import PlacedBlocks
 from planaudit.studies.realisations import ONE, Scenario, read
@@ -163,8 +165,34 @@ class PricedBlocks:
             mined = answer.of_same_blocks(said.assign(**shares))
             excess = {name: it for grade in graded(mined, shares_of(mined)) for name, it in grade.excess()}
             placed = {f"{DUMP}{name}": share * answer.tonnes for name, share in placed_of(mined)}
-            found.append(block_schedule.flows_of(mined).assign(**excess, **placed))
+            found.append(flows_of(mined).assign(**excess, **placed))
         return found
+
+
+def flows_of(answer: Answer) -> pd.DataFrame:
+    """Returns the amounts of each mined block with tonnes, and its cash flow at the prices of its year."""
+    shares, said = shares_of(answer), answer.said
+    frame, amounts = amounts_of(answer, shares), zip(shares, answer.amounts_of_ways)
+    gain = sum(share * (said[revenue] - said[cost]).to_numpy() for (_, share), (revenue, cost) in amounts)
+    placed = zip(placed_of(answer), answer.project.dumps)
+    gain -= sum((share * dump["cost"] for (_, share), dump in placed), np.zeros(len(said))) * answer.tonnes
+    return frame.assign(cash_flow=gain - said["mining_cost"].to_numpy() + more_by_years(answer, frame))
+
+
+def more_by_years(answer: Answer, flows: pd.DataFrame) -> np.ndarray:
+    """Returns the gain of each block by the prices and the mining costs of its year."""
+    year, more = answer.said[YEAR].to_numpy(), np.zeros(len(flows))
+    shares = np.stack([share for _, share in shares_of(answer)])
+    amounts = dict(flows.items()) | {
+        name: (shares * it).sum(axis=0) for name, it in ore_costs.of_blocks(answer).items()
+    }
+    for each in np.unique(year[year > 0]).tolist():
+        premium = sum(
+            (price * np.asarray(amounts[name]) for name, price in premiums(answer.project, each).items()),
+            (1 - mining_factor(answer.project, each)) * answer.said["mining_cost"].to_numpy(),
+        )
+        more += np.where(year == each, premium, 0.0)
+    return more
 
 
 @dataclass(frozen=True)

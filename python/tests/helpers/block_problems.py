@@ -58,6 +58,38 @@ def random_problem(seed, most=60, years=4, destinations=3):
     return with_totals(problem_of(values, pairs, *limits), seed)
 
 
+def stockpile_problem(seed, most=12):
+    """Blocks of ore and waste, a mill, and a stockpile that gives ore back in a later year with less metal and at a cost; years limit mining, feed and
+    in half of the problems what lies on the stockpile, and in a third the mean grade of the feed. Destinations are waste, the mill, and the mill
+    by way of the stockpile after one year, two years, and so on."""
+    rng = np.random.default_rng([seed, 7])
+    blocks, years = int(rng.integers(2, most + 1)), int(rng.integers(2, 6))
+    pairs = [(user, needed) for user in range(blocks) for needed in range(user) if rng.random() < 1.5 / user]
+    tonnes, grade = rng.integers(5, 15, blocks).astype(float), rng.choice([0.0, 1.0, 2.0, 5.0], blocks)
+    ore, lags = np.where(grade > 0, tonnes, 0.0), np.concatenate([[0, 0], np.arange(1, years)])
+    discounts = 1.12 ** -np.arange(1.0, years + 1)
+    mined, milled = -2.0 * tonnes, np.where(grade > 0, tonnes * (4 * grade - 3), 0.0)
+    values = np.empty((blocks, len(lags), years))
+    values[:, 0], values[:, 1] = np.outer(mined, discounts), np.outer(mined + milled, discounts)
+    stacking, reclaim = rng.choice([0.0, 0.2]), rng.choice([0.0, 0.5])
+    for number, lag in enumerate(lags[2:].tolist(), 2):
+        values[:, number] = np.outer(mined - stacking * ore, discounts)
+        later = np.append(discounts[lag:], np.zeros(lag))
+        values[:, number] += np.outer(0.95 * milled - reclaim * ore, later)
+    feed = ore[:, None] * (np.arange(len(lags)) > 0)
+    limits = [BlockLimit("rock", np.repeat(tonnes[:, None], len(lags), axis=1), np.full(years, 0.4 * tonnes.sum()))]
+    at_mill = np.stack([lags, lags], axis=1)
+    limits.append(BlockLimit("feed", feed, np.full(years, max(rng.uniform(0.1, 0.3) * ore.sum(), 15.0)), spans=at_mill))
+    if rng.random() < 0.5:
+        lies = np.where(lags > 0, ore[:, None], 0.0)
+        held = np.stack([0 * lags, np.maximum(lags - 1, 0)], axis=1)
+        limits.append(BlockLimit("stock", lies, np.full(years, 0.1 * ore.sum() + 10), spans=held))
+    if rng.random() < 0.33:
+        excess = (1.5 - grade)[:, None] * feed
+        limits.append(BlockLimit("grade", excess, np.zeros(years), signed=True, spans=at_mill))
+    return BlockProblem(values, precedences_of(blocks, pairs), tuple(limits), lags=lags)
+
+
 def with_totals(problem, seed):
     """The same where, of three problems in ten, all years together hold a twentieth to a half of what blocks add to a sum in some destinations."""
     rng = np.random.default_rng([seed, 1])
@@ -88,7 +120,7 @@ def programme(problem, first=None):
         add(0.0, (place[user, :, : year + 1], 1.0), (place[needed, :, : year + 1], -1.0))
     for limit, year in product(problem.limits, range(years)):
         if np.isfinite(limit.most[year]):
-            add(limit.most[year], (place[:, :, year], limit.amounts))
+            add(limit.most[year], *users_of(limit, place, year))
     for total in problem.totals:
         if np.isfinite(total.most):
             add(total.most, (place, np.repeat(total.amounts[:, :, None], years, axis=2)))
@@ -96,6 +128,14 @@ def programme(problem, first=None):
     if first is not None:
         upper[np.broadcast_to(np.arange(years) < first[:, None, None], shape)] = 0.0
     return problem.values.ravel(), np.array(rows), np.array(most), upper.ravel()
+
+
+def users_of(limit, place, year):
+    """The unknowns that use a limit in a year, with what each adds: by destination those of the years of mining from which it is used then."""
+    spans = [(0, 0)] * place.shape[1] if limit.spans is None else limit.spans.tolist()
+    for destination, (first, last) in enumerate(spans):
+        for mined in range(max(year - last, 0), year - first + 1):
+            yield place[:, destination, mined], limit.amounts[:, destination]
 
 
 def linear_optimum(problem, first=None):
@@ -166,6 +206,8 @@ def demand_sound(problem, schedule):
         assert max(schedule.year[cone_of(problem, block)]) <= year
         earned += float(share @ problem.values[block, :, year])
         for limit, most in zip(problem.limits, left):
-            most[year] -= share @ limit.amounts[block]
+            spans = [(0, 0)] * len(share) if limit.spans is None else limit.spans.tolist()
+            for destination, (first, last) in enumerate(spans):
+                most[year + first : year + last + 1] -= share[destination] * limit.amounts[block, destination]
     assert all((most >= 0).all() for most in left)
     return earned

@@ -220,10 +220,9 @@ milp = {{ gap = 0.0000001, seconds = 100 }}
         rules = f"minimum = {{ feed = {self.minimum} }}\n" if self.minimum else ""
         rules += f"max_metal_per_year = {{ copper = {self.copper} }}\n" if self.copper else ""
         sums = "".join(it.text for it in self.sums)
-        if self.pushbacks is None:
-            return rules + sums
-        rules += f"bins = 50\nbench_lag = {self.lag}\nramp_up = {list(self.ramp_up)}\n"
-        rules += "" if self.sinks is None else f"vertical_advance_rate = {self.sinks}\n"
+        if self.pushbacks is not None:
+            rules += f"bins = 50\nbench_lag = {self.lag}\nramp_up = {list(self.ramp_up)}\n"
+            rules += "" if self.sinks is None else f"vertical_advance_rate = {self.sinks}\n"
         used = {"cu"} | {head.column for head in self.heads if any(it.keys for it in head.by_year)}
         used |= {"clay" for it in self.sums if it.of != "total"}
         used |= self.terms.columns
@@ -403,6 +402,17 @@ def random_mine(seed: int) -> Mine:
     mine = draws.mine(int(draws.rng.integers(2, 5)), int(draws.rng.integers(2, 4)))
     mine = with_terms(mine, seed) if seed % 2 else mine
     return with_half_years(mine) if draws.rng.random() < 0.3 else mine
+
+
+def random_stockpile_mine(seed: int) -> Mine:
+    """The mine of `random_mine` with one or two stockpiles on which nothing lies at the start."""
+    draws, mine = Draws(seed + 10**6), random_mine(seed)
+    names = ["low", "high"][: int(draws.rng.integers(1, 3))]
+    mine = replace(mine, piles={name: replace(draws.pile(), opening=None) for name in names})
+    holds = {
+        name: it.holds[:1] * 2 + it.holds[2:] if mine.months[0] == 6 else it.holds for name, it in mine.piles.items()
+    }
+    return replace(mine, piles={name: replace(it, holds=holds[name]) for name, it in mine.piles.items()})
 
 
 def random_pushback_mine(seed: int) -> Mine:

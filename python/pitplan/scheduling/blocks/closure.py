@@ -100,23 +100,26 @@ def joined_years(nodes: Nodes, parts: list[YearsClosure]) -> list[tuple[int, int
 
 def earned_at(nodes: Nodes, prices: NDArray[np.float64]) -> Earned:
     """What each block earns in each year, less the prices of what it takes, in the destination where that is most."""
-    problem = nodes.problem
+    problem, paid = nodes.problem, nodes.problem.paid(prices)
+    # What is paid in several years is a sum.
+    sizes = problem.paid(np.abs(prices))
     most, error = np.full((problem.blocks, problem.years), -np.inf), np.zeros((problem.blocks, problem.years))
     best = np.zeros(most.shape, dtype=np.int16)
     for destination in range(problem.destinations):
         earned = problem.values[:, destination].copy()
         size = np.abs(earned)
-        for amounts, by_year in zip(problem.sums, prices):
-            if by_year.any() and amounts[:, destination].any():
-                cost = amounts[:, destination, None] * by_year
-                earned -= cost
-                size += np.abs(cost)
+        for amounts, of_all, size_of_all in zip(problem.sums, paid, sizes):
+            by_year, most_by_year = (it if it.ndim == 1 else it[destination] for it in (of_all, size_of_all))
+            if most_by_year.any() and amounts[:, destination].any():
+                earned -= amounts[:, destination, None] * by_year
+                size += np.abs(amounts[:, destination, None]) * most_by_year
         # Of destinations that earn the same the last one, which takes the fewest nodes.
         best[earned >= most] = destination
         np.maximum(most, earned, out=most)
         np.maximum(error, size, out=error)
     # One rounding a product and one a sum, of terms that are no greater than all together; and as many again to be safe.
-    return Earned(upward(most, error * (ROUNDING * 2 * (2 * len(prices) + 2))), best)
+    roundings = 2 * len(prices) + 2 + (0 if problem.lags is None else problem.years)
+    return Earned(upward(most, error * (ROUNDING * 2 * roundings)), best)
 
 
 def sold(nodes: Nodes, prices: NDArray[np.float64]) -> Fraction:

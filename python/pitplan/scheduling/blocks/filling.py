@@ -2,7 +2,7 @@
 
 from __future__ import annotations
 
-from collections.abc import Iterable, Iterator
+from collections.abc import Iterable, Iterator, Sequence
 from dataclasses import dataclass, field, replace
 from functools import cached_property
 from itertools import chain, product
@@ -11,12 +11,12 @@ from typing import NamedTuple, Optional
 import numpy as np
 from numpy.typing import NDArray
 from scipy.optimize import linprog
-from scipy.sparse import csr_matrix, eye, kron
+from scipy.sparse import csr_matrix, eye, kron, vstack
 
 import pitshell
-from pitplan.core.tolerances import SOLVER_SUM, SUM_ERROR
+from pitplan.core.tolerances import SOLVER_SHARE, SOLVER_SUM, SUM_ERROR
 
-from .problem import Assignment, BlockLimit, BlockPrecedences, BlockProblem, nothing, upward
+from .problem import Assignment, BlockLimit, BlockPrecedences, BlockProblem, ShareIndex, nothing, upward
 
 # The bits of a word, and the number of blocks handled at once when the cones that hold them are marked.
 BITS, AT_ONCE = 64, 4096
@@ -146,11 +146,30 @@ class Room:
             for k, limit in enumerate(problem.limits)
             if (limit.floor > 0).any()
         }
+        # By the number of a limit that blocks use in other years than that of mining, by destination and year of mining, the years.
+        self.spread = {
+            number: used_years(limit, problem.years)
+            for number, limit in enumerate(problem.limits)
+            if limit.spans is not None
+        }
+        self.at_once = [
+            (amounts, left)
+            for number, (amounts, left) in enumerate(zip(self.amounts, self.left))
+            if number not in self.spread
+        ]
+
+    def years(self, number: int, destination: int, year: int) -> Sequence[int]:
+        """The years in which a block uses a limit that is mined in a year."""
+        return self.spread[number][destination][year] if number in self.spread else (year,)
 
     def fits(self, block: int, destination: int, year: int) -> bool:
         # A loop takes half the time of `all` here, where most of the time of filling goes.
-        for amounts, left in zip(self.amounts, self.left):
+        for amounts, left in self.at_once:
             if amounts[block][destination] > left[year]:
+                return False
+        for number, used in self.spread.items():
+            amount, left = self.amounts[number][block][destination], self.left[number]
+            if amount and any(amount > left[it] for it in used[destination][year]):
                 return False
         return not self.held or self.fits_in_all(block, destination)
 
@@ -162,24 +181,41 @@ class Room:
         return True
 
     def take(self, block: int, destination: int, year: int, sign: int = 1) -> None:
-        for amounts, left in zip(self.amounts, self.left):
+        for amounts, left in self.at_once:
             left[year] -= sign * amounts[block][destination]
+        for number, used in self.spread.items():
+            for it in used[destination][year]:
+                self.left[number][it] -= sign * self.amounts[number][block][destination]
         for number, amounts in enumerate(self.held):
             self.left_in_all[number] -= sign * amounts[block][destination]
         for number, above in self.above.items():
-            above[year] += sign * self.amounts[number][block][destination]
+            for it in self.years(number, destination, year):
+                above[it] += sign * self.amounts[number][block][destination]
 
     def may_leave(self, block: int, now: tuple[int, int], then: tuple[int, int]) -> bool:
         """Whether a block that is taken out of its year and destination leaves them no shorter of a least than it was, and within signed limits,
         when it is taken in another year and destination."""
-        if now[0] != then[0] and any(self.left[number][now[0]] < 0 for number in self.signed):
-            return False
+        for number in self.signed:
+            mine, its = self.years(number, now[1], now[0]), self.years(number, then[1], then[0])
+            if mine != its and any(self.left[number][year] < 0 for year in mine):
+                return False
         for number, above in self.above.items():
             amount, other = self.amounts[number][block][now[1]], self.amounts[number][block][then[1]]
-            stays = other if now[0] == then[0] else 0.0
-            if stays < amount and above[now[0]] + stays < 0:
-                return False
+            its = self.years(number, then[1], then[0])
+            for year in self.years(number, now[1], now[0]):
+                stays = other if year in its else 0.0
+                if stays < amount and above[year] + stays < 0:
+                    return False
         return all(owed[block][then[1]] >= owed[block][now[1]] for owed in self.owed)
+
+
+def used_years(limit: BlockLimit, years: int) -> list[list[list[int]]]:
+    """The years in which a block uses a limit, by destination and year of mining."""
+    spans = np.zeros((limit.amounts.shape[1], 2), dtype=np.int64) if limit.spans is None else limit.spans
+    return [
+        [list(range(year + first, min(year + last + 1, years))) for year in range(years)]
+        for first, last in spans.tolist()
+    ]
 
 
 @dataclass(frozen=True)
@@ -283,13 +319,18 @@ def preferences(problem: BlockProblem, prices: NDArray[np.float64]) -> NDArray[n
 
     prices  of a unit of each limit in each year, and of each total: shape (limits and totals, years)
     """
+    return np.argsort(-worths_at(problem, prices), axis=1, kind="stable").transpose(0, 2, 1)
+
+
+def worths_at(problem: BlockProblem, prices: NDArray[np.float64]) -> NDArray[np.float64]:
+    """What blocks earn by destination and year of mining less the prices of what they take, shape (blocks, destinations, years)."""
     worth = problem.values.copy()
     # A least in all years is due wherever a block goes.
     held = [np.isfinite(it.most) for it in problem.totals]
-    for amounts, by_year, counts in zip(problem.sums, prices, [True] * len(problem.limits) + held):
+    for amounts, paid, counts in zip(problem.sums, problem.paid(prices), [True] * len(problem.limits) + held):
         if counts:
-            worth -= amounts[:, :, None] * by_year
-    return np.argsort(-worth, axis=1, kind="stable").transpose(0, 2, 1)
+            worth -= amounts[:, :, None] * paid
+    return worth
 
 
 # Orders of blocks made of the relaxation: by the years in which it is expected to mine them (Chicoisne, Espinoza,
@@ -409,19 +450,96 @@ def moved(filling: Filling, ranks: Ranks, schedule: Assignment) -> Assignment:
     return schedule_of(filling.problem, np.array(moving.year), np.array(moving.destination))
 
 
-def with_best_shares(problem: BlockProblem, schedule: Assignment) -> Assignment:
+def with_best_shares(
+    problem: BlockProblem, schedule: Assignment, prices: Optional[NDArray[np.float64]] = None
+) -> Assignment:
     """The schedule that mines the same blocks in the same years and earns most by where they go; the same schedule if none is found that is
-    better, or keeps signed limits that it misses."""
+    better, or keeps signed limits that it misses. With stockpiles each block goes to a few destinations at most: those that are best at
+    the prices of limits."""
+    if problem.lags is not None:
+        prices = np.zeros((len(problem.sums), problem.years)) if prices is None else prices
+        return better_of(problem, with_stockpiles(problem, schedule, prices), schedule)
     share, is_held = schedule.share.copy(), any(np.isfinite(it.most) for it in problem.totals)
     for year in range(problem.years if problem.destinations > 1 else 0):
         blocks = np.flatnonzero(schedule.year == year)
         if len(blocks):
             others = np.where(schedule.year[:, None] == year, 0.0, share) if is_held else None
             share[blocks] = best_shares(problem, blocks, year, share[blocks], others=others)
-    best = Assignment(schedule.year, share)
-    if not best.is_allowed(problem):
+    return better_of(problem, Assignment(schedule.year, share), schedule)
+
+
+def better_of(problem: BlockProblem, schedule: Assignment, other: Assignment) -> Assignment:
+    """The schedule if it keeps the limits and is better than the other, or that does not keep them; otherwise the other."""
+    if not schedule.is_allowed(problem):
+        return other
+    return schedule if schedule.is_better(other, problem) or not other.is_allowed(problem) else other
+
+
+# Shares are chosen among FEW_ROUTES destinations at least, besides those that use no stockpile, and more while these make up to MOST_SHARES shares.
+FEW_ROUTES, MOST_SHARES = 4, 20_000
+
+
+def with_stockpiles(problem: BlockProblem, schedule: Assignment, prices: NDArray[np.float64]) -> Assignment:
+    """The schedule with the shares of all years that earn most by a linear programme; the same schedule where HiGHS finds none."""
+    blocks = np.flatnonzero(schedule.year < problem.years)
+    if not len(blocks):
         return schedule
-    return best if best.is_better(schedule, problem) or not schedule.is_allowed(problem) else schedule
+    year, routes = schedule.year[blocks], worths_at(problem, prices)[blocks, :, schedule.year[blocks]]
+    row, destination = np.nonzero(chosen(problem, routes) | (schedule.share[blocks] > 0))
+    index = ShareIndex(blocks[row], year[row], destination)
+    gain = problem.values[index.block, destination, index.year]
+    rows, most = rows_of_limits(problem, index, schedule)
+    found = linprog(
+        -gain / (float(np.abs(gain).max()) or 1.0),
+        A_ub=rows,
+        b_ub=most,
+        A_eq=csr_matrix((np.ones(len(row)), (row, np.arange(len(row)))), shape=(len(blocks), len(row))),
+        b_eq=np.ones(len(blocks)),
+        bounds=(0, 1),
+        method="highs-ds",
+    )
+    if found.status != 0:
+        return schedule
+    share = np.zeros_like(schedule.share)
+    share[index.block, destination] = np.where(found.x > SOLVER_SHARE, np.minimum(found.x, 1.0), 0.0)
+    share[blocks] /= share[blocks].sum(axis=1, keepdims=True)
+    return Assignment(schedule.year, share)
+
+
+def chosen(problem: BlockProblem, worths: NDArray[np.float64]) -> NDArray[np.bool_]:
+    """Returns the destinations among which shares are chosen: all that use no stockpile, and a few that are worth most, shape (.., destinations)."""
+    found = np.broadcast_to(np.arange(problem.destinations) < problem.at_once, worths.shape).copy()
+    rows = worths.size // problem.destinations
+    some = min(max(FEW_ROUTES, MOST_SHARES // max(rows, 1)), problem.destinations)
+    np.put_along_axis(found, np.argpartition(-worths, some - 1, axis=-1)[..., :some], True, axis=-1)
+    return found
+
+
+def rows_of_limits(
+    problem: BlockProblem, index: ShareIndex, schedule: Assignment
+) -> tuple[csr_matrix, NDArray[np.float64]]:
+    """The rows of shares in limits and totals, each at most as much: as shares of the limits, or of the largest amount. What is owed is no less than
+    by the schedule."""
+    rows, most, sums = [csr_matrix((0, len(index.block)))], [np.zeros(0)], schedule.sums(problem)
+    for limit, held in zip(problem.limits, sums):
+        used, unit = limit.uses(index, problem.years), float(np.abs(limit.amounts).max(initial=0.0)) or 1.0
+        for sign, bound in (
+            (1.0, limit.most),
+            (-1.0, np.where(limit.floor > 0, np.minimum(limit.floor, held), np.inf)),
+        ):
+            some = np.isfinite(bound)
+            rows.append(used[some] * (sign / unit))
+            most.append(sign * bound[some] / unit)
+    for total in problem.totals:
+        used = csr_matrix(total.amounts[index.block, index.destination][None])
+        unit = float(total.amounts.max(initial=0.0)) or 1.0
+        if np.isfinite(total.most):
+            rows.append(used / unit)
+            most.append(np.array([total.most / unit]))
+        if total.least > 0:
+            rows.append(used / -unit)
+            most.append(np.array([-min(total.least, total.used(schedule.share)) / unit]))
+    return vstack(rows, format="csr"), np.concatenate(most)
 
 
 class YearLimit(NamedTuple):
@@ -536,7 +654,7 @@ def blended(
     filling = Filling(free, preferences(problem, prices), waits=problem.destinations > 1)
     filled = [filling.without_loss(sequence) for sequence in sequences]
     for schedule in sorted(filled, key=lambda it: -it.value(free))[:MOST_BLENDED]:
-        found = with_best_shares(problem, moved(filling, ranks, schedule))
+        found = with_best_shares(problem, moved(filling, ranks, schedule), prices)
         if found.is_allowed(problem):
             yield paying(problem, found)
 
@@ -544,9 +662,9 @@ def blended(
 def at_prices(problem: BlockProblem, prices: NDArray[np.float64]) -> BlockProblem:
     """Returns the problem whose blocks pay the prices of signed limits in place of keeping them."""
     values = problem.values.copy()
-    for limit, by_year in zip(problem.limits, prices):
+    for limit, paid in zip(problem.limits, problem.paid(prices)):
         if limit.signed:
-            values -= limit.amounts[:, :, None] * by_year
+            values -= limit.amounts[:, :, None] * paid
     return replace(problem, values=values, limits=tuple(limit for limit in problem.limits if not limit.signed))
 
 
@@ -594,6 +712,9 @@ class Divided:
 
 def divided(problem: BlockProblem) -> Divided:
     """Returns the problem with destinations for the parts that fit, of blocks that are larger than a limit of some year."""
+    if problem.lags is not None:
+        # What a year has no room for is placed on a stockpile.
+        return Divided(problem)
     limits = [it for it in problem.limits if not it.signed and np.isfinite(it.most).any()]
     whole, rest = np.eye(problem.destinations), least_used(problem, limits)
     levels = []

@@ -3,14 +3,16 @@
 from __future__ import annotations
 
 from collections.abc import Callable, Sequence
-from dataclasses import dataclass
-from typing import Any
+from dataclasses import dataclass, replace
+from functools import cached_property
+from itertools import product
+from typing import Any, NamedTuple, Optional
 
 import numpy as np
 from numpy.typing import NDArray
 
 import pitshell
-from pitplan.config.material import MILL, WASTE
+from pitplan.config.material import MILL, WASTE, Stockpile
 from pitplan.config.project import Project
 from pitplan.config.schedule import FEED, MOST_YEARS, TOTAL, ScheduleRules, Sum
 from pitplan.core.tolerances import SUM_ERROR
@@ -21,13 +23,14 @@ from pitplan.pits.best_worst_case import year_discounts
 from pitplan.plan import MILLION, Plan
 from pitplan.pushbacks.bench_table import CASH, ORE, ROCK
 from pitplan.scheduling.bench_sequencing import costs_of_years
-from pitplan.scheduling.flow.material import content_of
+from pitplan.scheduling.flow.material import content_of, ore_of
 from pitplan.scheduling.limits import (
     DUMP,
     DUMPED,
     GRADE,
     MAX,
     MIN,
+    STOCK,
     SUM,
     GradeLimit,
     Limits,
@@ -42,13 +45,16 @@ from .filling import greatest_of_predecessors, ranks_of
 from .problem import Assignment, BlockLimit, BlockPrecedences, BlockProblem, TotalLimit, demand_room, upward
 
 ADDED_COST = "[pushbacks] mining_cost_added"
+# The cash of reclaimed ore among the flows of blocks.
+RECLAIMED = "reclaimed_cash_flow"
 
 
 def demand_of_blocks(project: Project) -> None:
     """Raises PlanError, with the key, if the project asks for what a schedule by block does not have, and without which its value is another."""
-    if project.schedule is not None and project.schedule.stockpiles:
-        why = "found one, expected none by block: ore goes to a process in the year in which it is mined"
-        raise PlanError(f"{project.path}: [schedule] stockpile: {why}: remove it, or schedule pushbacks")
+    for it in project.schedule.stockpiles if project.schedule is not None else ():
+        if it.opening:
+            why = f"found {it.opening.tonnes:.10g} tonnes on {it.name} at the start, expected none by block"
+            raise PlanError(f"{project.path}: [schedule] stockpile opening: {why}: remove it, or schedule pushbacks")
 
 
 def of_pushbacks(project: Project) -> list[str]:
@@ -89,8 +95,8 @@ class HeadGrade:
     ----------
     name : str
         Its column in years.csv, such as head_grade_mill_as_ppm.
-    destination : int
-        The number of the process among the destinations.
+    process : int
+        The number of the process.
     limits : dict of str to GradeLimit
         The limits by name, such as grade_mill_as_ppm_max; one for each value that some period has.
     content, feed : array, shape (cells,)
@@ -100,7 +106,7 @@ class HeadGrade:
     """
 
     name: str
-    destination: int
+    process: int
     limits: dict[str, GradeLimit]
     content: NDArray[np.float64]
     feed: NDArray[np.float64]
@@ -112,13 +118,9 @@ class HeadGrade:
         found = limit.sign * (self.content - limit.grade * self.feed)
         return np.where(self.pays, found, np.maximum(found, 0.0))
 
-    def of_years(self, cells: NDArray[np.int64], schedule: Assignment, years: int) -> NDArray[np.float64]:
-        """Returns the head grade of each year; nan without feed."""
-        share = schedule.share[:, self.destination]
-        content, feed = (
-            np.bincount(schedule.year, amounts[cells] * share, minlength=years + 1)[:years]
-            for amounts in (self.content, self.feed)
-        )
+    def of_years(self, fed: Callable[[NDArray[np.float64], int], NDArray[np.float64]]) -> NDArray[np.float64]:
+        """Returns the head grade of each year, nan without feed; `fed` returns what a process takes of an amount of cells by year."""
+        content, feed = (fed(amounts, self.process) for amounts in (self.content, self.feed))
         return np.where(feed > 0, content / np.where(feed > 0, feed, 1.0), np.nan)
 
 
@@ -134,8 +136,7 @@ def head_grades(plan: Plan) -> tuple[HeadGrade, ...]:
         sides = {it.name: it for it in mine}
         pays = values.by_process[number].revenue > 0
         content = content_of(plan, mine[0], cells)
-        destination = len(destinations_of(plan.project).waste) + number
-        found.append(HeadGrade(f"head_{prefix}", destination, sides, content, values.feed, pays))
+        found.append(HeadGrade(f"head_{prefix}", number, sides, content, values.feed, pays))
     return tuple(found)
 
 
@@ -143,6 +144,14 @@ def head_grades(plan: Plan) -> tuple[HeadGrade, ...]:
 MORE_YEARS = 0.2
 # By name, shape (blocks, destinations).
 Flows = dict[str, NDArray[np.float64]]
+
+
+class Route(NamedTuple):
+    """The way of ore over a stockpile to a process, by the numbers of these, that takes it some years after it is mined."""
+
+    stockpile: int
+    process: int
+    lag: int
 
 
 @dataclass(frozen=True)
@@ -155,33 +164,59 @@ class Destinations:
         The dumps; without `[[dumps]]` waste.
     processes : tuple of str
         Of a project that names none its mill.
+    stockpiles : tuple of Stockpile
+    years : int
+        The periods, by which there are as many routes over each stockpile to each process; by the last one ore stays there.
     """
 
     waste: tuple[str, ...]
     processes: tuple[str, ...]
+    stockpiles: tuple[Stockpile, ...] = ()
+    years: int = 0
 
     def __len__(self) -> int:
-        return len(self.names)
+        return len(self.names) + len(self.routes)
 
     @property
     def names(self) -> tuple[str, ...]:
-        """All in the order of arrays: those of waste, then the processes."""
+        """Those to which blocks go at once in the order of arrays: those of waste, then the processes. Behind them stand the routes."""
         return (*self.waste, *self.processes)
+
+    @cached_property
+    def routes(self) -> tuple[Route, ...]:
+        numbers = range(len(self.stockpiles)), range(len(self.processes)), range(1, self.years + 1)
+        return tuple(Route(*it) for it in product(*numbers))
+
+    @cached_property
+    def lags(self) -> NDArray[np.int64]:
+        """By destination the years after that of mining in which a process takes a block."""
+        return np.array([0] * len(self.names) + [it.lag for it in self.routes], dtype=np.int64)
 
     @property
     def shown(self) -> dict[str, int]:
         """The numbers of destinations by the names of their shares in blocks.csv: of dumps and processes. The rest of a block is waste."""
         return {name: number for number, name in enumerate(self.names) if name != WASTE}
 
+    def fed(self, process: int) -> NDArray[np.int64]:
+        """Returns the destinations that feed a process: itself and its routes."""
+        routes = [number for number, it in enumerate(self.routes, len(self.names)) if it.process == process]
+        return np.array([len(self.waste) + process, *routes])
+
+    def stacked(self, stockpile: int) -> NDArray[np.int64]:
+        """Returns the routes over a stockpile, by the numbers of destinations."""
+        routes = [number for number, it in enumerate(self.routes, len(self.names)) if it.stockpile == stockpile]
+        return np.array(routes, dtype=np.int64)
+
     def columns(self, as_waste: NDArray[Any], *in_processes: NDArray[Any]) -> NDArray[Any]:
         """Returns what cells hold as waste, the same wherever it goes, and in each process, shape (cells, destinations)."""
         return np.stack([*[as_waste] * len(self.waste), *in_processes], axis=1)
 
 
-def destinations_of(project: Project) -> Destinations:
-    """Returns where blocks of a project go."""
+def destinations_of(project: Project, years: int = 0) -> Destinations:
+    """Returns where blocks of a project go, with the routes over stockpiles in a number of periods."""
     waste = tuple(it.name for it in project.dumps) or (WASTE,)
-    return Destinations(waste, tuple(process.name for process in project.processes) or (MILL,))
+    processes = tuple(process.name for process in project.processes) or (MILL,)
+    return Destinations(waste, processes, project.schedule.stockpiles if project.schedule else (), years)
 
 
 @dataclass(frozen=True)
@@ -196,11 +231,17 @@ class BlockAmounts:
         By limit on a head grade what a block adds to the content above a maximum, or below a minimum.
     pays : bool array
         Whether a block yields anything.
+    fed : frozenset of str
+        Of flows those that flow when a process takes a block. Others flow when it is mined, or lie on a stockpile.
+    lags : int array, shape (destinations,), optional
+        The years from mining to process; None without stockpiles.
     """
 
     flows: Flows
     excess: Flows
     pays: NDArray[np.bool_]
+    fed: frozenset[str] = frozenset()
+    lags: Optional[NDArray[np.int64]] = None
 
     @staticmethod
     def of_plan(plan: Plan, grades: tuple[HeadGrade, ...]) -> BlockAmounts:
@@ -208,7 +249,7 @@ class BlockAmounts:
         for grade in grades:
             for name in grade.limits:
                 excess[name] = np.zeros(pays.shape)
-                excess[name][:, grade.destination] = grade.excess(name)
+                excess[name][:, len(destinations_of(plan.project).waste) + grade.process] = grade.excess(name)
         return BlockAmounts(flows_of(plan), excess, pays)
 
     def of_cells(self, cells: NDArray[np.int64]) -> BlockAmounts:
@@ -221,18 +262,45 @@ class BlockAmounts:
     def each(self, change: Callable[[NDArray[Any]], NDArray[Any]]) -> BlockAmounts:
         """Returns the amounts with each array changed."""
         flows, excess = ({name: change(it) for name, it in of.items()} for of in (self.flows, self.excess))
-        return BlockAmounts(flows, excess, change(self.pays))
+        return replace(self, flows=flows, excess=excess, pays=change(self.pays))
 
     @property
     def destinations(self) -> int:
         return self.pays.shape[1]
 
     def cash(self, project: Project, years: int) -> NDArray[np.float64]:
-        """Returns the cash of each block by destination and year, at the year's prices and costs."""
-        money, cash = of_project(project), self.flows[CASH]
-        premiums = money.premium(tuple(self.flows), years).T
-        more = sum(it[:, :, None] * premium for it, premium in zip(self.flows.values(), premiums) if premium.any())
-        return np.broadcast_to(cash[:, :, None], (*cash.shape, years)) + more
+        """Returns the cash of each block by destination and year of mining, at the year's prices and costs, without that of reclaimed ore."""
+        at_once = {name: np.where(self.waits, 0.0, it) if name in self.fed else it for name, it in self.flows.items()}
+        return priced_flows(project, at_once, years)
+
+    @property
+    def waits(self) -> NDArray[np.bool_]:
+        """Whether a block waits on a stockpile, by destination."""
+        return np.zeros(self.destinations, dtype=bool) if self.lags is None else self.lags > 0
+
+    def reclaimed_cash(self, project: Project, years: int) -> NDArray[np.float64]:
+        """Returns the cash of each block by destination and year of reclaim, 0 where it goes at once."""
+        fed = {name: np.where(self.waits, it, 0.0) for name, it in self.flows.items() if name in self.fed}
+        return priced_flows(project, fed | {CASH: self.flows[RECLAIMED]}, years)
+
+    def values(self, project: Project, discounts: NDArray[np.float64]) -> NDArray[np.float64]:
+        """Returns what each block earns by destination and year of mining, discounted. Ore that no year is left to reclaim earns nothing."""
+        found, years = self.cash(project, len(discounts)) * discounts, len(discounts)
+        if self.lags is None:
+            return found
+        later = self.reclaimed_cash(project, years) * discounts
+        for lag in range(1, years):
+            some = np.flatnonzero(self.lags == lag)
+            found[:, some, : years - lag] += later[:, some, lag:]
+        return found
+
+    def spans(self, name: str) -> Optional[NDArray[np.int64]]:
+        """Returns by destination the first and the last year after mining in which blocks use a limit, shape (destinations, 2); None: that year alone."""
+        if self.lags is None or not (name in self.fed or name in self.excess or name.startswith(STOCK)):
+            return None
+        first = np.zeros_like(self.lags) if name.startswith(STOCK) else self.lags
+        last = np.maximum(self.lags - 1, 0) if name.startswith(STOCK) else self.lags
+        return np.stack([first, last], axis=1)
 
     def greatest_cash(self, project: Project) -> NDArray[np.float64]:
         """Returns the most that each block earns in any destination and year, shape (blocks,)."""
@@ -247,24 +315,34 @@ class BlockAmounts:
     def limits(self, project: Project, years: int) -> tuple[BlockLimit, ...]:
         """Returns the limits of years: maxima, minimums, and head grades."""
         limits, flows = limits_of(project, project.schedule or ScheduleRules()), self.flows
-        of_dumps = [it for it in limits.places.values() if it.name in flows and it.in_years(years).any()]
-        maxima = [*limits.most.values(), *(it for it in of_dumps if it.side == MAX)]
-        above = [BlockLimit(it.name, flows[it.name], it.of_years(years)) for it in maxima]
+        of_places = [it for it in limits.places.values() if it.name in flows and it.in_years(years).any()]
+        maxima = [*limits.most.values(), *(it for it in of_places if it.side == MAX)]
+        above = [BlockLimit(it.name, flows[it.name], it.of_years(years), spans=self.spans(it.name)) for it in maxima]
         # What yields nothing there is not sent to a process for the sake of a least amount.
+        owed = {name: np.where(self.pays | (flows[name][:, :1] > 0), flows[name], 0.0) for name in limits.least}
+        least = [*limits.least.values(), *(it for it in of_places if it.side == MIN)]
         below = [
-            minimum(name, np.where(self.pays | (flows[name][:, :1] > 0), flows[name], 0.0), it.of_years(years))
-            for name, it in limits.least.items()
+            BlockLimit(
+                it.name,
+                owed.get(it.name, flows[it.name]),
+                np.full(years, np.inf),
+                it.of_years(years),
+                spans=self.spans(it.name),
+            )
+            for it in least
         ]
-        below += [minimum(it.name, flows[it.name], it.of_years(years)) for it in of_dumps if it.side == MIN]
         graded = [
-            BlockLimit(it.name, self.excess[it.name], it.of_years(years), signed=True) for it in grade_limits(project)
+            BlockLimit(it.name, self.excess[it.name], it.of_years(years), signed=True, spans=self.spans(it.name))
+            for it in grade_limits(project)
         ]
         return (*above, *below, *graded)
 
 
-def minimum(name: str, amounts: NDArray[np.float64], least: NDArray[np.float64]) -> BlockLimit:
-    """Returns a limit of years that is a minimum alone."""
-    return BlockLimit(name, amounts, np.full_like(least, np.inf), least)
+def priced_flows(project: Project, flows: Flows, years: int) -> NDArray[np.float64]:
+    """Returns cash at the prices and costs of years, shape (blocks, destinations, years), from amounts and the cash at those as given."""
+    cash, premiums = flows[CASH], of_project(project).premium(tuple(flows), years).T
+    more = sum(it[:, :, None] * premium for it, premium in zip(flows.values(), premiums) if premium.any())
+    return np.broadcast_to(cash[:, :, None], (*cash.shape, years)) + more
 
 
 @dataclass(frozen=True)
@@ -318,12 +396,13 @@ class Minable:
         """Returns the problem of these blocks, with their amounts, over some periods."""
         money = of_project(project)
         return BlockProblem(
-            values=amounts.cash(project, years) * year_discounts(project.shells, years),
+            values=amounts.values(project, year_discounts(project.shells, years)),
             precedences=self.precedences,
             limits=amounts.limits(project, years),
             totals=self.totals(amounts, project),
             costs=costs_of_years(money, project.shells, years) if money.columns else None,
             word=project.shells.calendar.word,
+            lags=amounts.lags,
         )
 
 
@@ -355,9 +434,9 @@ class PlannedBlocks:
         """The grid's number of each block, rising."""
         return self.minable.cells
 
-    @property
+    @cached_property
     def destinations(self) -> Destinations:
-        return destinations_of(self.plan.project)
+        return destinations_of(self.plan.project, self.problem.years)
 
     @property
     def limits(self) -> Limits:
@@ -394,7 +473,45 @@ def of_plan(plan: Plan) -> PlannedBlocks:
     if project.dumps:
         ore_kinds.accepted(plan, minable.cells[pit])
     years = periods_of(project, project.schedule or ScheduleRules()) or years_of([amounts.held(pit)], project)
+    to = destinations_of(project, years)
+    if to.routes:
+        amounts, accepted = with_routes(plan, minable.cells, amounts, to)
+        routes = np.where(accepted, np.arange(len(to.names), len(to)), cheapest_waste(plan, minable.cells)[:, None])
+        goes = np.concatenate([goes, routes], axis=1)
+        amounts = amounts.as_sent(goes)
     return PlannedBlocks(plan, minable, amounts, minable.problem(amounts, project, years), goes, grades)
+
+
+def with_routes(
+    plan: Plan, cells: NDArray[np.int64], amounts: BlockAmounts, to: Destinations
+) -> tuple[BlockAmounts, NDArray[np.bool_]]:
+    """Returns the amounts with those of the routes over stockpiles behind them, and whether each block may take each route, shape (blocks, routes)."""
+    rules, money = plan.project.schedule or ScheduleRules(), of_project(plan.project)
+    ore = ore_of(plan, rules, cells, np.zeros(len(cells), dtype=np.int64))
+    back = [ore.reclaimed(it, money) for it in to.stockpiles]
+    process = [len(to.waste) + it.process for it in to.routes]
+
+    def of_ore(name: str) -> NDArray[np.float64]:
+        return np.stack([back[it.stockpile].of(name)[it.process] for it in to.routes], axis=1)
+
+    feed, mined = ore.feed, -plan.values.mining[cells] / MILLION
+    stacking = np.array([to.stockpiles[it.stockpile].stacking_cost for it in to.routes])
+    routes = {CASH: mined[:, None] - np.outer(feed, stacking)}
+    for name, it in amounts.flows.items():
+        if name in ore.amounts:
+            routes[name] = of_ore(name)
+        elif name != CASH:
+            routes[name] = np.zeros_like(routes[CASH]) if name.startswith(DUMP) else it[:, process]
+    routes[RECLAIMED] = np.stack([back[it.stockpile].gain[it.process] for it in to.routes], axis=1)
+    for number, stockpile in enumerate(to.stockpiles):
+        lies = np.array([float(it.stockpile == number) for it in to.routes])
+        routes[f"{STOCK}{stockpile.name}"] = np.outer(feed, lies)
+    nothing = np.zeros_like(amounts.pays, dtype=float)
+    flows = {name: np.concatenate([amounts.flows.get(name, nothing), it], axis=1) for name, it in routes.items()}
+    excess = {name: np.concatenate([it, it[:, process]], axis=1) for name, it in amounts.excess.items()}
+    accepted = amounts.pays[:, process] & np.stack([ore.accepted_by(it.stockpile) for it in to.routes], axis=1)
+    pays = np.concatenate([amounts.pays, accepted], axis=1)
+    return BlockAmounts(flows, excess, pays, frozenset(set(amounts.flows) & set(ore.amounts)), to.lags), accepted
 
 
 def taken(plan: Plan, cells: NDArray[np.int64], pays: NDArray[np.bool_]) -> NDArray[np.int64]:
@@ -409,14 +526,17 @@ def taken(plan: Plan, cells: NDArray[np.int64], pays: NDArray[np.bool_]) -> NDAr
         Whether each cell yields anything there.
     """
     dumps = plan.project.dumps
-    if not dumps:
-        accepts = np.ones((len(cells), 1), dtype=bool)
-        cheapest = np.zeros(len(cells), dtype=np.int64)
-    else:
-        accepts = ore_kinds.accepting(plan, cells)
-        cheapest = np.where(accepts, [it.cost for it in dumps], np.inf).argmin(axis=1)
+    accepts = ore_kinds.accepting(plan, cells) if dumps else np.ones((len(cells), 1), dtype=bool)
     stays = np.concatenate([accepts, pays[:, accepts.shape[1] :]], axis=1)
-    return np.where(stays, np.arange(stays.shape[1]), cheapest[:, None])
+    return np.where(stays, np.arange(stays.shape[1]), cheapest_waste(plan, cells)[:, None])
+
+
+def cheapest_waste(plan: Plan, cells: NDArray[np.int64]) -> NDArray[np.int64]:
+    """Returns the number of the cheapest dump that accepts each cell; 0, waste, without dumps."""
+    dumps = plan.project.dumps
+    if not dumps:
+        return np.zeros(len(cells), dtype=np.int64)
+    return np.where(ore_kinds.accepting(plan, cells), [it.cost for it in dumps], np.inf).argmin(axis=1)
 
 
 def demand_small(plan: Plan, cells: NDArray[np.int64]) -> None:
@@ -447,7 +567,7 @@ def owing(plan: Plan, amounts: BlockAmounts) -> NDArray[np.bool_]:
     least = [*limits.least, *(name for name, side in limits.places if side == MIN)]
     found = np.zeros(plan.grid.count, dtype=bool)
     for name in least:
-        found |= (amounts.flows[name] > 0).any(axis=1)
+        found |= (amounts.flows[ORE if name.startswith(STOCK) else name] > 0).any(axis=1)
     for excess in amounts.excess.values():
         found |= (excess < 0).any(axis=1)
     if (least or amounts.excess) and plan.left_out:

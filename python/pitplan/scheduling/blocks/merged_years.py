@@ -25,11 +25,13 @@ ROUGH = Effort(0.01)
 
 
 def groups_by_merged_years(nodes: Nodes, progress: Progress) -> Optional[Groups]:
-    """Returns the groups with which rounds begin; None: those by nested pits, for few nodes or a problem with minimums.
+    """Returns the groups with which rounds begin; None: those by nested pits, for few nodes, or a problem with minimums
+    or stockpiles.
 
     Raises KeyboardInterrupt where the run is interrupted.
     """
-    if nodes.problem.owes or len(nodes) <= FEW_NODES or nodes.problem.years <= FEW_YEARS:
+    problem = nodes.problem
+    if problem.owes or problem.lags is not None or len(nodes) <= FEW_NODES or problem.years <= FEW_YEARS:
         return None
     merged = with_merged_years(nodes)
     groups = groups_by_merged_years(merged, progress)

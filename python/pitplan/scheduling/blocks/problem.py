@@ -10,11 +10,12 @@ from __future__ import annotations
 from collections.abc import Callable, Iterator, Sequence
 from dataclasses import dataclass, replace
 from fractions import Fraction
-from functools import cached_property
+from functools import cached_property, partial
 from typing import Any, Optional
 
 import numpy as np
 from numpy.typing import NDArray
+from scipy.sparse import coo_matrix, csr_matrix
 
 import pitshell
 from pitplan.config.periods import YEAR
@@ -79,6 +80,8 @@ class BlockLimit:
     most     by year, infinite where there is no limit: shape (years,)
     least    by year; None: 0 in all, or none at all of a signed limit
     signed   whether blocks may also take from the sum, as in that of content less a head grade times feed
+    spans    by destination the first and the last year in which a block uses the limit, from 0 for the year in which it is mined: shape
+             (destinations, 2); None: that year alone
     """
 
     name: str
@@ -86,6 +89,7 @@ class BlockLimit:
     most: NDArray[np.float64]
     least: Optional[NDArray[np.float64]] = None
     signed: bool = False
+    spans: Optional[NDArray[np.int64]] = None
 
     @property
     def floor(self) -> NDArray[np.float64]:
@@ -93,6 +97,65 @@ class BlockLimit:
         if self.signed:
             return np.full_like(self.most, -np.inf)
         return np.zeros_like(self.most) if self.least is None else self.least
+
+    @property
+    def holds(self) -> bool:
+        """Whether some block uses it in several years, as a stockpile on which it lies."""
+        return self.spans is not None and bool((self.spans[:, 0] < self.spans[:, 1]).any())
+
+    @cached_property
+    def windows(self) -> list[tuple[NDArray[np.int64], range]]:
+        """Destinations by the years after that of mining in which a block uses the limit."""
+        spans = np.zeros((self.amounts.shape[1], 2), dtype=np.int64) if self.spans is None else self.spans
+        distinct, number = np.unique(spans, axis=0, return_inverse=True)
+        return [
+            (np.flatnonzero(number.ravel() == k), range(first, last + 1))
+            for k, (first, last) in enumerate(distinct.tolist())
+        ]
+
+    def by_use(self, mined: NDArray[np.float64]) -> NDArray[np.float64]:
+        """Returns amounts by the year in which they use the limit, shape (years,), from those by destination and year of mining."""
+        found = np.zeros(mined.shape[1])
+        for destinations, lags in self.windows:
+            of_years = mined[destinations].sum(axis=0)
+            for lag in lags:
+                found[lag:] += of_years[: len(found) - lag]
+        return found
+
+    def paid(self, prices: NDArray[np.float64]) -> NDArray[np.float64]:
+        """Returns what a unit pays, from the prices of years: by the year in which a block is mined, shape (years,), or by destination and that
+        year."""
+        if self.spans is None:
+            return prices
+        found = np.zeros((len(self.spans), len(prices)))
+        for destinations, lags in self.windows:
+            of_years = sum(
+                (np.append(prices[lag:], np.zeros(min(lag, len(prices)))) for lag in lags), np.zeros(len(prices))
+            )
+            found[destinations] = of_years
+        return found
+
+    def uses(self, shares: ShareIndex, years: int) -> csr_matrix:
+        """Returns what each share adds to the sum of each year, shape (years, shares)."""
+        rows, columns = [np.zeros(0, dtype=np.int64)], [np.zeros(0, dtype=np.int64)]
+        amounts = self.amounts[shares.block, shares.destination]
+        for destinations, lags in self.windows:
+            some = np.flatnonzero(np.isin(shares.destination, destinations) & (amounts != 0))
+            for lag in lags:
+                year = shares.year[some] + lag
+                rows.append(year[year < years])
+                columns.append(some[year < years])
+        row, column = np.concatenate(rows), np.concatenate(columns)
+        return coo_matrix((amounts[column], (row, column)), shape=(years, len(amounts))).tocsr()
+
+
+@dataclass(frozen=True)
+class ShareIndex:
+    """Shares of blocks that go to destinations: by share the block, the year in which it is mined, and the destination."""
+
+    block: NDArray[np.int64]
+    year: NDArray[np.int64]
+    destination: NDArray[np.int64]
 
 
 @dataclass(frozen=True)
@@ -154,8 +217,11 @@ class BlockProblem:
     precedences what must be mined in the same year or before
     limits  what a year may hold
     totals  what all years must, or may, hold together
-    costs   what each year up to the last in which a block is mined costs, discounted, in money, 0 or more: shape (years,); None: nothing
+    costs   what each year up to the last in which a block is mined or reclaimed costs, discounted, in money, 0 or more: shape (years,);
+            None: nothing
     word    what messages call a year: period if some are not years
+    lags    by destination the years after that of mining in which a stockpile gives the block back, 0 without one: shape (destinations,);
+            None: 0 of all
     """
 
     values: NDArray[np.float64]
@@ -164,6 +230,7 @@ class BlockProblem:
     totals: tuple[TotalLimit, ...] = ()
     costs: Optional[NDArray[np.float64]] = None
     word: str = YEAR
+    lags: Optional[NDArray[np.int64]] = None
 
     @property
     def running_costs(self) -> NDArray[np.float64]:
@@ -213,15 +280,34 @@ class BlockProblem:
 
     def in_order(self, order: NDArray[np.int64]) -> BlockProblem:
         """The same problem with its blocks in an order."""
-        limits = tuple(replace(it, amounts=it.amounts[order]) for it in self.limits)
-        totals = tuple(it.each(lambda amounts: amounts[order]) for it in self.totals)
-        return BlockProblem(self.values[order], self.precedences.in_order(order), limits, totals, self.costs, self.word)
+        return self.each(lambda values: values[order], self.precedences.in_order(order))
 
     def of_blocks(self, kept: NDArray[np.bool_]) -> BlockProblem:
         """The problem of these blocks alone, which need none of the others."""
-        limits = tuple(replace(it, amounts=it.amounts[kept]) for it in self.limits)
-        totals = tuple(it.each(lambda amounts: amounts[kept]) for it in self.totals)
-        return BlockProblem(self.values[kept], self.precedences.within(kept), limits, totals, self.costs, self.word)
+        return self.each(lambda values: values[kept], self.precedences.within(kept))
+
+    def of_some(self, blocks: NDArray[np.int64]) -> BlockProblem:
+        """The problem of some blocks, without their needs."""
+        none = BlockPrecedences(np.zeros(len(blocks) + 1, dtype=np.uint32), np.zeros(0, dtype=np.uint32))
+        return self.each(lambda values: values[blocks], none)
+
+    def each(
+        self, change: Callable[[NDArray[np.float64]], NDArray[np.float64]], precedences: BlockPrecedences
+    ) -> BlockProblem:
+        """The same problem with what is given by block changed."""
+        limits = tuple(replace(it, amounts=change(it.amounts)) for it in self.limits)
+        totals = tuple(it.each(change) for it in self.totals)
+        return replace(self, values=change(self.values), precedences=precedences, limits=limits, totals=totals)
+
+    def paid(self, prices: NDArray[np.float64]) -> list[NDArray[np.float64]]:
+        """Returns what a unit of each limit and total pays at prices, by destination and year of mining, or by that year alone."""
+        of_totals = prices[len(self.limits) :]
+        return [*(limit.paid(by_year) for limit, by_year in zip(self.limits, prices)), *of_totals]
+
+    @property
+    def at_once(self) -> int:
+        """The number of the first destination that is a stockpile, or of all."""
+        return self.destinations if self.lags is None else int(np.append(self.lags > 0, True).argmax())
 
 
 def demand_sound(problem: BlockProblem) -> None:
@@ -405,18 +491,46 @@ class Assignment:
         return float(self.worths(problem).sum() - problem.running_costs[: self.life(problem)].sum())
 
     def life(self, problem: BlockProblem) -> int:
-        """The number of years up to the last in which a block is mined."""
-        return int(self.year[self.year < problem.years].max(initial=-1)) + 1
+        """The number of years up to the last in which a block is mined or reclaimed."""
+        return int(self.last_years(problem)[self.year < problem.years].max(initial=-1)) + 1
+
+    def last_years(self, problem: BlockProblem) -> NDArray[np.int64]:
+        """The year in which the last of each block is mined or reclaimed."""
+        if problem.lags is None:
+            return self.year
+        year = np.where(self.share > 0, self.year[:, None] + problem.lags, 0)
+        return np.maximum(self.year, np.where(year < problem.years, year, 0).max(axis=1))
 
     def shortened(self, problem: BlockProblem) -> Assignment:
         """The schedule without the blocks of its last years if it earns more without these years: it ends with the best year, or mines nothing.
         With a minimum it stays as it is."""
         if problem.costs is None or problem.owes:
             return self
+        if problem.lags is not None:
+            ended = [
+                it for it in map(partial(self.ended, problem), range(self.life(problem))) if it.is_allowed(problem)
+            ]
+            return max([self, *ended], key=lambda it: it.value(problem))
         earned = np.bincount(self.year, self.worths(problem), minlength=problem.years + 1)[: problem.years]
         by_end = np.concatenate([[0.0], np.cumsum(earned - problem.running_costs)])[: self.life(problem) + 1]
         stays = self.year < int(by_end.argmax())
         return Assignment(np.where(stays, self.year, problem.years), np.where(stays[:, None], self.share, 0.0))
+
+    def ended(self, problem: BlockProblem, years: int) -> Assignment:
+        """The schedule without the blocks of later years, and with what is not reclaimed before these as waste."""
+        lags = np.zeros(problem.destinations, dtype=np.int64) if problem.lags is None else problem.lags
+        share = np.where(self.year[:, None] < years, self.share, 0.0)
+        is_late = (lags > 0) & (self.year[:, None] + lags >= years)
+        share[:, 0] += np.where(is_late, share, 0.0).sum(axis=1)
+        year = np.where(self.year < years, self.year, problem.years)
+        return Assignment(year, np.where(is_late, 0.0, share))
+
+    def without_leavings(self, problem: BlockProblem) -> Assignment:
+        """The same with what stays on stockpiles as waste, if that keeps the limits and earns no less: waste often costs the same."""
+        found = self.ended(problem, problem.years)
+        least = self.value(problem) - SUM_ERROR * abs(self.value(problem))
+        is_worse = found.lacking(problem) > self.lacking(problem) or found.value(problem) < least
+        return self if is_worse or not found.is_allowed(problem) else found
 
     def without_crumbs(self) -> Assignment:
         """The same without shares that a solver leaves by rounding: the greatest share of the block takes them. A year's feed of crumbs alone would
@@ -439,9 +553,15 @@ class Assignment:
 
     def sums(self, problem: BlockProblem) -> NDArray[np.float64]:
         """What each limit's amounts add up to in each year: shape (limits, years)."""
-        taken = [(limit.amounts * self.share).sum(axis=1) for limit in problem.limits]
-        by_year = [np.bincount(self.year, amounts, minlength=problem.years + 1)[: problem.years] for amounts in taken]
+        by_year = [self.sum(limit, limit.amounts, problem.years) for limit in problem.limits]
         return np.array(by_year).reshape(len(problem.limits), problem.years)
+
+    def sum(self, limit: BlockLimit, amounts: NDArray[np.float64], years: int) -> NDArray[np.float64]:
+        """What amounts add up to in each year in which they use a limit: shape (years,)."""
+        taken = amounts * self.share
+        if limit.spans is None:
+            return np.asarray(np.bincount(self.year, taken.sum(axis=1), minlength=years + 1)[:years], dtype=float)
+        return limit.by_use(np.stack([np.bincount(self.year, it, minlength=years + 1)[:years] for it in taken.T]))
 
     def slack(self, problem: BlockProblem) -> NDArray[np.float64]:
         """By how much each limit may be missed in each year, as sums of floats do: shape (limits, years)."""
@@ -450,8 +570,7 @@ class Assignment:
             if not limit.signed:
                 found[number] += SUM_ERROR * limit.most
                 continue
-            size = (np.abs(limit.amounts) * self.share).sum(axis=1)
-            found[number] += SUM_ERROR * np.bincount(self.year, size, minlength=problem.years + 1)[: problem.years]
+            found[number] += SUM_ERROR * self.sum(limit, np.abs(limit.amounts), problem.years)
         return found
 
     def exceeded(self, problem: BlockProblem) -> NDArray[np.bool_]:

@@ -23,7 +23,7 @@ from pitplan.errors import PlanError
 
 from .closure import priced
 from .filling import Ranks, cone_sums, greatest_of_predecessors, ranks_of
-from .problem import MOST_UNKNOWNS, BlockProblem, Nodes, by_end, nodes_of, upward
+from .problem import MOST_UNKNOWNS, BlockLimit, BlockProblem, Nodes, by_end, nodes_of, upward
 
 # Groups merge when ROUNDS_KEPT rounds give them equal shares, rounded to SHARES decimals.
 ROUNDS_KEPT, SHARES = 5, 9
@@ -230,7 +230,9 @@ class Master:
     def shows_running(self, place: Place) -> bool:
         """Whether a place is the most of a year above 0, which only a year that runs uses."""
         limits = self.nodes.problem.limits
-        return place.year is not None and place.sign > 0 and place.amount > 0 and not limits[place.number].signed
+        if place.year is None or place.sign < 0 or place.amount <= 0:
+            return False
+        return not (limits[place.number].signed or limits[place.number].holds)
 
     def prices(self, of_places: NDArray[np.float64]) -> NDArray[np.float64]:
         """By limit and year, and by total; of a limit with both a most and a least what is left of their two prices."""
@@ -243,12 +245,40 @@ class Master:
     def limits(self, groups: Groups) -> NDArray[np.float64]:
         """What each group adds to each of the places: shape (places, groups)."""
         problem = self.nodes.problem
-        sums = [self.sums(amounts, groups) for amounts in problem.sums]
+        sums = [self.sums_of(limit, groups) for limit in problem.limits]
+        sums += [self.sums(total.amounts, groups) for total in problem.totals]
         found = [
             sums[place.number].sum(axis=0) if place.year is None else sums[place.number][place.year]
             for place in self.places
         ]
         return np.array(found).reshape(len(self.places), groups.count)
+
+    def sums_of(self, limit: BlockLimit, groups: Groups) -> NDArray[np.float64]:
+        """What each group adds to the sum of a limit in each year: shape (years, groups)."""
+        if limit.spans is None:
+            return self.sums(limit.amounts, groups)
+        found = np.zeros((self.nodes.problem.years, groups.count))
+        for destinations, lags in limit.windows:
+            mined = self.sent(limit.amounts, destinations[limit.amounts[:, destinations].any(axis=0)], groups)
+            for lag in lags:
+                found[lag:] += mined[: len(found) - lag]
+        return found
+
+    def sent(
+        self, amounts: NDArray[np.float64], destinations: NDArray[np.int64], groups: Groups
+    ) -> NDArray[np.float64]:
+        """What each group adds to amounts that are sent to some destinations, by year of mining: shape (years, groups)."""
+        found = np.zeros((self.nodes.problem.years, groups.count))
+        labels, later = list(self.nodes.by_year(groups.label)), destinations[destinations > 0]
+        for year, label in enumerate(labels):
+            of_blocks = amounts[: len(label)]
+            for sign, places, of in ((1, destinations, destinations), (-1, later - 1, later)):
+                weights = of_blocks[:, of].ravel()
+                found[year] += sign * np.bincount(label[:, places].ravel(), weights, minlength=groups.count)
+            if len(later) < len(destinations) and year:
+                before = labels[year - 1][:, -1]
+                found[year] -= np.bincount(before, amounts[: len(before), 0], minlength=groups.count)
+        return found
 
     def sums(self, amounts: NDArray[np.float64], groups: Groups) -> NDArray[np.float64]:
         """What each group adds to a sum of each year: shape (years, groups)."""
@@ -498,8 +528,10 @@ def first_groups(nodes: Nodes) -> Groups:
     factors = range(1000 // FIRST_PITS, 1001, 1000 // FIRST_PITS)
     precedences = (problem.precedences.starts, problem.precedences.needed)
     nested = pitshell.shells(np.maximum(values, 0), np.maximum(-values, 0), precedences, factors, millionths=True)
+    # All that goes to stockpiles in a year is a group at first.
+    place = np.minimum(np.arange(problem.destinations), problem.at_once)
     steps = problem.destinations * problem.years
-    label = nested.first[:, None, None] * steps + np.arange(steps).reshape(problem.destinations, problem.years)
+    label = nested.first[:, None, None] * steps + (place[:, None] * problem.years + np.arange(problem.years))
     return renumbered(nodes.spread(label.astype(np.int64)), (len(factors) + 1) * steps)
 
 

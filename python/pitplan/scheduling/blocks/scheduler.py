@@ -190,7 +190,7 @@ class Search:
             for schedule in self.filled:
                 better = self.divided.merged(moved(self.fillings[0], self.part.ranks, schedule))
                 self.offer(better)
-                self.offer(with_best_shares(self.problem, better))
+                self.offer(with_best_shares(self.problem, better, self.relaxation.prices))
 
     def keep_minimums(self, began: float) -> None:
         """Solves windows again while something lacks of what must be held at least, and less does."""
@@ -225,7 +225,8 @@ class Search:
         """The windows of a size, from the first year on, each of the best schedule so far."""
         for first in range(self.problem.years - size.years + 1):
             years = range(first, first + size.years)
-            yield window_of(self.problem, self.best, self.relaxation.cumulative, years, most=size.unknowns)
+            found, prices = self.relaxation.cumulative, self.relaxation.prices
+            yield window_of(self.problem, self.best, found, years, most=size.unknowns, prices=prices)
 
     def windows(self, effort: Effort, began: float) -> None:
         """Solves window after window again, larger ones once none has become better, until the gap is reached or the seconds are over."""
@@ -263,7 +264,9 @@ class Search:
         """The best so far, as a schedule of the whole problem."""
         year, share = np.full(problem.blocks, problem.years), np.zeros((problem.blocks, problem.destinations))
         year[self.part.kept], share[self.part.kept] = self.best.year, self.best.share
-        schedule, size = Assignment(year, share).without_crumbs(), (self.problem.blocks, len(self.part.nodes))
+        schedule = Assignment(year, share).without_crumbs()
+        schedule = schedule if problem.lags is None else schedule.without_leavings(problem)
+        size = self.problem.blocks, len(self.part.nodes)
         found, value = self.relaxation, schedule.value(problem)
         return Scheduled(schedule, value, found.bound, *size, found.rounds, interrupted, found.multipliers)
 

@@ -14,7 +14,7 @@ import scipy
 from numpy.typing import NDArray
 
 from pitplan.config.economics import GRADE_UNITS
-from pitplan.config.material import PIT, WASTE
+from pitplan.config.material import PIT, WASTE, Stockpile
 from pitplan.config.schedule import ScheduleRules
 from pitplan.core.progress import Progress, silent
 from pitplan.core.revenue_factors import BASE_PRICE
@@ -44,12 +44,21 @@ from pitplan.scheduling.certificate import (
     write,
 )
 from pitplan.scheduling.flow.material import column_of
-from pitplan.scheduling.flow.tables import LimitUse, dump_table, feed_table, grades_of, limit_table, use_of_grade
-from pitplan.scheduling.limits import DUMP, DUMPED, MAX, MIN, Limit, shown
+from pitplan.scheduling.flow.mixed_reclaim import Pile, notes_of_mixing
+from pitplan.scheduling.flow.tables import (
+    LimitUse,
+    dump_table,
+    feed_table,
+    grades_of,
+    limit_table,
+    stockpile_table,
+    use_of_grade,
+)
+from pitplan.scheduling.limits import DUMP, DUMPED, MAX, MIN, STOCK, Limit, shown
 from pitplan.scheduling.methods import BLOCK, notes_of_gap
 from pitplan.scheduling.schedule import Schedule
 
-from .from_plan import PlannedBlocks, of_plan, unapplied
+from .from_plan import RECLAIMED, PlannedBlocks, Route, of_plan, unapplied
 from .problem import Assignment, BlockLimit, BlockProblem, TotalLimit
 from .scheduler import Scheduled, gap_of, solve
 
@@ -113,10 +122,58 @@ class BlockSchedule(Schedule):
     @property
     def material_tables(self) -> dict[str, pd.DataFrame]:
         """Feed and inventory, and with `[[dumps]]` what each takes and holds."""
-        project = self.plan.project
-        found = {"feed": self.feed, "inventory": inventory.summed(self.material_flows, project, [BLOCK])}
-        found |= {"dumps": dump_table(self.material_flows, self.last_years, project.dumps)} if project.dumps else {}
-        return found
+        project, flows = self.plan.project, self.material_flows
+        found = {"feed": self.feed, "inventory": inventory.summed(flows, project, [BLOCK], list(self.starts))}
+        if self.starts:
+            found |= {"stockpiles": self.stockpiles, "reclaims": self.reclaims}
+        return found | ({"dumps": dump_table(flows, self.last_years, project.dumps)} if project.dumps else {})
+
+    @property
+    def stockpiles(self) -> pd.DataFrame:
+        """What lies on each stockpile, and what is placed and reclaimed, in each year."""
+        return stockpile_table(self.material_flows, self.last_years, self.starts, self.plan.project.metals)
+
+    @property
+    def starts(self) -> dict[str, None]:
+        """By stockpile what lies there at the start: nothing."""
+        return {it.name: None for it in self.planned.destinations.stockpiles}
+
+    @property
+    def reclaims(self) -> pd.DataFrame:
+        """A row per block, stockpile and process that takes a share of it from there, with its id and the year."""
+        parts = []
+        for number, route in enumerate(self.planned.destinations.routes, len(self.planned.destinations.names)):
+            move = self.moved_over(number, route)
+            some = np.flatnonzero(move.moves)
+            found = {"id": self.planned.cells[some], "year": move.year[some] + 1, "source": move.source}
+            parts.append(pd.DataFrame(found | {"destination": move.destination, "share": move.share[some]}))
+        table = pd.concat(parts, ignore_index=True)
+        return table.sort_values(["id", "year"], kind="stable", ignore_index=True)
+
+    @property
+    def npv_at_mean_grade(self) -> float:
+        """What the schedule earns if each stockpile gives back the mean of what lies there."""
+        years = self.planned.problem.years
+        discounts = year_discounts(self.plan.project.shells, years)
+        return self.found.value - float(sum((pile.lost @ discounts for pile in self.piles), 0.0))
+
+    @property
+    def piles(self) -> Iterator[Pile]:
+        """What moves to and from each stockpile."""
+        planned, schedule, years = self.planned, self.found.schedule, self.planned.problem.years
+        to, feed = planned.destinations, self.plan.values.feed[planned.cells]
+        blocks = np.arange(planned.problem.blocks)
+        for number, it in enumerate(to.stockpiles):
+            stocked, processes = np.zeros((len(blocks), years + 1)), range(len(to.processes))
+            np.add.at(stocked, (blocks, schedule.year), schedule.share[:, to.stacked(number)].sum(axis=1))
+            out, gain = np.zeros((2, len(processes), len(blocks), years + 1))
+            for process in processes:
+                routes = np.intersect1d(to.fed(process), to.stacked(number))
+                year = np.minimum(schedule.year[:, None] + to.lags[routes], years)
+                np.add.at(out[process], (blocks[:, None], year), schedule.share[:, routes])
+                pays, cash = planned.amounts.pays[:, routes[0]], self.reclaimed_cash[:, routes[0]]
+                gain[process, :, :years] = np.where(pays[:, None], cash, -it.reclaim_cost * feed[:, None])
+            yield Pile(feed, stocked[:, :years], out[..., :years], gain[..., :years], np.zeros(len(blocks)))
 
     @property
     def last_years(self) -> dict[str, int]:
@@ -157,10 +214,41 @@ class BlockSchedule(Schedule):
         return cash[np.arange(problem.blocks), :, np.minimum(year, problem.years - 1)]
 
     @cached_property
+    def reclaimed_cash(self) -> NDArray[np.float64]:
+        """What each block earns over each route in the year in which it is reclaimed, shape (blocks, destinations, years)."""
+        return self.planned.amounts.reclaimed_cash(self.plan.project, self.planned.problem.years)
+
+    @cached_property
     def material_flows(self) -> pd.DataFrame:
-        """One row per block with tonnes and destination that takes a share of it."""
-        parts = [flows_to(self, number) for number in range(len(self.planned.destinations))]
-        return pd.concat(parts, ignore_index=True)
+        """One row per block with tonnes and destination that takes a share of it, and one per block and process that takes it from a stockpile."""
+        return pd.concat([flows_of(self, move) for move in self.moves], ignore_index=True)
+
+    @property
+    def moves(self) -> Iterator[BlockMove]:
+        """The flows from the pit to each destination, to each stockpile, and over each route."""
+        planned, schedule, years = self.planned, self.found.schedule, self.planned.problem.years
+        to, cells = planned.destinations, planned.cells
+        factors = of_project(self.plan.project).factors(MINING_COST, years)
+        mining = self.plan.values.mining[cells] / MILLION * factors[np.minimum(schedule.year, years - 1)]
+        for number, name in enumerate(to.names):
+            process = number - len(to.waste) if number >= len(to.waste) else None
+            cash = self.cash[:, number] + mining
+            yield BlockMove(PIT, name, schedule.year, schedule.share[:, number], cash, process=process)
+        for number, it in enumerate(to.stockpiles):
+            share = schedule.share[:, to.stacked(number)].sum(axis=1)
+            cash = -it.stacking_cost * self.plan.values.feed[cells]
+            yield BlockMove(PIT, it.name, schedule.year, share, cash, stockpile=it)
+        for number, route in enumerate(to.routes, len(to.names)):
+            yield self.moved_over(number, route)
+
+    def moved_over(self, number: int, route: Route) -> BlockMove:
+        """Returns the flow that a process takes over a route, by the number of the destination; what no year is left to reclaim stays."""
+        planned, schedule, years = self.planned, self.found.schedule, self.planned.problem.years
+        to, year = planned.destinations, schedule.year + route.lag
+        share = np.where(year < years, schedule.share[:, number], 0.0)
+        cash = self.reclaimed_cash[np.arange(len(year)), number, np.minimum(year, years - 1)]
+        pile, process = to.stockpiles[route.stockpile], to.processes[route.process]
+        return BlockMove(pile.name, process, year, share, cash, process=route.process, stockpile=pile)
 
     @property
     def grade_tonnage(self) -> pd.DataFrame:
@@ -197,8 +285,10 @@ class BlockSchedule(Schedule):
         certificate, problem = self.certificate, self.planned.problem
         write(certificate, self.planned.cells.tolist(), stage)
         proved = checked(stage, program, certificate.unit)
-        destinations = tuple(("", "" if it == WASTE else it, 0) for it in self.planned.destinations.names)
-        return replace(self, certified=replace(proved, destinations=destinations, limits=sides_of(problem)))
+        to = self.planned.destinations
+        destinations = [("", "" if it == WASTE else it, 0) for it in to.names]
+        destinations += [(to.stockpiles[it.stockpile].name, to.processes[it.process], it.lag) for it in to.routes]
+        return replace(self, certified=replace(proved, destinations=tuple(destinations), limits=sides_of(problem)))
 
     @property
     def certificate(self) -> Certificate:
@@ -209,18 +299,25 @@ class BlockSchedule(Schedule):
 
     @property
     def count(self) -> int:
-        """The last year in which anything is mined, from 1; 0 where nothing is."""
-        year = self.found.schedule.year
-        return int(year[year < self.planned.problem.years].max(initial=-1)) + 1
+        """The last year in which anything is mined or reclaimed, from 1; 0 where nothing is."""
+        return self.found.schedule.life(self.planned.problem)
 
     def beside(self, blocks: pd.DataFrame) -> pd.DataFrame:
         """Rows of blocks, by `id`, with the year of each, from 1, 0 where it is not mined; and share_NAME, the share of it that goes to each
-        dump and process, share_mill where the project names none. The rest of it is waste."""
+        dump, and to each process at once or from a stockpile, share_mill where the project names none, and the share that is placed on each
+        stockpile. The rest of it is waste."""
         problem, schedule = self.planned.problem, self.found.schedule
         columns: dict[str, NDArray[Any]] = {
             "year": np.where(schedule.year < problem.years, schedule.year + 1, 0).astype(np.int16)
         }
-        columns |= {SHARE + name: schedule.share[:, number] for name, number in self.planned.destinations.shown.items()}
+        to = self.planned.destinations
+        columns |= {SHARE + name: schedule.share[:, number] for name, number in to.shown.items()}
+        for process, name in enumerate(to.processes):
+            routes = to.fed(process)[1:]
+            in_time = schedule.year[:, None] + to.lags[routes] < problem.years
+            columns[SHARE + name] = columns[SHARE + name] + (schedule.share[:, routes] * in_time).sum(axis=1)
+        for number, it in enumerate(to.stockpiles):
+            columns[SHARE + it.name] = schedule.share[:, to.stacked(number)].sum(axis=1)
         grid, ids = self.plan.grid, blocks["id"].to_numpy()
         found = {}
         for name, values in columns.items():
@@ -236,21 +333,35 @@ class BlockSchedule(Schedule):
     @cached_property
     def years(self) -> pd.DataFrame:
         """A row a year up to the last in which anything is mined, as `Shells.years` has of cases."""
-        problem, schedule, project = self.planned.problem, self.found.schedule, self.plan.project
-        flows, count = self.planned.amounts.flows | {CASH: self.cash}, self.count
+        problem, project, count = self.planned.problem, self.plan.project, self.count
         table = pd.DataFrame({"case": BLOCK, "revenue_factor": BASE_PRICE, "year": np.arange(1, count + 1)})
-        for name, amounts in flows.items():
-            if not is_shown(name) or name.startswith(DUMP):
-                continue
-            of_blocks = (amounts * schedule.share).sum(axis=1)
-            table[name] = np.bincount(schedule.year, of_blocks, minlength=problem.years + 1)[:count]
-        earned = table.pop(CASH)
+        for name in self.planned.amounts.flows:
+            if is_shown(name) and not name.startswith((DUMP, STOCK, RECLAIMED, CASH)):
+                table[name] = self.used(name)
         for grade in self.planned.grades:
-            table[grade.name] = grade.of_years(self.planned.cells, schedule, problem.years)[:count]
+            table[grade.name] = grade.of_years(self.operation.fed)
+        earned = self.earned
         discounts = year_discounts(project.shells, problem.years)[:count]
         present = earned * discounts - problem.running_costs[:count]
         spent = of_project(project).costs(count)
         return table.assign(**spent, **{CASH: earned - sum(spent.values()), "discounted_cash_flow": present})
+
+    def used(self, name: str) -> NDArray[np.float64]:
+        """Returns the sum of an amount in each year in which it flows or lies on a stockpile, shape (years,)."""
+        amounts, years = self.planned.amounts, self.planned.problem.years
+        limit = BlockLimit(name, amounts.flows[name], np.zeros(years), spans=amounts.spans(name))
+        return self.found.schedule.sum(limit, limit.amounts, years)[: self.count]
+
+    @property
+    def earned(self) -> NDArray[np.float64]:
+        """The cash flow of each year before what years cost, shape (years,)."""
+        schedule, years = self.found.schedule, self.planned.problem.years
+        found = np.bincount(schedule.year, (self.cash * schedule.share).sum(axis=1), minlength=years + 1)
+        to = self.planned.destinations
+        for number, route in enumerate(to.routes, len(to.names)):
+            move = self.moved_over(number, route)
+            found += np.bincount(np.minimum(move.year, years), move.cash * move.share, minlength=years + 1)
+        return np.asarray(found[: self.count], dtype=float)
 
     @property
     def table(self) -> pd.DataFrame:
@@ -261,6 +372,7 @@ class BlockSchedule(Schedule):
             "npv": self.found.value,
             "upper_bound": self.found.bound,
             "optimality_gap": self.found.gap,
+            **({"npv_at_mean_grade": self.npv_at_mean_grade} if self.starts else {}),
             "years": self.time(self.count),
             "blocks": int(mined.sum()),
             "tonnes": self.years[ROCK].sum(),
@@ -338,6 +450,7 @@ class BlockSchedule(Schedule):
             said.append(f"{WARNING}{why}")
         if not found.interrupted:
             said += notes_of_gap(found.value, found.bound, project.schedule.milp if project.schedule else None)
+        said += notes_of_mixing(self.stockpiles, self.starts, project, self.npv_at_mean_grade) if self.starts else []
         said += unapplied(project)
         said += [self.certified.note] if self.certified else []
         if found.interrupted:
@@ -368,11 +481,11 @@ def scheduled(planned: PlannedBlocks, shells: Shells, progress: Progress = silen
 
 def uses_of_limits(blocks: BlockSchedule) -> Iterator[LimitUse]:
     """Yields the uses of amounts, head grades, and what dumps take and hold."""
-    planned, count, schedule = blocks.planned, blocks.count, blocks.found.schedule
-    limits, operation = planned.limits, BlockOperation(blocks)
+    planned, count, operation = blocks.planned, blocks.count, blocks.operation
+    limits = planned.limits
 
     def use(name: str, amount: str, least: Optional[Limit], most: Optional[Limit]) -> LimitUse:
-        used = operation.by_year((planned.amounts.flows[amount] * schedule.share).sum(axis=1))
+        used = blocks.used(amount)
         used = used.cumsum() if name.startswith(DUMPED) else used
         return LimitUse(name, used, shown(least, count), shown(most, count), blocks.shadow_price(name)[:count])
 
@@ -381,36 +494,70 @@ def uses_of_limits(blocks: BlockSchedule) -> Iterator[LimitUse]:
     for grade, sides in grades_of(planned.plan.project).items():
         head = next(it for it in planned.grades if sides[0].name in it.limits)
         feed = operation.fed(head.feed, sides[0].process)
-        of_years = head.of_years(planned.cells, schedule, planned.problem.years)[:count]
-        yield use_of_grade(sides, of_years, feed, lambda it: blocks.shadow_price(it)[:count])
+        yield use_of_grade(sides, head.of_years(operation.fed), feed, lambda it: blocks.shadow_price(it)[:count])
     places = {key: it for key, it in limits.places.items() if it.in_years(planned.problem.years).any()}
     for name in dict.fromkeys(name for name, _ in places):
-        amount = f"{DUMP}{name.removeprefix(DUMP).removeprefix(DUMPED)}"
+        amount = name if name.startswith(STOCK) else f"{DUMP}{name.removeprefix(DUMP).removeprefix(DUMPED)}"
         yield use(name, amount, places.get((name, MIN)), places.get((name, MAX)))
 
 
-def flows_to(blocks: BlockSchedule, number: int) -> pd.DataFrame:
-    """Returns a row per block with tonnes whose share goes to a destination, by its number."""
-    planned, schedule = blocks.planned, blocks.found.schedule
-    plan, destination = planned.plan, planned.destinations.names[number]
-    process = number - len(planned.destinations.waste)
-    mined = (schedule.year < planned.problem.years) & (plan.values.tonnes[planned.cells] > 0)
-    some = np.flatnonzero(mined & (schedule.share[:, number] > SUM_ERROR))
-    cells, share = planned.cells[some], schedule.share[some, number]
-    found = {"method": BLOCK, "year": schedule.year[some] + 1, "bench": plan.grid.toes()[level_of(plan, cells)]}
-    found |= codes_of(plan, cells) | {"source": PIT, "destination": destination}
-    tonnes, fed = plan.values.tonnes[cells] * share, np.zeros(len(share)) if process < 0 else share
+@dataclass(frozen=True, eq=False)
+class BlockMove:
+    """A flow of blocks from a source to a destination.
+
+    Attributes
+    ----------
+    source, destination : str
+    year : int array, shape (blocks,)
+        The year of each, from 0.
+    share : array, shape (blocks,)
+        The share of each.
+    cash : array, shape (blocks,)
+        What the whole of each earns by it, besides the cost of mining, in the currency of the year.
+    process : int, optional
+        The process that takes it.
+    stockpile : Stockpile, optional
+        The stockpile that it goes to or comes from.
+    """
+
+    source: str
+    destination: str
+    year: NDArray[np.int64]
+    share: NDArray[np.float64]
+    cash: NDArray[np.float64]
+    process: Optional[int] = None
+    stockpile: Optional[Stockpile] = None
+
+    @property
+    def moves(self) -> NDArray[np.bool_]:
+        """Whether more of each block moves than a solver leaves by rounding."""
+        return self.share > SUM_ERROR
+
+    def recovered(self, plan: Plan, metal: str, cells: NDArray[np.int64]) -> NDArray[np.float64]:
+        """Returns the metal that is recovered of whole cells; none if no process takes them."""
+        if self.process is None:
+            return np.zeros(len(cells))
+        left = self.stockpile.recovery.get(metal, 1.0) if self.stockpile else 1.0
+        return plan.values.by_process[self.process].metal[metal][cells] * left
+
+
+def flows_of(blocks: BlockSchedule, move: BlockMove) -> pd.DataFrame:
+    """Returns a row per block with tonnes that moves."""
+    planned, plan = blocks.planned, blocks.plan
+    some = np.flatnonzero(move.moves & (plan.values.tonnes[planned.cells] > 0))
+    cells, share = planned.cells[some], move.share[some]
+    found = {"method": BLOCK, "year": move.year[some] + 1, "bench": plan.grid.toes()[level_of(plan, cells)]}
+    found |= codes_of(plan, cells) | {"source": move.source, "destination": move.destination}
+    is_waste = move.process is None and move.stockpile is None
+    tonnes, fed = plan.values.tonnes[cells] * share, np.zeros(len(share)) if is_waste else share
     found |= {"total_tonnes": tonnes}
     found["feed_tonnes"] = plan.values.feed[cells] * fed
     for metal in plan.project.metals:
         grade = column_of(plan, metal.column, cells) * float(GRADE_UNITS[metal.unit])
         found[f"in_situ_{metal.name}"] = grade * tonnes
         found[f"contained_{metal.name}"] = grade * plan.values.undiluted[cells] * fed
-        recovered = np.zeros(1) if process < 0 else plan.values.by_process[process].metal[metal.name][cells]
-        found[f"recovered_{metal.name}"] = recovered * fed
-    mining = plan.values.mining[cells] / MILLION
-    factors = of_project(plan.project).factors(MINING_COST, planned.problem.years)
-    found["cash_flow"] = (blocks.cash[some, number] + mining * factors[schedule.year[some]]) * share
+        found[f"recovered_{metal.name}"] = move.recovered(plan, metal.name, cells) * fed
+    found["cash_flow"] = move.cash[some] * share
     return pd.DataFrame(found)
 
 
@@ -452,18 +599,41 @@ def of_schedule(
     """
     if problem.running_costs.any():
         raise PlanError(f"{WHOLE}: it cannot state costs of years")
-    values = problem.values[:, :, 0] / discounts[0]
-    if not np.allclose(values[:, :, None] * discounts, problem.values, rtol=SUM_ERROR, atol=BLOCK_MONEY):
-        raise PlanError(f"{WHOLE}: it cannot state prices or costs that differ by year")
+    values, later = values_of(problem, discounts)
     count = len(problem.limits)
     prices = multipliers if multipliers.size else np.zeros((count + len(problem.totals), problem.years))
-    unit = money_unit([values], [np.abs(prices)])
+    unit = money_unit([values, later], [np.abs(prices)])
     limits = [it for limit, paid in zip(problem.limits, prices / unit) for it in stated(limit, paid)]
     limits += [stated_total(total, paid) for total, paid in zip(problem.totals, prices[count:] / unit)]
     rows, shares = rows_of(limits, shares_of(schedule, problem.years))
     predecessors = Predecessors(problem.precedences.starts, problem.precedences.needed)
-    worth = millionths(values / unit)
-    return Certificate(worth.shape[1], terms_of(worth), millionths(discounts), rows, predecessors, shares, unit)
+    terms = terms_of(millionths(values / unit))
+    if problem.lags is not None:
+        again = zip(terms_of(millionths(later / unit)), problem.lags.tolist())
+        terms += tuple(replace(term, lag=lag) for term, lag in again if 0 < lag < problem.years)
+    return Certificate(values.shape[1], terms, millionths(discounts), rows, predecessors, shares, unit)
+
+
+def values_of(problem: BlockProblem, discounts: NDArray[np.float64]) -> tuple[NDArray[np.float64], NDArray[np.float64]]:
+    """Returns what blocks earn by destination as they are mined, and as a stockpile gives them back, before discounting, each of shape (blocks,
+    destinations).
+
+    Raises
+    ------
+    PlanError
+        If these differ by year.
+    """
+    lags = np.zeros(problem.destinations, dtype=np.int64) if problem.lags is None else problem.lags
+    # What is mined in the last year is not reclaimed.
+    mined = np.where(lags > 0, problem.values[:, :, -1] / discounts[-1], problem.values[:, :, 0] / discounts[0])
+    reclaimed_at = np.append(discounts, np.inf)[np.minimum(lags, problem.years)]
+    later = np.where(lags > 0, (problem.values[:, :, 0] - mined * discounts[0]) / reclaimed_at, 0.0)
+    year = lags[:, None] + np.arange(problem.years)
+    factors = np.where(year < problem.years, np.append(discounts, 0.0)[np.minimum(year, problem.years)], 0.0)
+    stated = mined[:, :, None] * discounts + later[:, :, None] * factors
+    if not np.allclose(stated, problem.values, rtol=SUM_ERROR, atol=BLOCK_MONEY):
+        raise PlanError(f"{WHOLE}: it cannot state prices or costs that differ by year")
+    return mined, later
 
 
 def sides_of(problem: BlockProblem) -> tuple[tuple[str, str], ...]:
@@ -505,7 +675,9 @@ def stated(limit: BlockLimit, prices: NDArray[np.float64]) -> list[StatedLimit]:
     found = []
     for side in sides(limit):
         sign, bound = (1.0, limit.most) if side == "max" else (-1.0, limit.floor)
-        terms = used_terms(millionths(sign * limit.amounts, down=True))
+        used = {it.destination: it for it in used_terms(millionths(sign * limit.amounts, down=True))}
+        lags = ((number, lag) for numbers, lags in limit.windows for number in numbers.tolist() for lag in lags)
+        terms = tuple(replace(used[number], lag=lag) for number, lag in lags if number in used and lag < len(bound))
         # Waste that one dump takes goes to no other.
         is_loose = side == "min" or limit.name.startswith(DUMP)
         found.append(StatedLimit(limit.name, sign * bound, sign * prices, terms, is_loose))

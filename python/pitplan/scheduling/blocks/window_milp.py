@@ -8,7 +8,7 @@ no later than what needs it, and what they take of the limits is taken off.
 from __future__ import annotations
 
 from collections.abc import Iterator
-from dataclasses import dataclass
+from dataclasses import dataclass, replace
 from functools import cached_property
 from typing import NamedTuple, Optional
 
@@ -21,8 +21,8 @@ from pitplan.core.tolerances import SOLVER_SUM, SUM_ERROR
 from pitplan.scheduling.highs import Programme
 from pitplan.scheduling.highs_process import solve
 
-from .filling import ranks_of
-from .problem import MOST_UNKNOWNS, Assignment, BlockLimit, BlockProblem, TotalLimit
+from .filling import chosen, ranks_of, worths_at
+from .problem import MOST_UNKNOWNS, Assignment, BlockLimit, BlockProblem, ShareIndex, TotalLimit
 from .relaxation import earliest_years
 
 # A window has at first about FEWER integer unknowns at most, and at most MOST_YEARS years unless all blocks fit. A
@@ -57,17 +57,24 @@ class Running(NamedTuple):
 
 @dataclass(frozen=True)
 class Window:
-    """Years of a schedule from `first` up to `last`, without that, and the blocks that are free in them."""
+    """Years of a schedule from `first` up to `last`, without that, and the blocks that are free in them. With stockpiles `routes` says to which
+    destinations each may go, shape (free blocks, years, destinations)."""
 
     problem: BlockProblem
     schedule: Assignment
     first: int
     last: int
     blocks: NDArray[np.int64]
+    routes: Optional[NDArray[np.bool_]] = None
 
     @property
     def years(self) -> int:
         return self.last - self.first
+
+    @property
+    def until(self) -> int:
+        """The year up to which, without that, its blocks use limits: with stockpiles they do after the window too."""
+        return self.last if self.problem.lags is None else self.problem.years
 
     @property
     def place(self) -> NDArray[np.int64]:
@@ -104,35 +111,74 @@ class Window:
             most=np.concatenate(
                 [*(most for _, most in parts), -np.ones(owed.shape[0]), np.zeros(running.runs.shape[0])]
             ),
-            upper=np.concatenate([allowed.ravel().astype(float), np.ones(len(gain) + more)]),
-            whole=np.arange(truths + len(gain) + more) < truths,
+            upper=np.concatenate([allowed.ravel().astype(float), self.may_go, np.ones(more)]),
+            whole=self.whole(truths + len(gain) + owed.shape[0], len(running.costs)),
         )
 
+    def whole(self, count: int, running: int) -> NDArray[np.bool_]:
+        """Which unknowns are whole: the truths, and with stockpiles whether the mine runs, which parts of blocks may show."""
+        found = np.arange(count + running) < self.place.size
+        found[count:] = self.problem.lags is not None
+        return found
+
+    @property
+    def may_go(self) -> NDArray[np.float64]:
+        """1 of each share that a block may have, by block, year and destination: shape (shares,)."""
+        whole = np.ones(self.place.size * self.problem.destinations)
+        return whole if self.routes is None else self.routes.ravel().astype(float)
+
+    @cached_property
+    def index(self) -> ShareIndex:
+        """Block, year and destination of each share."""
+        shape = (*self.place.shape, self.problem.destinations)
+        block, year, destination = (it.ravel() for it in np.indices(shape))
+        return ShareIndex(block, year, destination)
+
     def running(self) -> Running:
-        """The years of the window after all other blocks are mined: each costs if a free block is mined in it or later."""
-        others = self.schedule.year[(self.number < 0) & (self.schedule.year < self.problem.years)]
-        years = np.arange(max(self.first, int(others.max(initial=-1)) + 1), self.last) - self.first
+        """The years after all other blocks are mined and reclaimed: each costs if a free block is mined or reclaimed in it or later."""
+        others = self.schedule.last_years(self.problem)[(self.number < 0) & (self.schedule.year < self.problem.years)]
+        years = np.arange(max(self.first, int(others.max(initial=-1)) + 1), self.until) - self.first
         years = years if self.problem.costs is not None else years[:0]
         count, blocks = len(years), len(self.blocks)
-        mined = eye(self.years, format="csr")[years] - eye(self.years, k=-1, format="csr")[years]
+        mined = eye(count, self.years, k=int(years.min(initial=0)), format="csr")
+        mined = mined - eye(count, self.years, k=int(years.min(initial=0)) - 1, format="csr")
         later = eye(count - 1, count) * -1 + eye(count - 1, count, k=1) if count > 1 else csr_matrix((0, count))
-        of_blocks = hstack([kron(eye(blocks), mined), csr_matrix((blocks * count, self.width - self.place.size))])
+        of_blocks = hstack([kron(eye(blocks), mined), self.reclaimed_in(years)])
         return Running(
             self.problem.running_costs[self.first + years],
             vstack([of_blocks, csr_matrix((later.shape[0], self.width))], format="csr"),
             vstack([kron(np.ones((blocks, 1)), -eye(count)), later], format="csr"),
         )
 
+    def reclaimed_in(self, years: NDArray[np.int64]) -> csr_matrix:
+        """The shares of each block that are reclaimed in each of some years, block by block."""
+        shape, index, lags = (
+            (len(self.blocks) * len(years), self.width - self.place.size),
+            self.index,
+            self.problem.lags,
+        )
+        if lags is None or not len(years):
+            return csr_matrix(shape)
+        use = index.year + lags[index.destination]
+        some = np.flatnonzero((lags[index.destination] > 0) & (use >= years[0]) & (use <= years[-1]))
+        row = index.block[some] * len(years) + use[some] - years[0]
+        return csr_matrix((np.ones(len(some)), (row, some)), shape=shape)
+
     def owed(self) -> csr_matrix:
         """A row for each sum that must be held at least, if the other blocks leave something due: what shares add, as parts of
         that."""
         rows = [csr_matrix((0, self.width))]
         for limit in self.part.limits:
-            for year in np.flatnonzero(limit.floor > 0):
-                shares = limit.amounts[:, None, :] * (np.arange(self.years) == year)[None, :, None] / limit.floor[year]
-                rows.append(hstack([csr_matrix((1, self.place.size)), csr_matrix(shares.reshape(1, -1))], format="csr"))
+            some = limit.floor > 0
+            rows.append(self.of_shares(limit, some, limit.floor[some]))
         rows += [self.of_total(total, total.least) for total in self.part.totals if total.least > 0]
         return vstack(rows, format="csr")
+
+    def of_shares(self, limit: BlockLimit, years: NDArray[np.bool_], units: NDArray[np.float64]) -> csr_matrix:
+        """The rows of what shares add to a limit in some years, in a unit of each."""
+        used = limit.uses(self.index, len(years))[years]
+        used.data /= np.repeat(units, np.diff(used.indptr))
+        return hstack([csr_matrix((used.shape[0], self.place.size)), used], format="csr")
 
     def of_total(self, total: TotalLimit, unit: float) -> csr_matrix:
         """The row of what shares add to a total in all years, in a unit."""
@@ -180,11 +226,10 @@ class Window:
         """The free blocks and the window's years alone, with what the others leave as limits."""
         others = self.schedule.share.copy()
         others[self.blocks] = 0.0
-        taken, years = Assignment(self.schedule.year, others).sums(self.problem)[:, self.first : self.last], slice(
-            self.first, self.last
-        )
+        years, used = slice(self.first, self.last), slice(self.first, self.until)
+        taken = Assignment(self.schedule.year, others).sums(self.problem)[:, used]
         limits = [
-            self.left(limit, limit.most[years] - sums, limit.floor[years] - sums)
+            self.left(limit, limit.most[used] - sums, limit.floor[used] - sums)
             for limit, sums in zip(self.problem.limits, taken)
         ]
         totals = tuple(self.left_of_total(total, total.used(others)) for total in self.problem.totals)
@@ -201,17 +246,15 @@ class Window:
         """A limit of the free blocks, with what the others leave of its most and its least. Of a signed one these may be below 0."""
         amounts = limit.amounts[self.blocks]
         if limit.signed:
-            return BlockLimit(limit.name, amounts, most, signed=True)
-        return BlockLimit(limit.name, amounts, np.maximum(most, 0.0), np.maximum(least, 0.0))
+            return replace(limit, amounts=amounts, most=most)
+        return replace(limit, amounts=amounts, most=np.maximum(most, 0.0), least=np.maximum(least, 0.0))
 
     def limits(self) -> tuple[csr_matrix, NDArray[np.float64]]:
         """A row for each limit and year that has one, and for each total, as shares of the greatest amount of a block."""
-        truths, rows, left = csr_matrix((self.years, self.place.size)), [csr_matrix((0, self.width))], [np.zeros(0)]
+        rows, left = [csr_matrix((0, self.width))], [np.zeros(0)]
         for limit in self.part.limits:
             some, unit = np.isfinite(limit.most), float(np.abs(limit.amounts).max(initial=0.0)) or 1.0
-            shares = limit.amounts[:, None, :] * np.eye(self.years)[:, None, :, None]
-            shares = shares.reshape(self.years, -1) / unit
-            rows.append(hstack([truths, csr_matrix(shares)], format="csr")[some])
+            rows.append(self.of_shares(limit, some, np.full(int(some.sum()), unit)))
             left.append(limit.most[some] / unit)
         for total in (it for it in self.part.totals if np.isfinite(it.most)):
             unit = float(total.amounts.max(initial=0.0)) or 1.0
@@ -231,12 +274,17 @@ class Window:
 
         Raises PlanError where HiGHS fails, and KeyboardInterrupt where it is interrupted.
         """
-        found = solve(self.programme(), Effort(effort.gap, effort.seconds), effort.patience, effort.nodes)
+        programme = self.programme()
+        unknowns, kept = np.zeros(len(programme.gain)), np.ones(len(programme.gain), dtype=bool)
+        if self.routes is not None:
+            programme, kept, _ = programme.reduced()
+        found = solve(programme, Effort(effort.gap, effort.seconds), effort.patience, effort.nodes)
         if found.unknowns is None:
             return self.schedule
         problem, truths = self.problem, self.place.size
-        is_mined = found.unknowns[:truths].reshape(self.place.shape) > 0.5
-        shares = found.unknowns[truths : self.width].reshape(*self.place.shape, problem.destinations)
+        unknowns[kept] = found.unknowns
+        is_mined = unknowns[:truths].reshape(self.place.shape) > 0.5
+        shares = unknowns[truths : self.width].reshape(*self.place.shape, problem.destinations)
         parts = np.clip(shares, 0.0, 1.0).sum(axis=1)
         year, share = self.schedule.year.copy(), self.schedule.share.copy()
         year[self.blocks] = np.where(is_mined.any(axis=1), self.first + is_mined.argmax(axis=1), problem.years)
@@ -276,11 +324,13 @@ def window_of(
     years: range,
     *,
     most: int = MOST_UNKNOWNS,
+    prices: Optional[NDArray[np.float64]] = None,
 ) -> Window:
     """The window of years, with the blocks mined in them and those not mined that the relaxation begins by their end; where they make more than
     this many unknowns those whose expected year is nearest to the middle.
 
     cumulative  the share of each block that the relaxation has mined by the end of each year: shape (blocks, years)
+    prices      of limits, by which with stockpiles the destinations of each block are chosen
     """
     first, last = years.start, years.stop
     is_here = (schedule.year >= first) & (schedule.year < last)
@@ -288,4 +338,8 @@ def window_of(
     blocks = np.arange(problem.blocks) if last - first == problem.years else np.flatnonzero(is_here | is_left)
     middle, expected = (first + last - 1) / 2, problem.years - cumulative.sum(axis=1)
     nearest = np.argsort(np.abs(expected[blocks] - middle), kind="stable")[: most // (last - first)]
-    return Window(problem, schedule, first, last, np.sort(blocks[nearest]))
+    window = Window(problem, schedule, first, last, np.sort(blocks[nearest]))
+    if problem.lags is None or prices is None:
+        return window
+    worths = worths_at(problem.of_some(window.blocks), prices)[:, :, first:last].transpose(0, 2, 1)
+    return replace(window, routes=chosen(problem, worths) | (schedule.share[window.blocks, None] > 0))

@@ -25,6 +25,7 @@ from pitplan.scheduling.methods import BLOCK
 from .lines import Amounts, CellAmounts, Lines, Operation, Statement, is_rounded, statement, units_of_price
 
 if TYPE_CHECKING:
+    from pitplan.scheduling.blocks.from_plan import Destinations
     from pitplan.scheduling.blocks.tables import BlockSchedule
     from pitplan.scheduling.pushback_schedule import PushbackSchedule
 
@@ -172,9 +173,13 @@ class BlockOperation(Operation):
         return self.blocks.count
 
     @property
+    def destinations(self) -> Destinations:
+        return self.blocks.planned.destinations
+
+    @property
     def share(self) -> NDArray[np.float64]:
-        """The share of each block that goes to each process, shape (blocks, processes)."""
-        return self.blocks.found.schedule.share[:, len(self.blocks.planned.destinations.waste) :]
+        """The share of each block that goes to each process and over each stockpile, shape (blocks, processes and routes)."""
+        return self.blocks.found.schedule.share[:, len(self.destinations.waste) :]
 
     def by_year(self, values: NDArray[np.float64]) -> Amounts:
         """Returns the sums of values of blocks that may be mined by the period in which they are."""
@@ -188,11 +193,37 @@ class BlockOperation(Operation):
         return self.by_year(values[self.blocks.planned.cells] * self.share.sum(axis=1))
 
     def fed(self, values: NDArray[np.float64], process: int) -> Amounts:
-        return self.by_year(values[self.blocks.planned.cells] * self.share[:, process])
+        return self.taken(values, self.destinations.fed(process))
+
+    def taken(self, values: NDArray[np.float64], destinations: NDArray[np.int64]) -> Amounts:
+        """Returns what is taken of blocks that go to some destinations, by the period in which it is."""
+        schedule, years = self.blocks.found.schedule, self.blocks.planned.problem.years
+        year = np.minimum(schedule.year[:, None] + self.destinations.lags[destinations], years)
+        weights = values[self.blocks.planned.cells, None] * schedule.share[:, destinations]
+        return np.asarray(np.bincount(year.ravel(), weights.ravel(), minlength=years + 1)[: self.years], dtype=float)
 
     def recovered(self, metal: str) -> Amounts:
-        ways = enumerate(self.plan.values.by_process)
-        return np.stack([self.fed(way.metal[metal], process) for process, way in ways])
+        found = []
+        for process, way in enumerate(self.plan.values.by_process):
+            fed = self.destinations.fed(process)
+            direct = self.taken(way.metal[metal], fed[:1])
+            for number, it in enumerate(self.destinations.stockpiles):
+                routes = np.intersect1d(fed, self.destinations.stacked(number))
+                direct = direct + it.recovery.get(metal, 1.0) * self.taken(way.metal[metal], routes)
+            found.append(direct)
+        return np.stack(found)
+
+    @property
+    def stockpile_costs(self) -> Lines:
+        piles, feed = enumerate(self.destinations.stockpiles), self.amounts.feed
+        placed = feed[self.blocks.planned.cells]
+        found = {"stacking_cost": np.zeros(self.years), "reclaim_cost": np.zeros(self.years)}
+        for number, it in piles:
+            routes = self.destinations.stacked(number)
+            share = self.blocks.found.schedule.share[:, routes].sum(axis=1)
+            found["stacking_cost"] += it.stacking_cost * self.by_year(placed * share)
+            found["reclaim_cost"] += it.reclaim_cost * self.taken(feed, routes)
+        return found if self.destinations.stockpiles else {}
 
     def placed(self, values: NDArray[np.float64], dump: int) -> Amounts:
         """Returns what a dump takes, by its number."""

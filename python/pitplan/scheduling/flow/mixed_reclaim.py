@@ -6,15 +6,24 @@ leaves. What the process cannot take of it earns nothing.
 
 from __future__ import annotations
 
+from collections.abc import Iterator, Mapping
 from dataclasses import dataclass
+from typing import Optional
 
 import numpy as np
+import pandas as pd
 from numpy.typing import NDArray
+
+from pitplan.config.economics import GRADE_UNITS
+from pitplan.config.project import Project
+from pitplan.errors import WARNING
 
 from .flows import Flows
 from .material import FEED
 
 Floats = NDArray[np.float64]
+# A note names the years in which the reclaimed grade differs by more than this share from the mean of the pile.
+APART = 0.01
 
 
 @dataclass(frozen=True)
@@ -81,3 +90,41 @@ def loss_by_mixing(flows: Flows) -> float:
     """Returns by how much the NPV falls if each stockpile gives back its mean, in the currency."""
     lost = sum((pile.lost for pile in piles_of(flows)), np.zeros(flows.years))
     return float(lost @ flows.model.discounts[: flows.years])
+
+
+def notes_of_mixing(
+    table: pd.DataFrame, starts: Mapping[str, Optional[pd.Series]], project: Project, npv: float
+) -> list[str]:
+    """Returns the years in which the reclaimed grade differs from the mean of a pile, and a warning with the NPV if piles give back their mean.
+
+    Parameters
+    ----------
+    table : DataFrame
+        The rows of a method in stockpiles.csv.
+    starts : mapping of str to Series, optional
+        By stockpile the feed and the metals that lie there at the start; None: nothing.
+    project : Project
+    npv : float
+        That of the schedule if each stockpile gives back the mean of what lies there.
+    """
+    found = list(unlike_mean(table, starts, project))
+    if found:
+        found.append(f"{WARNING}if each stockpile gives back the mean of what lies there, the NPV is {npv:,.0f}")
+    return found
+
+
+def unlike_mean(table: pd.DataFrame, starts: Mapping[str, Optional[pd.Series]], project: Project) -> Iterator[str]:
+    """Yields by stockpile and metal the years in which the reclaimed grade differs from the mean of the pile."""
+    word = project.shells.calendar.word
+    for name, rows in table.groupby("stockpile", sort=False):
+        start = starts[str(name)]
+        for metal in project.metals:
+            first = np.nan
+            if start is not None and start["feed_tonnes"] > 0:
+                first = float(start[f"contained_{metal.name}"]) / float(GRADE_UNITS[metal.unit]) / start["feed_tonnes"]
+            lay, taken = np.append(first, rows[f"grade_{metal.name}"])[:-1], rows[f"reclaimed_grade_{metal.name}"]
+            apart = np.flatnonzero(np.abs(taken - lay) > APART * np.abs(lay))
+            by_year = [f"{rows['year'].iloc[k]}: {taken.iloc[k]:.4g} of {lay[k]:.4g}" for k in apart]
+            if by_year:
+                what = f"reclaimed grade of {metal.name} of the mean of the pile, {metal.sign}"
+                yield f"stockpile {name}: {what}, by {word}: {', '.join(by_year)}"

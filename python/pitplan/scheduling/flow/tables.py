@@ -36,7 +36,7 @@ from pitplan.scheduling.limits import (
 
 from .flows import Flows
 from .material import FEED, SET, column_of
-from .opening import balance_at_start, of_opening
+from .opening import of_opening
 
 if TYPE_CHECKING:
     from pitplan.scheduling.pushback_schedule import PushbackSchedule
@@ -279,30 +279,44 @@ def feed_table(
     return sums.assign(realised_cutoff=realised(flows, list(by_process)).reindex(sums.index)).reset_index()
 
 
-def stockpile_table(schedule: PushbackSchedule) -> pd.DataFrame:
+def stockpile_table(
+    flows: pd.DataFrame, last: Mapping[str, int], starts: Mapping[str, Optional[pd.Series]], metals: Sequence[Metal]
+) -> pd.DataFrame:
     """Returns one row per method, stockpile and year.
 
     Columns: method, stockpile, year; opening_tonnes, in_tonnes, out_tonnes and closing_tonnes of feed; and of what lies there at the end of the
     year grade_METAL, in the unit of the metal's column, empty if nothing does; and reclaimed_grade_METAL of what is reclaimed in the year.
+
+    Parameters
+    ----------
+    flows : DataFrame
+        With method, year, source, destination, feed_tonnes and contained_METAL.
+    last : mapping of str to int
+        The last year of each method.
+    starts : mapping of str to Series, optional
+        By stockpile feed_tonnes and contained_METAL of what lies there at the start; None: nothing.
+    metals : sequence of Metal
     """
-    flows = schedule.material_flows
     found = [
-        balance_of(schedule, method, it.name, flows[flows["method"] == method])
-        for method in schedule.flows
-        for it in schedule.model.stockpiles
+        balance_of(flows[flows["method"] == method], name, years, start=start, metals=metals).assign(method=method)
+        for method, years in last.items()
+        for name, start in starts.items()
     ]
-    return pd.concat(found, ignore_index=True)
+    table = pd.concat(found, ignore_index=True)
+    return table[["method", *(it for it in table if it != "method")]]
 
 
-def balance_of(schedule: PushbackSchedule, method: str, name: str, flows: pd.DataFrame) -> pd.DataFrame:
-    years = pd.RangeIndex(1, schedule.flows[method].years + 1, name="year")
-    metals = schedule.pushbacks.plan.project.metals
+def balance_of(
+    flows: pd.DataFrame, name: str, count: int, *, start: Optional[pd.Series], metals: Sequence[Metal]
+) -> pd.DataFrame:
+    """Returns the rows of a stockpile by the flows of a method in its years."""
+    years = pd.RangeIndex(1, count + 1, name="year")
     amounts = ["feed_tonnes", *(f"contained_{metal.name}" for metal in metals)]
+    start = pd.Series(0.0, index=amounts) if start is None else start
     placed, out = (
         flows[flows[side] == name].groupby("year")[amounts].sum().reindex(years, fill_value=0.0)
         for side in ("destination", "source")
     )
-    start = balance_at_start(schedule, name)
     lies = (placed - out).cumsum() + start
     # What the sums of floats leave is nothing.
     lies = lies.where(lies["feed_tonnes"] > SUM_ERROR * (placed["feed_tonnes"].sum() + start["feed_tonnes"]), 0.0)
@@ -321,8 +335,7 @@ def balance_of(schedule: PushbackSchedule, method: str, name: str, flows: pd.Dat
         columns[f"reclaimed_grade_{metal.name}"] = ratio(content, out["feed_tonnes"].to_numpy())
     table = pd.DataFrame(columns, index=years)
     table.insert(0, "stockpile", name)
-    table.insert(0, "method", method)
-    return table.reset_index()[["method", "stockpile", "year", *columns]]
+    return table.reset_index()[["stockpile", "year", *columns]]
 
 
 def dump_table(flows: pd.DataFrame, last: Mapping[str, int], dumps: Sequence[Dump]) -> pd.DataFrame:

@@ -215,6 +215,7 @@ def demand_of_scenarios(project: Project) -> None:
     rules, calendar = project.schedule or ScheduleRules(), project.shells.calendar
     asked = {
         "[schedule] milp: its time limit would make results depend on the machine": rules.milp is not None,
+        "[schedule] stockpile: ore goes to a process in the period in which it is mined": bool(rules.stockpiles),
         "[schedule] minimum: a common schedule cannot meet it in each scenario": bool(rules.minimum),
         "[[schedule.limits]] min: a common schedule cannot meet it in each scenario": any(
             it.min for it in rules.limits
