@@ -10,7 +10,6 @@ ghost use Rattle.csr.specs.View.{pairs_in, AreRows};
 
 use crate::builder::CsrBuilder;
 use crate::rows::Csr;
-use crate::sharing::{SLOTS, share_rows};
 use crate::view::CsrView;
 use std::alloc::{AllocError, Global};
 use std::marker::Model;
@@ -136,29 +135,6 @@ impl SharedRows {
             }
         }
         shared.finish(n)
-    }
-
-    /// Returns rows with the same arcs. The differences take the memory of the targets, and what they leave is released.
-    ///
-    /// # Errors
-    ///
-    /// If memory runs out.
-    pub fn from_rows(alloc: Global, rows: Csr) -> Result<SharedRows, AllocError>
-        requires { rows.blocks < 2 ^ 32 }
-        ensures blocks { IfOk result (λ r. r.blocks ≡ rows.blocks) }
-        ensures pairs { IfOk result (λ r. r.pairs ≡ rows.pairs) }
-    {
-        let (offsets, mut differences) = rows.into_parts();
-        let mut patterns = vec![in alloc; 0; offsets.len() - 1]?;
-        let mut recent = vec![in alloc; 0; SLOTS]?;
-        let used = share_rows(&offsets, &mut differences, &mut patterns, &mut recent);
-        differences.truncate(used);
-        differences.shrink_to_fit();
-        Ok(SharedRows {
-            offsets,
-            patterns,
-            differences,
-        })
     }
 
     /// Returns rows with the same arcs that keep all targets.
