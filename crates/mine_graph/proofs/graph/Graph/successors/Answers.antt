@@ -1,5 +1,5 @@
 -- The rows spell the transposed pairs, which are the same pairs transposed.
-use Rattle.std.proofs.Common.{◌≡◌, subst, sym}
+use Rattle.std.proofs.Common.{subst, sym}
 use Rattle.std.proofs.lemmas.Result.{IfOk-weaker}
 use Rattle.pit_model.specs.Fixed.{transposed}
 use Rattle.pit_model.specs.Graph.{Graph, AreSamePairs}
