@@ -7,7 +7,6 @@ pub mod Transposed
 pub mod Passes
 pub mod Order
 pub mod Transposing
-pub mod Twice
 pub mod Pigeon
 pub mod Queue
 pub mod Patterns

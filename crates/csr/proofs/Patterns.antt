@@ -1,6 +1,6 @@
 -- The arcs that shared rows spell.
-use Rattle.std.proofs.Common.{◌≡◌, ℕ, ◌+◌, ◌-◌, ◌<◌, ◌≤◌, sym, ap, subst, ◌∙◌, arith, List, get_or, length, take}
-use Rattle.std.proofs.lemmas.List.{same_lists, get_or_default, get_or-take, length-take-le}
+use Rattle.std.proofs.Common.{◌≡◌, ℕ, ◌+◌, ◌-◌, ◌<◌, ◌≤◌, sym, ap, subst, ◌∙◌, arith, List, get_or, length}
+use Rattle.std.proofs.lemmas.List.{same_lists, get_or_default}
 use Rattle.std.proofs.lemmas.List.FromFn.{get_or-map-range_with_len, length-map-range_with_len}
 use Rattle.pit_model.specs.Graph.{first_of, second_of}
 use Rattle.csr.specs.Rows.{row_at, pairs_of, IsCsr}
@@ -41,20 +41,6 @@ shared_is offsets patterns differences targets rows lead =
     ∙ shared-at offsets patterns differences k (omega arith)
     ∙ lead (row_at offsets k) at.0 k at.1 at.2
     ∙ get_or_default targets k 0 d (omega arith))
-
--- the differences that were written over targets, up to the last one that is used
-module _ (offsets patterns numbers targets : List ℕ) (used : ℕ) (rows : IsCsr (length patterns) (length targets) offsets)
-    (inside : (u : ℕ) → u < length patterns → get_or patterns u 0 + (get_or offsets (u + 1) 0 - get_or offsets u 0) ≤ used) where
-  pub written_shared : used ≤ length numbers → AreShared offsets patterns (take used numbers)
-  written_shared upto = record {
-    rows = subst (λ places. IsCsr (length patterns) places offsets) (sym rows.last) rows;
-    inside = λ u l. omega (arith, inside u l, length-take-le used numbers upto);
-  }
-
-  pub written_is : ((u : ℕ) → u < length patterns → LeadTo numbers (get_or patterns u 0) u targets (get_or offsets u 0) (get_or offsets (u + 1) 0))
-      → shared_targets offsets patterns (take used numbers) ≡ targets
-  written_is lead = shared_is offsets patterns (take used numbers) targets rows
-      (λ u l k from to. ap (target_after u) (get_or-take used numbers (get_or patterns u 0 + (k - get_or offsets u 0)) 0 (omega (arith, inside u l))) ∙ lead u l k from to)
 
 module _ (offsets patterns differences : List ℕ) (are : AreShared offsets patterns differences) where
   pub shared_rows : IsCsr (length patterns) (length (shared_targets offsets patterns differences)) offsets

@@ -69,30 +69,6 @@ module _ (pairs : List (ℕ × ℕ)) (offsets : List ℕ) (n : ℕ) (rows : AreO
       omega (arith, starts_rise v w (omega arith) (omega arith)))
       (cases_eq v (suc w))
 
-  -- the first row begins at the first pair, where there is one, and behind the last row no pair stands
-  pub starts_begin : AreInRange pairs n → 0 < n → get_or offsets 0 0 ≡ 0
-  starts_begin range some = ⊎_elim
-      (λ (e : get_or offsets 0 0 ≡ 0). e)
-      (λ (ne : get_or offsets 0 0 ≡ 0 → ⊥).
-      let low = (rows.rises 0 some).0 in
-      let high = (rows.rises 0 some).1 in
-      let r = range 0 (omega arith) in
-      let there = rows.found (first_of pairs 0) 0 r.0 (omega arith) refl in
-      let from = there.0 in
-      absurd (omega (arith, starts_rise 0 (first_of pairs 0) (omega arith) (omega (arith, r.0)))))
-      (cases_eq (get_or offsets 0 0) 0)
-
-  pub starts_end : AreInRange pairs n → length pairs ≤ get_or offsets n 0
-  starts_end range = ⊎_elim
-      (λ (e : length pairs ≡ 0). omega arith)
-      (λ (ne : length pairs ≡ 0 → ⊥).
-      let k : ℕ = length pairs - 1 in
-      let r = range k (omega arith) in
-      let there = rows.found (first_of pairs k) k r.0 (omega arith) refl in
-      let to = there.1 in
-      omega (arith, starts_rise (first_of pairs k + 1) n (omega (arith, r.0)) (omega arith)))
-      (cases_eq (length pairs) 0)
-
   pub row_at-is : (u k : ℕ) → u < n → get_or offsets u 0 ≤ k → k < get_or offsets (u + 1) 0 → row_at offsets k ≡ u
   row_at-is u k below from to = let size = rows.size in row_at-between offsets (λ v w h l. starts_rise v w h (omega arith)) u k (omega arith) from to
 

@@ -38,15 +38,6 @@ impl Csr {
         Csr { offsets, targets }
     }
 
-    /// Returns the arrays of the rows: offsets and targets.
-    pub(crate) fn into_parts(self) -> (Vec<u32>, Vec<u32>)
-        ensures rows { IsCsr self.blocks (length result.1.items) result.0.items }
-        ensures pairs { pairs_of result.0.items result.1.items ≡ self.pairs }
-    {
-        let Csr { offsets, targets } = self;
-        (offsets, targets)
-    }
-
     /// Borrows the rows.
     pub fn view(&self) -> CsrView<'_>
         ensures rows { AreRows self.now.blocks result }

@@ -2,14 +2,14 @@
 //! rows with the same differences share one list of them, their pattern. A mine on a grid has few patterns: its rows differ only at
 //! the walls of the grid.
 ghost use Rattle.std.specs.Prelude.{◌≡◌, ◌↔◌, ℕ, ◌+◌, ◌^◌, ◌<◌, ◌≤◌, IsTrue, length, get_or, IfOk};
-ghost use Rattle.pit_model.specs.Graph.{first_of, second_of, AreRising};
+ghost use Rattle.pit_model.specs.Graph.{first_of, second_of, AreInRange, AreRising};
 ghost use Rattle.csr.specs.Rows.{pairs_of, IsCsr};
 ghost use Rattle.csr.specs.Shared.{shared_targets, target_after, AreShared};
+ghost use Rattle.csr.specs.Transposed.{LeadAtMost};
 ghost use Rattle.csr.specs.View.{pairs_in, AreRows};
 
 use crate::builder::CsrBuilder;
 use crate::rows::Csr;
-use crate::sharing::{SLOTS, share_rows};
 use crate::view::CsrView;
 use std::alloc::{AllocError, Global};
 use std::marker::Model;
@@ -20,6 +20,33 @@ use std::ops::Range;
 pub struct SharedRow<'a> {
     pub start: u32,
     pub differences: &'a [u32],
+}
+
+/// How far targets are ahead of their block and back at most.
+#[derive(Clone, Copy)]
+pub(crate) struct Reach {
+    pub ahead: u32,
+    pub back: u32,
+}
+
+/// Returns the largest difference ahead, and the largest back: differences of 2^31 and more lead back.
+fn reach_of(differences: &[u32]) -> Reach
+    ensures few { result.ahead < 2 ^ 31 }
+    ensures few_back { result.back ≤ 2 ^ 31 }
+    ensures fits { (k : ℕ) → k < length differences.now → get_or differences.now k 0 < 2 ^ 32 }
+    ensures ahead { (k : ℕ) → k < length differences.now → get_or differences.now k 0 < 2 ^ 31 → get_or differences.now k 0 ≤ result.ahead }
+    ensures back { (k : ℕ) → k < length differences.now → 2 ^ 31 ≤ get_or differences.now k 0 → 2 ^ 32 ≤ get_or differences.now k 0 + result.back }
+{
+    let mut reach = Reach { ahead: 0, back: 0 };
+    for k in 0..differences.len() {
+        let difference = differences[k];
+        if difference < 1 << 31 {
+            reach.ahead = reach.ahead.max(difference);
+        } else {
+            reach.back = reach.back.max(u32::MAX - difference + 1);
+        }
+    }
+    reach
 }
 
 /// The arcs of blocks 0 to `blocks` - 1, in compressed rows with shared patterns: 8 bytes for each block, and 4 for each arc of a
@@ -110,29 +137,6 @@ impl SharedRows {
         shared.finish(n)
     }
 
-    /// Returns rows with the same arcs. The differences take the memory of the targets, and what they leave is released.
-    ///
-    /// # Errors
-    ///
-    /// If memory runs out.
-    pub fn from_rows(alloc: Global, rows: Csr) -> Result<SharedRows, AllocError>
-        requires { rows.blocks < 2 ^ 32 }
-        ensures blocks { IfOk result (λ r. r.blocks ≡ rows.blocks) }
-        ensures pairs { IfOk result (λ r. r.pairs ≡ rows.pairs) }
-    {
-        let (offsets, mut differences) = rows.into_parts();
-        let mut patterns = vec![in alloc; 0; offsets.len() - 1]?;
-        let mut recent = vec![in alloc; 0; SLOTS]?;
-        let used = share_rows(&offsets, &mut differences, &mut patterns, &mut recent);
-        differences.truncate(used);
-        differences.shrink_to_fit();
-        Ok(SharedRows {
-            offsets,
-            patterns,
-            differences,
-        })
-    }
-
     /// Returns rows with the same arcs that keep all targets.
     ///
     /// # Errors
@@ -189,6 +193,17 @@ impl SharedRows {
         ensures own { (u k : ℕ) → u < self.now.blocks → k < length self.now.pairs → (first_of self.now.pairs k ≡ u) ↔ ((get_or result.now u 0 ≤ k) × (k < get_or result.now (u + 1) 0)) }
     {
         &self.offsets
+    }
+
+    /// Returns how far arcs lead at most.
+    pub(crate) fn reach(&self) -> Reach
+        requires few { self.now.blocks < 2 ^ 31 }
+        requires range { AreInRange self.now.pairs self.now.blocks }
+        ensures few { result.ahead < 2 ^ 31 }
+        ensures few_back { result.back ≤ 2 ^ 31 }
+        ensures reach { LeadAtMost self.now.pairs result.ahead result.back }
+    {
+        reach_of(&self.differences)
     }
 
     /// Returns the range of places of a block's arcs.

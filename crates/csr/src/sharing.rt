@@ -2,7 +2,6 @@
 //! Two guesses are tried for each row: the pattern of the row before, and that of the last row with the same hash. If both fail, its
 //! differences are written, and no proof needs that they are new.
 ghost use Rattle.std.specs.Prelude.{◌≡◌, ℕ, ◌+◌, ◌-◌, ◌^◌, ◌<◌, ◌≤◌, IsTrue, length, get_or};
-ghost use Rattle.csr.specs.Rows.{IsCsr};
 ghost use Rattle.csr.specs.Shared.{LeadTo};
 
 /// The number of patterns whose places are kept.
@@ -113,33 +112,4 @@ pub(crate) fn share_last(
     let place = share_row(numbers, row, begin, guess, recent);
     numbers.truncate(begin.max(place + (row.end - row.begin)));
     place
-}
-
-/// Writes the differences of all rows over their targets, and the place of each row's pattern. Returns the number of differences.
-pub(crate) fn share_rows(
-    offsets: &[u32],
-    numbers: &mut [u32],
-    patterns: &mut [u32],
-    recent: &mut [u32],
-) -> usize
-    requires rows { IsCsr (length patterns.old) (length numbers.old) offsets.now }
-    requires few { length patterns.old < 2 ^ 32 }
-    requires slots { length recent.old ≡ 1024 }
-    ensures upto { result ≤ length numbers.old }
-    ensures inside { (u : ℕ) → u < length patterns.old → get_or patterns.new u 0 + (get_or offsets.now (u + 1) 0 - get_or offsets.now u 0) ≤ result }
-    ensures leads { (u : ℕ) → u < length patterns.old → LeadTo numbers.new (get_or patterns.new u 0) u numbers.old (get_or offsets.now u 0) (get_or offsets.now (u + 1) 0) }
-{
-    let mut used = 0;
-    let mut guess = 0;
-    for u in 0..patterns.len() {
-        let row = Span {
-            block: u as u32,
-            begin: offsets[u] as usize,
-            end: offsets[u + 1] as usize,
-        };
-        guess = share_row(numbers, row, used, guess, recent);
-        patterns[u] = guess as u32;
-        used = used.max(guess + (row.end - row.begin));
-    }
-    used
 }

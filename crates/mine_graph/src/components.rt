@@ -88,8 +88,7 @@ impl Graph {
         ensures { IfOk result (λ components. AreComponents self.now components.labels.items components.count self.now.blocks) }
     {
         self.law();
-        let turned = self.successors()?;
-        let successors = SharedRows::from_rows(self.alloc(), turned)?;
+        let successors = self.successors()?;
         find_components(self.n(), self.predecessors(), &successors)
     }
 }

@@ -12,7 +12,6 @@ ghost use Rattle.mine_graph.specs.FixedBlocks.{IsFixedOf, RefusesFixed, forced_c
 use crate::breadth_first::closure_of;
 use crate::graph::Graph;
 use crate::part::Part;
-use csr::SharedRows;
 use faults::Fault;
 use std::alloc::{AllocError, Global};
 use std::marker::Model;
@@ -82,8 +81,7 @@ fn barred_marks(alloc: Global, graph: &Graph, barred: &[u32]) -> Result<Vec<bool
         let none = vec![in alloc; false; graph.n() as usize]?;
         return Ok(none);
     }
-    let turned = graph.successors()?;
-    let successors = SharedRows::from_rows(alloc, turned)?;
+    let successors = graph.successors()?;
     let marks = closure_of(alloc, graph.n(), &successors, barred)?;
     Ok(marks)
 }

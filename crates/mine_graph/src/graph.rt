@@ -12,7 +12,7 @@ ghost use Rattle.csr.specs.Transposed.{transposed_pairs};
 
 use crate::no_cycle::check_acyclic;
 use crate::row_samples::{STEP, next_row_sample, row_between, sample_rows};
-use csr::{Csr, SharedRows, sort_rows, transposed_rows};
+use csr::{SharedRows, sort_rows, transposed_rows};
 use faults::Fault;
 use std::alloc::{AllocError, Global};
 use std::marker::Model;
@@ -126,15 +126,13 @@ impl Graph {
     /// # Errors
     ///
     /// If memory runs out.
-    pub(crate) fn successors(&self) -> Result<Csr, AllocError>
+    pub(crate) fn successors(&self) -> Result<SharedRows, AllocError>
         ensures blocks { IfOk result (λ r. r.blocks ≡ self.now.blocks) }
         ensures pairs { IfOk result (λ r. r.pairs ≡ transposed_pairs self.now.pairs self.now.blocks) }
         ensures same { IfOk result (λ r. AreSamePairs (transposed self.now.pairs) r.pairs) }
     {
         self.law();
-        let rows = self.predecessors.to_rows()?;
-        let turned = transposed_rows(self.alloc(), self.blocks, rows.view())?;
-        Ok(turned)
+        transposed_rows(self.alloc(), self.blocks, &self.predecessors)
     }
 
     /// Where the graph takes its memory from.
@@ -202,8 +200,7 @@ impl Graph {
         ensures no_memory { IfErr result (λ e. e ≡ no_memory) }
     {
         self.law();
-        let turned = self.successors()?;
-        let predecessors = SharedRows::from_rows(self.alloc(), turned)?;
+        let predecessors = self.successors()?;
         Ok(Graph::of_acyclic_rows(self.alloc(), self.blocks, predecessors)?)
     }
 

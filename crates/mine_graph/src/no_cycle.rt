@@ -55,16 +55,15 @@ fn refuse_cycle(alloc: Global, n: u32, rows: &SharedRows) -> Result<(), Fault>
     ensures acyclic { IfOk result (λ _. IsAcyclic rows.now.pairs) }
     ensures refused { IfErr result (IsGraphFault rows.now.pairs n) }
 {
-    let plain = rows.to_rows()?;
-    let transposed = SharedRows::from_rows(alloc, transposed_rows(alloc, n, plain.view())?)?;
+    let transposed = transposed_rows(alloc, n, rows)?;
     let left = in_degrees_left(alloc, n, &transposed)?;
     match first_left(&left) {
         None => Ok(()),
-        Some(first) => Err(Fault::at_line(
-            Source::Precedence,
-            Refusal::Cycle(cycle_of(alloc, plain.view(), &left, first)?),
-            0,
-        )),
+        Some(first) => {
+            let plain = rows.to_rows()?;
+            let cycle = cycle_of(alloc, plain.view(), &left, first)?;
+            Err(Fault::at_line(Source::Precedence, Refusal::Cycle(cycle), 0))
+        }
     }
 }
 
