@@ -19,17 +19,12 @@ use Rattle.minelib_reader.proofs.BlocksGrammarLemmas as tables
 use Rattle.pit_model.specs.Graph.{Graph, AreRising, AreSamePairs}
 use Rattle.pit_model.specs.Mine.{Instance, instance_of, members, worth}
 use Rattle.pit_model.specs.declared.direction.Direction.{Direction}
-use Rattle.pit_model.specs.declared.direction.Direction.TheVariants.{Least, Greatest}
-use Rattle.pit_model.specs.Direction.{IsPitToward}
-use Rattle.pit_model.specs.Fixed.{Fixed, FixedLists, IsFixedCertificate}
-use Rattle.pit_model.specs.Uniqueness.{AreOneSet}
-use Rattle.pit_model.proofs.Fixed.{fixed_pit_is_one}
-use Rattle.pit_model.proofs.Dual.{greatest_is_one}
+use Rattle.pit_model.specs.Fixed.{FixedLists, IsFixedCertificate}
 use Rattle.pit_model.specs.PitText.{pit_text}
 use Rattle.pit_model.specs.Deposit.{Deposit}
 use Rattle.pit_model.proofs.SamePairs.{turned}
 use Rattle.pit_model.proofs.OneShells.{shells_are_one}
-use Rattle.pit_model.proofs.Uniqueness.{same_truth}
+use Rattle.pit_model.proofs.Uniqueness.{pit_is_one, same_truth}
 use Rattle.pit_model.proofs.OneOrder.{pairs_have_one_order}
 use Rattle.certificate.specs.CertificateGrammar.{SpellsCertificate}
 use Rattle.certificate.specs.CertificateLines.{PitAndFlow}
@@ -115,14 +110,10 @@ mine_in_order files other same m n x y =
 
 -- ---- `solve`
 
-one_set : (direction : Direction) (mine : Instance) (fixed : Fixed) (pit other : ℕ → Bool) → IsPitToward direction mine fixed pit → IsPitToward direction mine fixed other → AreOneSet mine pit other
-one_set Least mine fixed pit other = fixed_pit_is_one mine fixed pit other
-one_set Greatest mine fixed pit other = greatest_is_one mine fixed pit other
-
 pub one_text : (direction : Direction) (fixed_mine : FixedInstance) (s t : List ℕ) → IsPitText direction fixed_mine s → IsPitText direction fixed_mine t → s ≡ t
 one_text direction fixed_mine s t a b =
     let mine = fixed_mine.mine in
-    let same = one_set direction mine (fixed_in fixed_mine) a.pit b.pit a.is_pit b.is_pit in
+    let same = pit_is_one direction mine (fixed_in fixed_mine) a.pit b.pit a.is_pit b.is_pit in
     a.is_text ∙ ap (λ xs. pit_text mine.blocks xs (worth mine a.pit)) same.listed ∙ ap (pit_text mine.blocks (members mine.blocks b.pit)) same.worths ∙ sym b.is_text
 
 one_task : (files other : Files) → ReadAlike files other → (u v : Upit) (ps qs : List (ℕ × ℕ)) (l k : FixedLists) → GaveMine files.model files.prec u ps → GaveMine other.model other.prec v qs

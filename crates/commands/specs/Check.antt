@@ -8,7 +8,7 @@ use Rattle.faults.specs.declared.refusal.Refusal.TheVariants.{NoMemory, ReadFail
 use Rattle.faults.specs.declared.source.Source.TheVariants as sources
 use Rattle.pit_model.specs.declared.direction.Direction.TheVariants.{Least}
 use Rattle.pit_model.specs.Fixed.{IsFixedCertificate}
-use Rattle.pit_model.specs.Direction.{ListsPit}
+use Rattle.pit_model.specs.Pit.{ListsPit}
 use Rattle.certificate.specs.CertificateLines.{PitAndFlow}
 use Rattle.certificate.specs.CertificateFault.{IsFirstCertificateFault}
 use Rattle.certificate.specs.CertificateGrammar.{SpellsCertificate}

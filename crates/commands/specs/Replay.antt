@@ -18,7 +18,7 @@ use Rattle.merging.specs.declared.replayed.Replayed.{Replayed}
 use Rattle.merging.specs.declared.replayed.Replayed.TheVariants as ends
 use Rattle.pit_model.specs.declared.direction.Direction.TheVariants.{Least}
 use Rattle.pit_model.specs.Fixed.{IsRestOf}
-use Rattle.pit_model.specs.Direction.{ListsPit}
+use Rattle.pit_model.specs.Pit.{ListsPit}
 use Rattle.commands.specs.Solve.{Files, FixedInstance, GaveInOrder, Reading, Gave, NeverFailed, FailedOnce, RefusesMine, IsPitText, Solves, fixed_in}
 use Rattle.commands.specs.Journaled.{GaveRest}
 use Rattle.commands.specs.declared.status.Status.{Status}

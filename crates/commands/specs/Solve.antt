@@ -22,8 +22,8 @@ use Rattle.pit_model.specs.declared.direction.Direction.{Direction}
 use Rattle.pit_model.specs.Graph.{AreSamePairs, IsAcyclic, IsGraph}
 use Rattle.pit_model.specs.Mine.{Instance, instance_of, members, worth}
 use Rattle.pit_model.specs.Limits.{IsInstance}
-use Rattle.pit_model.specs.Fixed.{Fixed, FixedLists, IsClash, fixed_of}
-use Rattle.pit_model.specs.Direction.{IsPitToward}
+use Rattle.pit_model.specs.Pit.{Fixed, IsPit}
+use Rattle.pit_model.specs.Fixed.{FixedLists, IsClash, fixed_of}
 use Rattle.pit_model.specs.PitText.{pit_text}
 use Rattle.commands.specs.declared.mine.MineFiles.{MineFiles}
 use Rattle.commands.specs.declared.mine.FixedMine.{FixedMine}
@@ -164,7 +164,7 @@ pub record GaveInOrder (files : Files) (fixed_mine : FixedInstance) : Type 0 whe
 -- forced in and none that is barred
 pub record IsPitText (direction : Direction) (fixed_mine : FixedInstance) (text : List ℕ) : Type 0 where
   pub pit : ℕ → Bool
-  pub is_pit : IsPitToward direction fixed_mine.mine (fixed_in fixed_mine) pit
+  pub is_pit : IsPit direction fixed_mine.mine (fixed_in fixed_mine) pit
   pub is_text : text ≡ pit_text fixed_mine.mine.blocks (members fixed_mine.mine.blocks pit) (worth fixed_mine.mine pit)
 
 -- the text of a mine's pit was written, or a beginning of it
