@@ -53,8 +53,7 @@ checked files certificate fixed_mine answer status before after holds is a repor
   answer = answer;
   checks = checks files certificate fixed_mine answer holds is a;
   reported = reported;
-  written = w.0;
-  no_failure = w.1;
+  wrote = w;
 }
 
 pub answer_cut :
@@ -65,10 +64,7 @@ answer_cut files certificate fixed_mine answer before after e holds is a failed 
     let cut : IsAnswerCut files certificate before after = record {
       answer = answer;
       checks = checks files certificate fixed_mine answer holds is a;
-      front = w.0.0;
-      begins = w.0.1;
-      written = w.0.2;
-      failure = w.1;
+      wrote = w;
     } in
     subst (λ f. RefusesCheck f.refusal f files certificate before after) (sym failed) (refl, cut)
 

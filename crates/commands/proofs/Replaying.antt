@@ -131,8 +131,7 @@ reported : (files : Files) (journal : Reading) (fixed_mine : FixedInstance) (end
 reported files journal fixed_mine end status before after holds is r t = record {
   text = t.0;
   replays = replays files journal fixed_mine end t.0 status holds is r t.1;
-  written = t.2.0;
-  no_failure = t.2.1;
+  wrote = t.2;
 }
 
 not_reported : (files : Files) (journal : Reading) (fixed_mine : FixedInstance) (end : Replayed) (before after : Progress) (e : Fault) → HoldsMine files fixed_mine → IsInstance fixed_mine.mine
@@ -142,10 +141,7 @@ not_reported files journal fixed_mine end before after e holds is r (cut text st
       text = text;
       status = status;
       replays = replays files journal fixed_mine end text status holds is r t;
-      front = w.0.0;
-      begins = w.0.1;
-      written = w.0.2;
-      failure = w.1;
+      wrote = w;
     } in
     subst (λ f. RefusesReplay f.refusal f files journal before after) (sym failed) (refl, was)
 not_reported files journal fixed_mine end before after e holds is r (spent count ended used same) =

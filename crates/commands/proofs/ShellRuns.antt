@@ -111,8 +111,7 @@ module _ (direction : Direction) (blocks prec : Reading) (revenue cost : ℕ) (p
     done = refl;
     text = shells_text m shells;
     gives = gives factors shells m count are;
-    written = w.0;
-    no_failure = w.1;
+    wrote = w;
   }
 
   pub shells_within : (mode : Mode) (factors : List ℕ) → EachEndsWithin mode direction (deposit_of prices graph) factors → HoldsOfDeposit blocks prec revenue cost (λ deposit. EachEndsWithin mode direction deposit factors)
@@ -130,10 +129,7 @@ module _ (direction : Direction) (blocks prec : Reading) (revenue cost : ℕ) (p
       let cut : IsShellsCut direction blocks prec revenue cost factors before after = record {
         text = shells_text m shells;
         gives = gives factors shells m count are;
-        front = w.0.0;
-        begins = w.0.1;
-        written = w.0.2;
-        failure = w.1;
+        wrote = w;
       } in
       subst (λ f. RefusesShellsRun mode direction f.refusal f blocks prec revenue cost factors before after) (sym failed) (refl, shells_within mode factors within, cut)
 

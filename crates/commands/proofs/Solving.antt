@@ -67,8 +67,7 @@ done direction files fixed_mine before after holds text t w = record {
   done = refl;
   text = text;
   solves = solves direction files fixed_mine text holds t;
-  written = w.0;
-  no_failure = w.1;
+  wrote = w;
 }
 
 pub cut_short :
@@ -78,8 +77,5 @@ pub cut_short :
 cut_short direction files fixed_mine before after e holds text t w = record {
   text = text;
   solves = solves direction files fixed_mine text holds t;
-  front = w.0.0;
-  begins = w.0.1;
-  written = w.0.2;
-  failure = w.1;
+  wrote = w;
 }
