@@ -31,13 +31,14 @@ dist: library build site
 	tools/dist.py
 
 # Renews what repeats a command line, the columns of tables or measurements: man pages, completions, FORMATS, stored words of
-# tests, tables of README and SPEED. Then builds the site. What repeats the help of a program that is not built stays as it is.
+# tests, tables of README, SPEED and PROOFS. Then builds the site. What repeats the help of a program that is not built stays as it is.
 docs:
 	tools/make_docs.py
 	tools/make_manual.py
 	tools/columns_page.py
 	tools/keys_page.py
 	tools/bench_tables.py
+	tools/definitions.py
 	tools/pitplan completion bash > completions/pitplan.bash
 	tools/pitplan completion zsh > completions/_pitplan
 	tools/pitplan completion fish > completions/pitplan.fish

@@ -8,12 +8,12 @@ use Rattle.std.proofs.lemmas.List.Kept.{AllPairs-from_increasing}
 use Rattle.pit_model.specs.declared.direction.Direction.TheVariants.{Least}
 use Rattle.pit_model.specs.declared.shell.Shell.{Shell}
 use Rattle.pit_model.specs.Deposit.{Deposit, IsPriced, mine_at}
-use Rattle.pit_model.specs.Direction.{IsPitToward, no_blocks_fixed}
+use Rattle.pit_model.specs.Pit.{IsPit, no_blocks_fixed}
 use Rattle.pit_model.specs.Graph.{AreSamePairs, Graph}
 use Rattle.pit_model.specs.Mine.{members, worth}
 use Rattle.pit_model.specs.Shells.{AreFactors, AreShells, IsShell, factor_of}
 use Rattle.pit_model.proofs.Members.{members_each, members_place}
-use Rattle.pit_model.proofs.SamePairs.{fixed_pit_knows_no_order, turned}
+use Rattle.pit_model.proofs.SamePairs.{pit_knows_no_order, turned}
 use Rattle.pit_model.proofs.Shells.{shells_nest}
 use Rattle.nesting.specs.Prices.{Prices, deposit_of}
 use Rattle.arrays.specs.Firsts.{AreFirsts, Holds}
@@ -85,7 +85,7 @@ module _ (deposit : Deposit) (factors firsts : List ℕ) (shells : List Shell) (
       let at = factor_at k d l in
       record {
         set = is.set;
-        is_pit = subst (λ f. IsPitToward Least (mine_at deposit f) no_blocks_fixed is.set) at is.is_pit;
+        is_pit = subst (λ f. IsPit Least (mine_at deposit f) no_blocks_fixed is.set) at is.is_pit;
         held = λ u below. (λ inside. up_to k u d l below inside, λ le. from_first k u d l below le);
         worth_is = is.worth_is ∙ ap (λ f. worth (mine_at deposit f) is.set) at;
       }
@@ -115,7 +115,7 @@ in_rows : (deposit : Deposit) (pairs : List (ℕ × ℕ)) (factor k : ℕ) (firs
     → IsMarkedShell (in_order deposit pairs) factor k firsts amount
 in_rows deposit pairs factor k firsts amount same is = record {
   set = is.set;
-  is_pit = fixed_pit_knows_no_order Least deposit.blocks (mine_at deposit factor).values deposit.pairs pairs no_blocks_fixed is.set (turned pairs deposit.pairs same) is.is_pit;
+  is_pit = pit_knows_no_order Least deposit.blocks (mine_at deposit factor).values deposit.pairs pairs no_blocks_fixed is.set (turned pairs deposit.pairs same) is.is_pit;
   held = is.held;
   worth_is = is.worth_is;
 }

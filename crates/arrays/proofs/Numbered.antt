@@ -8,7 +8,8 @@ use Rattle.faults.specs.declared.refusal.Refusal.{Refusal}
 use Rattle.faults.specs.declared.refusal.Refusal.TheVariants.{NoMemory, FixedClash}
 use Rattle.pit_model.specs.Graph.{Graph}
 use Rattle.pit_model.specs.Mine.{members}
-use Rattle.pit_model.specs.Fixed.{AreFixable, Fixed, FixedLists, IsClash, fixed_of, is_among}
+use Rattle.pit_model.specs.Pit.{Fixed}
+use Rattle.pit_model.specs.Fixed.{AreFixable, FixedLists, IsClash, fixed_of, is_among}
 use Rattle.pit_model.proofs.Members.{members_below, members_each, members_place, members_rise}
 use Rattle.mine_graph.specs.FixedBlocks.{RefusesFixed, lists_of}
 use Rattle.mine_graph.proofs.Among.{among_at, among_here}

@@ -5,7 +5,9 @@ use Rattle.faults.specs.declared.refusal.Refusal.{Refusal}
 use Rattle.faults.specs.declared.refusal.Refusal.TheVariants.{OverLimit, IdOutOfPlace, CountsDiffer, WrongHeader, NegativeColumn}
 use Rattle.pit_model.specs.Certificate.{Certifies}
 use Rattle.pit_model.specs.Limits.{Between}
-use Rattle.pit_model.specs.Mine.{Instance, IsPit, worth}
+use Rattle.pit_model.specs.declared.direction.Direction.TheVariants.{Least}
+use Rattle.pit_model.specs.Pit.{IsPit, no_blocks_fixed}
+use Rattle.pit_model.specs.Mine.{Instance, worth}
 use Rattle.optimality.specs.Check.{most_amount}
 use Rattle.csr.specs.Rows.{RowsRise}
 use Rattle.arrays.specs.Halves.{AreHalves, RefusesHalves}
@@ -25,7 +27,7 @@ pub record CertifyMarks (values : List ℤ) (starts needs marks : List ℕ) (amo
 -- they do, and this is what the pit is worth
 pub record MarkCertified (values : List ℤ) (starts needs marks : List ℕ) (amounts : List ℤ) (amount : ℤ) : Type 0 where
   pub certified : CertifyMarks values starts needs marks amounts
-  pub is_pit : IsPit certified.mine certified.set
+  pub is_pit : IsPit Least certified.mine no_blocks_fixed certified.set
   pub worth_is : amount ≡ worth certified.mine certified.set
 
 -- why no flow by place is made or looked at: there is not a mark for each block; the rows are refused, or do not rise

@@ -4,7 +4,8 @@ use Rattle.faults.specs.declared.refusal.Refusal.{Refusal}
 use Rattle.faults.specs.declared.refusal.Refusal.TheVariants.{NoMemory, FixedClash}
 use Rattle.pit_model.specs.declared.direction.Direction.{Direction}
 use Rattle.pit_model.specs.declared.direction.Direction.TheVariants.{Least, Greatest}
-use Rattle.pit_model.specs.Fixed.{Fixed, IsClash}
+use Rattle.pit_model.specs.Pit.{Fixed}
+use Rattle.pit_model.specs.Fixed.{IsClash}
 
 -- 1 for a block forced in, 2 for one that is barred; nothing is fixed where there are no numbers
 abbrev pub fixed_by : List ℕ → Fixed

@@ -2,7 +2,7 @@
 use Rattle.std.specs.Prelude.{◌≡◌, ◌↔◌, ℕ, ◌<◌, ◌≤◌, ℤ, pos, Bool, List, length, get_or, IsTrue}
 use Rattle.pit_model.specs.declared.direction.Direction.TheVariants.{Least}
 use Rattle.pit_model.specs.Deposit.{Deposit, mine_at}
-use Rattle.pit_model.specs.Direction.{IsPitToward, no_blocks_fixed}
+use Rattle.pit_model.specs.Pit.{IsPit, no_blocks_fixed}
 use Rattle.pit_model.specs.Mine.{worth}
 use Rattle.pit_model.specs.Shells.{AreFactors, factor_of}
 use Rattle.arrays.specs.Encoded.{PricedRows, EncodesDeposit}
@@ -10,7 +10,7 @@ use Rattle.arrays.specs.Encoded.{PricedRows, EncodesDeposit}
 -- the blocks with a number up to k are the least pit at a factor, and the amount is its worth there
 pub record IsMarkedShell (deposit : Deposit) (factor k : ℕ) (firsts : List ℕ) (amount : ℤ) : Type 0 where
   pub set : ℕ → Bool
-  pub is_pit : IsPitToward Least (mine_at deposit factor) no_blocks_fixed set
+  pub is_pit : IsPit Least (mine_at deposit factor) no_blocks_fixed set
   pub held : (u : ℕ) → u < deposit.blocks → IsTrue (set u) ↔ (get_or firsts u 0 ≤ k)
   pub worth_is : amount ≡ worth (mine_at deposit factor) set
 

@@ -1,7 +1,7 @@
 -- What arrays hold when a solve has written into them.
 use Rattle.std.specs.Prelude.{◌≡◌, ℕ, ◌<◌, ℤ, Bool, List, length, get_or, if◌then◌else◌}
 use Rattle.pit_model.specs.Mine.{Instance, worth}
-use Rattle.pit_model.specs.Direction.{IsPitToward}
+use Rattle.pit_model.specs.Pit.{IsPit}
 use Rattle.arrays.specs.Fixing.{fixed_by, toward}
 use Rattle.arrays.specs.Encoded.{EncodesMine}
 
@@ -17,5 +17,5 @@ pub record MarkPit (values : List ℤ) (starts needs numbers : List ℕ) (greate
   pub encoded : EncodesMine values starts needs mine
   pub set : ℕ → Bool
   pub marks_are : AreMarks mine.blocks set marks
-  pub is_pit : IsPitToward (toward greatest) mine (fixed_by numbers) set
+  pub is_pit : IsPit (toward greatest) mine (fixed_by numbers) set
   pub worth_is : amount ≡ worth mine set

@@ -27,16 +27,13 @@ answered_yes : (files : Files) (fixed_mine : FixedInstance) (text : List ℕ) �
 answered_yes files fixed_mine text holds answers = record { fixed_mine = fixed_mine; given = record { holds = holds; ordered = holds.gave.instance.graph }; yes = answers }
 
 written : (files : Files) (fixed_mine : FixedInstance) → HoldsMine files fixed_mine → (before after : Progress) → WritesCertificate {E = Fault} fixed_mine (Ok tt) before after → IsCertified files before after
-written files fixed_mine holds before after w = record { text = w.0; answered = answered_yes files fixed_mine w.0 holds w.1; written = w.2.0; no_failure = w.2.1 }
+written files fixed_mine holds before after w = record { text = w.0; answered = answered_yes files fixed_mine w.0 holds w.1; wrote = w.2 }
 
 cut : (files : Files) (fixed_mine : FixedInstance) (e : Fault) → HoldsMine files fixed_mine → (before after : Progress) → WritesCertificate {E = Fault} fixed_mine (Err e) before after → IsCertificateCut files before after
 cut files fixed_mine e holds before after w = record {
   text = w.0;
   answered = answered_yes files fixed_mine w.0 holds w.1;
-  front = w.2.0.0;
-  begins = w.2.0.1;
-  written = w.2.0.2;
-  failure = w.2.1;
+  wrote = w.2;
 }
 
 pub of_states : (P Q : Progress → Progress → Type 0) → ((before after : Progress) → P before after → Q before after) → (before after : Option Progress) → OfStates before after P → OfStates before after Q

@@ -13,10 +13,10 @@ use Rattle.pit_model.specs.Graph.{AreSamePairs}
 use Rattle.pit_model.specs.Mine.{instance_of}
 use Rattle.pit_model.specs.Limits.{IsInstance}
 use Rattle.pit_model.specs.declared.direction.Direction.TheVariants.{Least}
-use Rattle.pit_model.specs.Direction.{ListsPit}
-use Rattle.pit_model.specs.Fixed.{Fixed, IsFixedCertificate}
+use Rattle.pit_model.specs.Pit.{Fixed, ListsPit}
+use Rattle.pit_model.specs.Fixed.{IsFixedCertificate}
 use Rattle.pit_model.proofs.Simple.{instance_is_simple}
-use Rattle.pit_model.proofs.SamePairs.{turned, fixed_pit_knows_no_order}
+use Rattle.pit_model.proofs.SamePairs.{turned, pit_knows_no_order}
 use Rattle.certificate.specs.CertificateGrammar.{SpellsCertificate}
 use Rattle.certificate.specs.CertificateLines.{PitAndFlow}
 use Rattle.certificate.specs.CertificateFault.{IsFirstCertificateFault}
@@ -34,7 +34,7 @@ shown_moves :
 shown_moves fixed blocks n values vs ps qs pit same_n same_v same s =
     subst (λ b. ListsPit Least (instance_of b vs qs) fixed pit) same_n
     (subst (λ v. ListsPit Least (instance_of blocks v qs) fixed pit) same_v
-    (record { set = s.set; listed = s.listed; is_pit = fixed_pit_knows_no_order Least blocks values ps qs fixed s.set same s.is_pit }))
+    (record { set = s.set; listed = s.listed; is_pit = pit_knows_no_order Least blocks values ps qs fixed s.set same s.is_pit }))
 
 checks : (files : Files) (certificate : Reading) (fixed_mine : FixedInstance) (answer : Bool) → HoldsMine files fixed_mine → IsInstance fixed_mine.mine → IsAnswered fixed_mine certificate answer → Checks files certificate answer
 checks files certificate fixed_mine answer holds is a = let gave = holds.gave in record {
@@ -53,8 +53,7 @@ checked files certificate fixed_mine answer status before after holds is a repor
   answer = answer;
   checks = checks files certificate fixed_mine answer holds is a;
   reported = reported;
-  written = w.0;
-  no_failure = w.1;
+  wrote = w;
 }
 
 pub answer_cut :
@@ -65,10 +64,7 @@ answer_cut files certificate fixed_mine answer before after e holds is a failed 
     let cut : IsAnswerCut files certificate before after = record {
       answer = answer;
       checks = checks files certificate fixed_mine answer holds is a;
-      front = w.0.0;
-      begins = w.0.1;
-      written = w.0.2;
-      failure = w.1;
+      wrote = w;
     } in
     subst (λ f. RefusesCheck f.refusal f files certificate before after) (sym failed) (refl, cut)
 

@@ -139,8 +139,7 @@ journaled_of Ends mode files fixed_mine holds before after w = record {
   given = (fixed_mine, record { holds = holds; ordered = holds.gave.instance.graph }, w.is_rest);
   text = w.text;
   says = w.says;
-  written = w.writes.0;
-  no_failure = w.writes.1;
+  wrote = w.writes;
 }
 
 cut_of : (mode : Mode) (files : Files) (fixed_mine : FixedInstance) (e : Fault) → HoldsMine files fixed_mine → (before after : Progress) → WritesJournal {E = Fault} AtAnyEnd mode fixed_mine (Err e) before after → IsJournalCut mode files before after
@@ -149,10 +148,7 @@ cut_of mode files fixed_mine e holds before after w = record {
   given = (fixed_mine, record { holds = holds; ordered = holds.gave.instance.graph }, w.is_rest);
   text = w.text;
   says = w.says;
-  front = w.writes.0.0;
-  begins = w.writes.0.1;
-  written = w.writes.0.2;
-  failure = w.writes.1;
+  wrote = w.writes;
 }
 
 pub journaled :

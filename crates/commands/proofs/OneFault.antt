@@ -30,12 +30,11 @@ use Rattle.merging.proofs.Planning.{only_memory}
 use Rattle.pit_model.specs.Graph.{IsAcyclic}
 use Rattle.pit_model.specs.Cycle.{IsCycleList}
 use Rattle.pit_model.specs.declared.direction.Direction.{Direction}
-use Rattle.pit_model.specs.declared.direction.Direction.TheVariants.{Least, Greatest}
-use Rattle.pit_model.specs.Direction.{IsPitToward}
-use Rattle.pit_model.specs.Fixed.{Fixed, FixedLists, IsAllowed, IsClash, fixed_of}
+use Rattle.pit_model.specs.Pit.{Fixed, IsPit}
+use Rattle.pit_model.specs.Fixed.{FixedLists, IsClash, fixed_of}
 use Rattle.pit_model.specs.Mine.{Instance, instance_of}
 use Rattle.pit_model.proofs.Fixed.{allowed_exists_unless_clash, closure_is_one}
-use Rattle.pit_model.proofs.SamePairs.{fixed_pit_knows_no_order}
+use Rattle.pit_model.proofs.SamePairs.{pit_knows_no_order}
 use Rattle.pit_model.proofs.OneCycle.{cycle_is_one, least_once}
 use Rattle.report.specs.FaultText.{fault_text, detail_of, place_text, cycle_block}
 use Rattle.commands.specs.Solve.{OptionalReading, no_reader, one_reader, gone, Files, FixedInstance, Gave, GaveFixed, GaveMine, IsPitText, OfChoice, FirstFault, in_model, in_prec, in_fixed, in_pairs, in_blocks, GaveInOrder, GaveFixedMine, HasNoClash, RefusesMine, fixed_in, mine_of}
@@ -80,17 +79,12 @@ no_fixed_fault (one_reader r) no_reader n m lists fault alike count given faulty
 no_fixed_fault (one_reader r) gone n m lists fault alike count given faulty = absurd alike
 no_fixed_fault gone d n m lists fault alike count given faulty = absurd alike
 
-allowed_of : (direction : Direction) (mine : Instance) (fixed : Fixed) (pit : ℕ → Bool) → IsPitToward direction mine fixed pit → IsAllowed mine fixed pit
-allowed_of Least mine fixed pit is = is.allowed
-allowed_of Greatest mine fixed pit is = is.allowed
-
 -- a clash needs a barred block that each allowed set holds
-no_clash : (direction : Direction) (mine : Instance) (fixed : Fixed) (pit : ℕ → Bool) (block : ℕ) → IsPitToward direction mine fixed pit → IsClash mine.pairs fixed block → ⊥
+no_clash : (direction : Direction) (mine : Instance) (fixed : Fixed) (pit : ℕ → Bool) (block : ℕ) → IsPit direction mine fixed pit → IsClash mine.pairs fixed block → ⊥
 no_clash direction mine fixed pit block is clash =
-    let ok = allowed_of direction mine fixed pit is in
     let dug = clash.dug in
     let both = and_parts (fixed.barred block) (dug block) clash.least.member in
-    true≢false (sym both.1 ∙ (allowed_exists_unless_clash mine fixed dug clash.dug_is).1 (pit, ok) block both.0)
+    true≢false (sym both.1 ∙ (allowed_exists_unless_clash mine fixed dug clash.dug_is).1 (pit, is.allowed) block both.0)
 
 -- where the readers gave a mine that has a pit, it has no clash, whoever reads it
 module _ (files other : Files) (same : ReadAlike files other)
@@ -101,13 +95,13 @@ module _ (files other : Files) (same : ReadAlike files other)
       let upit = one_model files.model files.prec other.model other.prec same.model same.prec u h.upit ps h.pairs one h.given in
       let pairs = one_precedence files.model files.prec other.model other.prec same.model same.prec u h.upit ps h.pairs one h.given in
       let same_lists = one_lists files.fixed other.fixed u.n h.upit.n lists fixed_mine.lists same.fixed (ap (λ (w : Upit). w.n) upit) fixed_one h.fixed_given in
-      let here = subst (λ l. IsPitToward direction (mine_of u ps l).mine (fixed_of l) solved.pit) same_lists solved.is_pit in
-      let there = subst (λ (w : Upit). IsPitToward direction (mine_of w ps fixed_mine.lists).mine (fixed_of fixed_mine.lists) solved.pit) upit here in
-      let whole = subst (λ qs. IsPitToward direction (mine_of h.upit qs fixed_mine.lists).mine (fixed_of fixed_mine.lists) solved.pit) pairs there in
-      let moved = fixed_pit_knows_no_order direction h.upit.n h.upit.values h.pairs fixed_mine.mine.pairs (fixed_of fixed_mine.lists) solved.pit h.same whole in
-      let own = subst (λ n. IsPitToward direction (instance_of n h.upit.values fixed_mine.mine.pairs) (fixed_of fixed_mine.lists) solved.pit) (sym h.blocks) moved in
+      let here = subst (λ l. IsPit direction (mine_of u ps l).mine (fixed_of l) solved.pit) same_lists solved.is_pit in
+      let there = subst (λ (w : Upit). IsPit direction (mine_of w ps fixed_mine.lists).mine (fixed_of fixed_mine.lists) solved.pit) upit here in
+      let whole = subst (λ qs. IsPit direction (mine_of h.upit qs fixed_mine.lists).mine (fixed_of fixed_mine.lists) solved.pit) pairs there in
+      let moved = pit_knows_no_order direction h.upit.n h.upit.values h.pairs fixed_mine.mine.pairs (fixed_of fixed_mine.lists) solved.pit h.same whole in
+      let own = subst (λ n. IsPit direction (instance_of n h.upit.values fixed_mine.mine.pairs) (fixed_of fixed_mine.lists) solved.pit) (sym h.blocks) moved in
       no_clash direction fixed_mine.mine (fixed_of fixed_mine.lists) solved.pit block
-      (subst (λ vs. IsPitToward direction (instance_of fixed_mine.mine.blocks vs fixed_mine.mine.pairs) (fixed_of fixed_mine.lists) solved.pit) (sym h.values) own) named
+      (subst (λ vs. IsPit direction (instance_of fixed_mine.mine.blocks vs fixed_mine.mine.pairs) (fixed_of fixed_mine.lists) solved.pit) (sym h.values) own) named
 
 -- where the readers gave a mine without a cycle and without a clash, no run over the same texts finds a fault in them
 module _ (files other : Files) (same : ReadAlike files other)

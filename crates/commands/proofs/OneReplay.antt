@@ -80,7 +80,7 @@ replays_once files other journal other_journal before after other_before other_a
     (subst (λ (m : Instance). AnswersJournal b.fixed_mine m a.said one.text status) rest
     (subst (λ (f : FixedInstance). AnswersJournal f a.rest a.said one.text status) mine a.answers)) in
     let answer = one_report b.fixed_mine b.rest b.said one.text two.text status other_status moved b.answers in
-    (record { text = two.text; taken = one.written ∙ ap (λ t. before.bytes ++ t) answer.texts; taken_too = two.written }, answer.statuses)
+    (record { text = two.text; taken = one.wrote.0 ∙ ap (λ t. before.bytes ++ t) answer.texts; taken_too = two.wrote.0 }, answer.statuses)
 
 -- ---- one fault
 

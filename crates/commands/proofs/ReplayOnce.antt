@@ -75,7 +75,7 @@ module _ (files other : Files) (journal : Reading) (same : ReadAlike files other
   pub taken_so : (Ends : JournalEnd) (mode : Mode) (before after : Progress) (rest : Instance) (said : BudgetAndEntries) → GaveTaken journal before after → IsJournaled Ends mode files before after
       → GaveRest other rest → GaveJournal rest journal said → Ends rest said.budget said.entries
   taken_so Ends mode before after rest said taken wrote two given =
-      let text : wrote.text ≡ given.text = append_cancel_left before.bytes wrote.text taken.text (sym wrote.written ∙ taken.taken) ∙ given_once journal taken.text given.text taken.given given.given in
+      let text : wrote.text ≡ given.text = append_cancel_left before.bytes wrote.text taken.text (sym wrote.wrote.0 ∙ taken.taken) ∙ given_once journal taken.text given.text taken.given given.given in
       said_so Ends mode wrote.rest rest wrote.text given.text said wrote.given two text wrote.says given.spelled
 
 settles : (fixed_mine : FixedInstance) (mine : Instance) (said : BudgetAndEntries) (text : List ℕ) (status : Status) → IsComplete mine said.budget said.entries → AnswersJournal fixed_mine mine said text status → status ≡ Done
@@ -88,5 +88,5 @@ passes_replay files other journal mode before after pit_before pit_after other_b
     let r = reported.replays in
     let s = taken_so files other journal same IsComplete mode before after r.rest r.said taken wrote (r.fixed_mine, r.given, r.is_rest) r.journal_given in
     let is_done = settles r.fixed_mine r.rest r.said reported.text other_status s r.answers in
-    let two : IsDone Least other other_before other_after other_status = record { done = is_done; text = reported.text; solves = r.solves is_done; written = reported.written; no_failure = reported.no_failure } in
+    let two : IsDone Least other other_before other_after other_status = record { done = is_done; text = reported.text; solves = r.solves is_done; wrote = reported.wrote } in
     (solves_once files other Least pit_before pit_after other_before other_after status other_status same done two, is_done ∙ sym done.done)

@@ -54,7 +54,7 @@ module _ (files other : Files) (journal : Reading) (same : ReadAlike files other
   faultless Ends mode before after fixed_mine _ fault taken wrote given h =
       let rest = h.0 in
       let text = h.2.0 in
-      let same_text : wrote.text ≡ text = append_cancel_left before.bytes wrote.text taken.text (sym wrote.written ∙ taken.taken) ∙ given_once journal taken.text text taken.given h.2.1 in
+      let same_text : wrote.text ≡ text = append_cancel_left before.bytes wrote.text taken.text (sym wrote.wrote.0 ∙ taken.taken) ∙ given_once journal taken.text text taken.given h.2.1 in
       let same_rest = rest_once files other journal same wrote.rest rest wrote.given (fixed_mine, given, h.1) in
       let spelled = spells Ends mode wrote.rest wrote.text wrote.says in
       let there = subst (λ (m : Instance). SpellsJournal (graph_of_instance m) text spelled.0) same_rest (subst (λ t. SpellsJournal (graph_of_instance wrote.rest) t spelled.0) same_text spelled.1) in

@@ -19,7 +19,7 @@ use Rattle.merging.specs.Replayed.{EndsReplay}
 use Rattle.merging.specs.Reduced.{IsRestIn, ListsJoined}
 use Rattle.merging.specs.declared.reduced_mine.ReducedMine.{ReducedMine}
 use Rattle.mine_graph.specs.FixedBlocks.{FixedBlocks, no_lists}
-use Rattle.pit_search.proofs.Searching.{is_rest_of, joined_pit, least_pit, none_is_rest, plain_pit}
+use Rattle.pit_search.proofs.Searching.{is_rest_of, joined_pit, none_is_rest, plain_pit}
 use Rattle.merging.specs.declared.replayed.Replayed.{Replayed}
 use Rattle.merging.specs.declared.replayed.Replayed.TheVariants as ends
 use Rattle.pit_model.specs.declared.direction.Direction.TheVariants.{Least}
@@ -55,7 +55,7 @@ is_replayed mine reading said text (Err e) given spelled ended = tt
 
 -- the end of a replay of the mine itself, where nothing is fixed
 plain_end : (fixed_mine : FixedInstance) (journal : BudgetAndEntries) (end : Replayed) → fixed_mine.lists ≡ no_lists → EndsReplay fixed_mine.mine journal.budget journal.entries end → EndsOnRest fixed_mine fixed_mine.mine journal end
-plain_end fixed_mine journal (ends.Pit pit) none e = (e.0, plain_pit Least fixed_mine.mine fixed_mine.lists pit.items none (least_pit fixed_mine.mine pit.items e.1))
+plain_end fixed_mine journal (ends.Pit pit) none e = (e.0, plain_pit Least fixed_mine.mine fixed_mine.lists pit.items none e.1)
 plain_end fixed_mine journal _ none e = e
 
 pub plain_replayed : (fixed_mine : FixedInstance) (reading : Reading) (answer : Result Replayed Fault) → fixed_mine.lists ≡ no_lists → IfOk answer (IsReplayedOn fixed_mine.mine reading) → IfOk answer (IsReplayed fixed_mine reading)
@@ -94,7 +94,7 @@ pit_replayed mine fixed rest reading found list some is r joined = record {
   is_rest = is_rest_of mine fixed rest some is;
   journal = r.journal;
   given = r.given;
-  ends = (r.ends.0, joined_pit Least mine fixed rest found.items list.items is (least_pit rest.mine found.items r.ends.1) joined);
+  ends = (r.ends.0, joined_pit Least mine fixed rest found.items list.items is r.ends.1 joined);
 }
 
 answers : (fixed_mine : FixedInstance) (rest : Instance) (said : BudgetAndEntries) (end : Replayed) (text : List ℕ) (status : Status) → EndsOnRest fixed_mine rest said end → TellsEnd fixed_mine end text status → AnswersJournal fixed_mine rest said text status
@@ -131,8 +131,7 @@ reported : (files : Files) (journal : Reading) (fixed_mine : FixedInstance) (end
 reported files journal fixed_mine end status before after holds is r t = record {
   text = t.0;
   replays = replays files journal fixed_mine end t.0 status holds is r t.1;
-  written = t.2.0;
-  no_failure = t.2.1;
+  wrote = t.2;
 }
 
 not_reported : (files : Files) (journal : Reading) (fixed_mine : FixedInstance) (end : Replayed) (before after : Progress) (e : Fault) → HoldsMine files fixed_mine → IsInstance fixed_mine.mine
@@ -142,10 +141,7 @@ not_reported files journal fixed_mine end before after e holds is r (cut text st
       text = text;
       status = status;
       replays = replays files journal fixed_mine end text status holds is r t;
-      front = w.0.0;
-      begins = w.0.1;
-      written = w.0.2;
-      failure = w.1;
+      wrote = w;
     } in
     subst (λ f. RefusesReplay f.refusal f files journal before after) (sym failed) (refl, was)
 not_reported files journal fixed_mine end before after e holds is r (spent count ended used same) =

@@ -12,14 +12,14 @@ use Rattle.faults.specs.declared.refusal.Refusal.{Refusal}
 use Rattle.faults.specs.declared.refusal.Refusal.TheVariants.{NoMemory, NoSeat, Exhausted, WriteFailed}
 use Rattle.pit_model.specs.declared.shell.Shell.{Shell}
 use Rattle.pit_model.specs.declared.direction.Direction.{Direction}
-use Rattle.pit_model.specs.Direction.{IsPitToward, no_blocks_fixed}
+use Rattle.pit_model.specs.Pit.{IsPit, no_blocks_fixed}
 use Rattle.pit_model.specs.Graph.{Graph, AreSamePairs}
 use Rattle.pit_model.specs.Mine.{Instance}
 use Rattle.pit_model.specs.Part.{IsPart}
 use Rattle.pit_model.specs.Deposit.{Deposit, mine_at, values_at}
 use Rattle.pit_model.specs.Shells.{AreShells, IsShellBefore, IsRest, factor_of}
 use Rattle.pit_model.specs.ShellText.{shells_text}
-use Rattle.pit_model.proofs.SamePairs.{turned, fixed_pit_knows_no_order}
+use Rattle.pit_model.proofs.SamePairs.{turned, pit_knows_no_order}
 use Rattle.solver.specs.declared.mode.Mode.{Mode}
 use Rattle.solver.specs.declared.mode.Mode.TheVariants.{Single, Parts, Shared}
 use Rattle.nesting.specs.Prices.{Prices, deposit_of}
@@ -34,8 +34,8 @@ graph_with n pairs = record { blocks = n; pairs = pairs }
 
 -- the same pairs, in another order
 module _ (direction : Direction) (prices : Prices) (n : ℕ) (ps qs : List (ℕ × ℕ)) (same : AreSamePairs ps qs) where
-  pit_moves : (factor : ℕ) (set : ℕ → Bool) → IsPitToward direction (mine_at (deposit_of prices (graph_with n ps)) factor) no_blocks_fixed set → IsPitToward direction (mine_at (deposit_of prices (graph_with n qs)) factor) no_blocks_fixed set
-  pit_moves factor set pit = fixed_pit_knows_no_order direction n (values_at (deposit_of prices (graph_with n ps)) factor (range_with_len 0 n)) ps qs no_blocks_fixed set same pit
+  pit_moves : (factor : ℕ) (set : ℕ → Bool) → IsPit direction (mine_at (deposit_of prices (graph_with n ps)) factor) no_blocks_fixed set → IsPit direction (mine_at (deposit_of prices (graph_with n qs)) factor) no_blocks_fixed set
+  pit_moves factor set pit = pit_knows_no_order direction n (values_at (deposit_of prices (graph_with n ps)) factor (range_with_len 0 n)) ps qs no_blocks_fixed set same pit
 
   pub shells_move : (factors : List ℕ) (shells : List Shell) → AreShells direction (deposit_of prices (graph_with n ps)) factors shells → AreShells direction (deposit_of prices (graph_with n qs)) factors shells
   shells_move factors shells are = record {
@@ -111,8 +111,7 @@ module _ (direction : Direction) (blocks prec : Reading) (revenue cost : ℕ) (p
     done = refl;
     text = shells_text m shells;
     gives = gives factors shells m count are;
-    written = w.0;
-    no_failure = w.1;
+    wrote = w;
   }
 
   pub shells_within : (mode : Mode) (factors : List ℕ) → EachEndsWithin mode direction (deposit_of prices graph) factors → HoldsOfDeposit blocks prec revenue cost (λ deposit. EachEndsWithin mode direction deposit factors)
@@ -130,10 +129,7 @@ module _ (direction : Direction) (blocks prec : Reading) (revenue cost : ℕ) (p
       let cut : IsShellsCut direction blocks prec revenue cost factors before after = record {
         text = shells_text m shells;
         gives = gives factors shells m count are;
-        front = w.0.0;
-        begins = w.0.1;
-        written = w.0.2;
-        failure = w.1;
+        wrote = w;
       } in
       subst (λ f. RefusesShellsRun mode direction f.refusal f blocks prec revenue cost factors before after) (sym failed) (refl, shells_within mode factors within, cut)
 

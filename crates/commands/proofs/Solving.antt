@@ -5,12 +5,12 @@ use Rattle.std.specs.Prelude.{ℤ, Ok, Err}
 use Rattle.minelib_reader.specs.Device.{Progress, Writes}
 use Rattle.faults.specs.declared.fault.Fault.{Fault}
 use Rattle.pit_model.specs.declared.direction.Direction.{Direction}
-use Rattle.pit_model.specs.Direction.{ListsPit}
+use Rattle.pit_model.specs.Pit.{ListsPit}
 use Rattle.pit_model.specs.Fixed.{FixedLists, fixed_of}
 use Rattle.pit_model.specs.Graph.{AreSamePairs}
 use Rattle.pit_model.specs.Mine.{Instance, instance_of, members, worth}
 use Rattle.pit_model.specs.PitText.{pit_text}
-use Rattle.pit_model.proofs.SamePairs.{turned, fixed_pit_knows_no_order}
+use Rattle.pit_model.proofs.SamePairs.{turned, pit_knows_no_order}
 use Rattle.pit_search.specs.declared.found_pit.FoundPit.{FoundPit}
 use Rattle.pit_search.specs.Searched.{IsFound}
 use Rattle.commands.specs.Solve.{Files, FixedInstance, HoldsMine, IsPitText, Solves, IsDone, IsCutShort, fixed_in}
@@ -46,7 +46,7 @@ text_moves :
 text_moves direction lists blocks n values vs ps qs text same_n same_v same t =
     subst (λ b. IsPitText direction (task_on (instance_of b vs qs) lists) text) same_n
     (subst (λ v. IsPitText direction (task_on (instance_of blocks v qs) lists) text) same_v
-    (record { pit = t.pit; is_pit = fixed_pit_knows_no_order direction blocks values ps qs (fixed_of lists) t.pit same t.is_pit; is_text = t.is_text }))
+    (record { pit = t.pit; is_pit = pit_knows_no_order direction blocks values ps qs (fixed_of lists) t.pit same t.is_pit; is_text = t.is_text }))
 
 pub solves : (direction : Direction) (files : Files) (fixed_mine : FixedInstance) (text : List ℕ) → HoldsMine files fixed_mine → IsPitText direction fixed_mine text → Solves direction files text
 solves direction files fixed_mine text holds t = let gave = holds.gave in record {
@@ -67,8 +67,7 @@ done direction files fixed_mine before after holds text t w = record {
   done = refl;
   text = text;
   solves = solves direction files fixed_mine text holds t;
-  written = w.0;
-  no_failure = w.1;
+  wrote = w;
 }
 
 pub cut_short :
@@ -78,8 +77,5 @@ pub cut_short :
 cut_short direction files fixed_mine before after e holds text t w = record {
   text = text;
   solves = solves direction files fixed_mine text holds t;
-  front = w.0.0;
-  begins = w.0.1;
-  written = w.0.2;
-  failure = w.1;
+  wrote = w;
 }

@@ -19,17 +19,12 @@ use Rattle.minelib_reader.proofs.BlocksGrammarLemmas as tables
 use Rattle.pit_model.specs.Graph.{Graph, AreRising, AreSamePairs}
 use Rattle.pit_model.specs.Mine.{Instance, instance_of, members, worth}
 use Rattle.pit_model.specs.declared.direction.Direction.{Direction}
-use Rattle.pit_model.specs.declared.direction.Direction.TheVariants.{Least, Greatest}
-use Rattle.pit_model.specs.Direction.{IsPitToward}
-use Rattle.pit_model.specs.Fixed.{Fixed, FixedLists, IsFixedCertificate}
-use Rattle.pit_model.specs.Uniqueness.{AreOneSet}
-use Rattle.pit_model.proofs.Fixed.{fixed_pit_is_one}
-use Rattle.pit_model.proofs.Dual.{greatest_is_one}
+use Rattle.pit_model.specs.Fixed.{FixedLists, IsFixedCertificate}
 use Rattle.pit_model.specs.PitText.{pit_text}
 use Rattle.pit_model.specs.Deposit.{Deposit}
 use Rattle.pit_model.proofs.SamePairs.{turned}
 use Rattle.pit_model.proofs.OneShells.{shells_are_one}
-use Rattle.pit_model.proofs.Uniqueness.{same_truth}
+use Rattle.pit_model.proofs.Uniqueness.{pit_is_one, same_truth}
 use Rattle.pit_model.proofs.OneOrder.{pairs_have_one_order}
 use Rattle.certificate.specs.CertificateGrammar.{SpellsCertificate}
 use Rattle.certificate.specs.CertificateLines.{PitAndFlow}
@@ -115,14 +110,10 @@ mine_in_order files other same m n x y =
 
 -- ---- `solve`
 
-one_set : (direction : Direction) (mine : Instance) (fixed : Fixed) (pit other : ℕ → Bool) → IsPitToward direction mine fixed pit → IsPitToward direction mine fixed other → AreOneSet mine pit other
-one_set Least mine fixed pit other = fixed_pit_is_one mine fixed pit other
-one_set Greatest mine fixed pit other = greatest_is_one mine fixed pit other
-
 pub one_text : (direction : Direction) (fixed_mine : FixedInstance) (s t : List ℕ) → IsPitText direction fixed_mine s → IsPitText direction fixed_mine t → s ≡ t
 one_text direction fixed_mine s t a b =
     let mine = fixed_mine.mine in
-    let same = one_set direction mine (fixed_in fixed_mine) a.pit b.pit a.is_pit b.is_pit in
+    let same = pit_is_one direction mine (fixed_in fixed_mine) a.pit b.pit a.is_pit b.is_pit in
     a.is_text ∙ ap (λ xs. pit_text mine.blocks xs (worth mine a.pit)) same.listed ∙ ap (pit_text mine.blocks (members mine.blocks b.pit)) same.worths ∙ sym b.is_text
 
 one_task : (files other : Files) → ReadAlike files other → (u v : Upit) (ps qs : List (ℕ × ℕ)) (l k : FixedLists) → GaveMine files.model files.prec u ps → GaveMine other.model other.prec v qs
@@ -139,7 +130,7 @@ solves_once files other direction before after other_before other_after status o
     let b = two.solves in
     let fixed_mine = one_task files other same a.upit b.upit a.pairs b.pairs a.lists b.lists a.given b.given a.fixed_given b.fixed_given in
     let text = one_text direction (mine_of b.upit b.pairs b.lists) done.text two.text (subst (λ t. IsPitText direction t done.text) fixed_mine a.solved) b.solved in
-    record { text = two.text; taken = done.written ∙ ap (λ t. before.bytes ++ t) text; taken_too = two.written }
+    record { text = two.text; taken = done.wrote.0 ∙ ap (λ t. before.bytes ++ t) text; taken_too = two.wrote.0 }
 
 -- ---- `shells`
 
@@ -182,7 +173,7 @@ nests_once blocks prec other_blocks other_prec direction revenue cost factors be
     let b = other.gives in
     let deposit = one_deposit blocks prec other_blocks other_prec same same_prec revenue cost a.deposit b.deposit a.given b.given in
     let text = one_shells_text direction b.deposit factors done.text other.text (subst (λ d. IsShellsText direction d factors done.text) deposit a.solved) b.solved in
-    record { text = other.text; taken = done.written ∙ ap (λ t. before.bytes ++ t) text; taken_too = other.written }
+    record { text = other.text; taken = done.wrote.0 ∙ ap (λ t. before.bytes ++ t) text; taken_too = other.wrote.0 }
 
 -- ---- `check`
 
@@ -212,7 +203,7 @@ module _ (files other : Files) (same : ReadAlike files other) where
 pub checks_once : (files other : Files) (certificate other_certificate : Reading) → ChecksOnce files other certificate other_certificate
 checks_once files other certificate other_certificate before after other_before other_after status other_status same same_text done two =
     let answer = one_answer files other same certificate other_certificate done.answer two.answer same_text done.checks two.checks in (
-      record { text = answer_text two.answer; taken = done.written ∙ ap (λ b. before.bytes ++ answer_text b) answer; taken_too = two.written },
+      record { text = answer_text two.answer; taken = done.wrote.0 ∙ ap (λ b. before.bytes ++ answer_text b) answer; taken_too = two.wrote.0 },
       done.reported ∙ ap status_of_answer answer ∙ sym two.reported,
     )
 
@@ -221,7 +212,7 @@ passes_check files other certificate before after other_before other_after statu
     let x = certified.answered in
     let y = checked.checks.answered in
     let text : certified.text ≡ y.text =
-    append_cancel_left before.bytes certified.text taken.text (sym certified.written ∙ taken.taken) ∙ given_once certificate taken.text y.text taken.given y.given in
+    append_cancel_left before.bytes certified.text taken.text (sym certified.wrote.0 ∙ taken.taken) ∙ given_once certificate taken.text y.text taken.given y.given in
     let answer : checked.answer ≡ true =
     sym (text_answers files other same x.fixed_mine checked.checks.fixed_mine certified.text y.text true checked.answer x.given checked.checks.given text x.yes y.answers) in
-    (checked.reported ∙ ap status_of_answer answer, checked.written ∙ ap (λ b. other_before.bytes ++ answer_text b) answer)
+    (checked.reported ∙ ap status_of_answer answer, checked.wrote.0 ∙ ap (λ b. other_before.bytes ++ answer_text b) answer)

@@ -1,6 +1,6 @@
 -- The certificate that a run of `solve` writes, in the words in which `check` answers to it.
-use Rattle.std.specs.Prelude.{◌≡◌, ℕ, ◌+◌, ◌++◌, true, List, Result, Ok, Err}
-use Rattle.minelib_reader.specs.Device.{Progress, Begins, Writes}
+use Rattle.std.specs.Prelude.{◌≡◌, ℕ, true, List, Result, Ok, Err}
+use Rattle.minelib_reader.specs.Device.{Progress, Writes, Wrote, WroteFront}
 use Rattle.faults.specs.Refused.{write_failed}
 use Rattle.faults.specs.declared.fault.Fault.{Fault}
 use Rattle.commands.specs.Solve.{Files, FixedInstance, GaveInOrder}
@@ -26,14 +26,10 @@ PutsCertificate fixed_mine c (Err e) = OfWriter c (WritesCertificate {E = Fault}
 pub record IsCertified (files : Files) (before after : Progress) : Type 0 where
   pub text : List ℕ
   pub answered : IsAnsweredYes files text
-  pub written : after.bytes ≡ before.bytes ++ text
-  pub no_failure : after.failures ≡ before.failures
+  pub wrote : Wrote before after text
 
 -- a beginning of one was written, and then a write failed
 pub record IsCertificateCut (files : Files) (before after : Progress) : Type 0 where
   pub text : List ℕ
   pub answered : IsAnsweredYes files text
-  pub front : List ℕ
-  pub begins : Begins front text
-  pub written : after.bytes ≡ before.bytes ++ front
-  pub failure : after.failures ≡ before.failures + 1
+  pub wrote : WroteFront before after text

@@ -1,6 +1,6 @@
 -- What a run of `check` writes, and what it refuses, over the bytes that went through its readers and its writer.
-use Rattle.std.specs.Prelude.{◌≡◌, ℕ, ◌+◌, ◌++◌, ◌↔◌, Bool, true, false, IsTrue, List}
-use Rattle.minelib_reader.specs.Device.{Progress, Begins}
+use Rattle.std.specs.Prelude.{◌≡◌, ℕ, ◌↔◌, Bool, true, false, IsTrue, List}
+use Rattle.minelib_reader.specs.Device.{Progress, Wrote, WroteFront}
 use Rattle.faults.specs.Refused.{no_memory, write_failed}
 use Rattle.faults.specs.declared.fault.Fault.{Fault}
 use Rattle.faults.specs.declared.refusal.Refusal.{Refusal}
@@ -8,7 +8,7 @@ use Rattle.faults.specs.declared.refusal.Refusal.TheVariants.{NoMemory, ReadFail
 use Rattle.faults.specs.declared.source.Source.TheVariants as sources
 use Rattle.pit_model.specs.declared.direction.Direction.TheVariants.{Least}
 use Rattle.pit_model.specs.Fixed.{IsFixedCertificate}
-use Rattle.pit_model.specs.Direction.{ListsPit}
+use Rattle.pit_model.specs.Pit.{ListsPit}
 use Rattle.certificate.specs.CertificateLines.{PitAndFlow}
 use Rattle.certificate.specs.CertificateFault.{IsFirstCertificateFault}
 use Rattle.certificate.specs.CertificateGrammar.{SpellsCertificate}
@@ -47,17 +47,13 @@ pub record IsChecked (files : Files) (certificate : Reading) (before after : Pro
   pub answer : Bool
   pub checks : Checks files certificate answer
   pub reported : status ≡ status_of_answer answer
-  pub written : after.bytes ≡ before.bytes ++ answer_text answer
-  pub no_failure : after.failures ≡ before.failures
+  pub wrote : Wrote before after (answer_text answer)
 
 -- a beginning of the answer was written, and then a write failed
 pub record IsAnswerCut (files : Files) (certificate : Reading) (before after : Progress) : Type 0 where
   pub answer : Bool
   pub checks : Checks files certificate answer
-  pub front : List ℕ
-  pub begins : Begins front (answer_text answer)
-  pub written : after.bytes ≡ before.bytes ++ front
-  pub failure : after.failures ≡ before.failures + 1
+  pub wrote : WroteFront before after (answer_text answer)
 
 -- why no certificate of a mine was read or checked
 abbrev pub RefusesCertificate : Refusal → Fault → FixedInstance → Reading → Type 0

@@ -1,6 +1,6 @@
 -- A run whose write failed wrote a beginning of the text that a done run over the same texts writes.
 use Rattle.std.specs.Prelude.{◌≡◌, ℕ, ◌+◌, ◌++◌, List}
-use Rattle.minelib_reader.specs.Device.{Progress, Begins}
+use Rattle.minelib_reader.specs.Device.{Progress, WroteFront}
 use Rattle.pit_model.specs.declared.direction.Direction.{Direction}
 use Rattle.commands.specs.Check.{IsAnswerCut, IsChecked}
 use Rattle.commands.specs.Replay.{IsReplayCut, ReportsReplay}
@@ -11,12 +11,9 @@ use Rattle.commands.specs.declared.status.Status.{Status}
 
 -- a writer took a beginning of the text that another writer took, and then failed once
 pub record TookBeginning (before after other_before other_after : Progress) : Type 0 where
-  pub front : List ℕ
   pub text : List ℕ
-  pub begins : Begins front text
-  pub taken : after.bytes ≡ before.bytes ++ front
-  pub failed : after.failures ≡ before.failures + 1
-  pub taken_whole : other_after.bytes ≡ other_before.bytes ++ text
+  pub front : WroteFront before after text
+  pub whole : other_after.bytes ≡ other_before.bytes ++ text
 
 -- two runs of `solve` toward one direction
 abbrev pub CutsPit : (files other : Files) → Type 0

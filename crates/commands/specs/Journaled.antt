@@ -1,6 +1,6 @@
 -- The journal that a run of `solve` writes, in the words in which `replay` answers to it.
-use Rattle.std.specs.Prelude.{◌≡◌, ◌⊎◌, ℕ, ◌+◌, ◌++◌, List, Option, None, Result, Ok, Err}
-use Rattle.minelib_reader.specs.Device.{Progress, Begins, Writes}
+use Rattle.std.specs.Prelude.{◌≡◌, ◌⊎◌, ℕ, List, Option, None, Result, Ok, Err}
+use Rattle.minelib_reader.specs.Device.{Progress, Writes, Wrote, WroteFront}
 use Rattle.faults.specs.Refused.{no_memory, write_failed}
 use Rattle.faults.specs.declared.fault.Fault.{Fault}
 use Rattle.faults.specs.declared.refusal.Refusal.{Refusal}
@@ -72,8 +72,7 @@ pub record IsJournaled (Ends : JournalEnd) (mode : Mode) (files : Files) (before
   pub given : GaveRest files rest
   pub text : List ℕ
   pub says : SaysJournal Ends mode rest text
-  pub written : after.bytes ≡ before.bytes ++ text
-  pub no_failure : after.failures ≡ before.failures
+  pub wrote : Wrote before after text
 
 -- a beginning of one was written, and then a write failed
 pub record IsJournalCut (mode : Mode) (files : Files) (before after : Progress) : Type 0 where
@@ -81,10 +80,7 @@ pub record IsJournalCut (mode : Mode) (files : Files) (before after : Progress) 
   pub given : GaveRest files rest
   pub text : List ℕ
   pub says : SaysJournal AtAnyEnd mode rest text
-  pub front : List ℕ
-  pub begins : Begins front text
-  pub written : after.bytes ≡ before.bytes ++ front
-  pub failure : after.failures ≡ before.failures + 1
+  pub wrote : WroteFront before after text
 
 -- entries that can be written as a journal of the rest of a mine
 abbrev pub MayPutEntries : FixedInstance → List Entry → Type 0

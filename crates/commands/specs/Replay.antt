@@ -1,6 +1,6 @@
 -- What a run of `replay` writes, and what it refuses, over the bytes that went through its readers and its writer.
-use Rattle.std.specs.Prelude.{◌≡◌, ℕ, ◌+◌, ◌++◌, List, Ok, Err}
-use Rattle.minelib_reader.specs.Device.{Progress, Begins, Writes}
+use Rattle.std.specs.Prelude.{◌≡◌, ℕ, List, Ok, Err}
+use Rattle.minelib_reader.specs.Device.{Progress, Writes, Wrote, WroteFront}
 use Rattle.faults.specs.Refused.{no_memory, write_failed, exhausted}
 use Rattle.faults.specs.declared.fault.Fault.{Fault}
 use Rattle.faults.specs.declared.refusal.Refusal.{Refusal}
@@ -18,7 +18,7 @@ use Rattle.merging.specs.declared.replayed.Replayed.{Replayed}
 use Rattle.merging.specs.declared.replayed.Replayed.TheVariants as ends
 use Rattle.pit_model.specs.declared.direction.Direction.TheVariants.{Least}
 use Rattle.pit_model.specs.Fixed.{IsRestOf}
-use Rattle.pit_model.specs.Direction.{ListsPit}
+use Rattle.pit_model.specs.Pit.{ListsPit}
 use Rattle.commands.specs.Solve.{Files, FixedInstance, GaveInOrder, Reading, Gave, NeverFailed, FailedOnce, RefusesMine, IsPitText, Solves, fixed_in}
 use Rattle.commands.specs.Journaled.{GaveRest}
 use Rattle.commands.specs.declared.status.Status.{Status}
@@ -72,18 +72,14 @@ pub record Replays (files : Files) (journal : Reading) (text : List ℕ) (status
 pub record ReportsReplay (files : Files) (journal : Reading) (before after : Progress) (status : Status) : Type 0 where
   pub text : List ℕ
   pub replays : Replays files journal text status
-  pub written : after.bytes ≡ before.bytes ++ text
-  pub no_failure : after.failures ≡ before.failures
+  pub wrote : Wrote before after text
 
 -- a beginning of the answer was written, and then a write failed
 pub record IsReplayCut (files : Files) (journal : Reading) (before after : Progress) : Type 0 where
   pub text : List ℕ
   pub status : Status
   pub replays : Replays files journal text status
-  pub front : List ℕ
-  pub begins : Begins front text
-  pub written : after.bytes ≡ before.bytes ++ front
-  pub failure : after.failures ≡ before.failures + 1
+  pub wrote : WroteFront before after text
 
 -- each verdict of the journal is lawful, and its budget of so many mergers is used up with a merger arc left
 pub record IsJournalSpent (files : Files) (journal : Reading) (count : ℕ) : Type 0 where

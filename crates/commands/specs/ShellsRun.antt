@@ -1,6 +1,6 @@
 -- What a run of `shells` writes, and what it refuses, over the bytes that went through its readers and its writer.
-use Rattle.std.specs.Prelude.{◌≡◌, ℕ, ◌+◌, ◌++◌, List}
-use Rattle.minelib_reader.specs.Device.{Progress, Begins}
+use Rattle.std.specs.Prelude.{◌≡◌, ℕ, List}
+use Rattle.minelib_reader.specs.Device.{Progress, Wrote, WroteFront}
 use Rattle.faults.specs.Refused.{write_failed}
 use Rattle.faults.specs.declared.fault.Fault.{Fault}
 use Rattle.faults.specs.declared.refusal.Refusal.{Refusal}
@@ -34,17 +34,13 @@ pub record IsShellsDone (direction : Direction) (blocks prec : Reading) (revenue
   pub done : status ≡ Done
   pub text : List ℕ
   pub gives : GivesShells direction blocks prec revenue cost factors text
-  pub written : after.bytes ≡ before.bytes ++ text
-  pub no_failure : after.failures ≡ before.failures
+  pub wrote : Wrote before after text
 
 -- a beginning of it was written, and then a write failed
 pub record IsShellsCut (direction : Direction) (blocks prec : Reading) (revenue cost : ℕ) (factors : List ℕ) (before after : Progress) : Type 0 where
   pub text : List ℕ
   pub gives : GivesShells direction blocks prec revenue cost factors text
-  pub front : List ℕ
-  pub begins : Begins front text
-  pub written : after.bytes ≡ before.bytes ++ front
-  pub failure : after.failures ≡ before.failures + 1
+  pub wrote : WroteFront before after text
 
 -- this holds of the deposit that the readers gave
 abbrev pub HoldsOfDeposit : Reading → Reading → ℕ → ℕ → (Deposit → Type 0) → Type 0

@@ -1,6 +1,6 @@
 -- What a run of `solve` writes, and what it refuses, over the bytes that went through its readers and its writer.
-use Rattle.std.specs.Prelude.{◌≡◌, ℕ, ◌+◌, ◌^◌, ◌<◌, ◌++◌, ◌⊎◌, Bool, List, Option, Some, None, Result}
-use Rattle.minelib_reader.specs.Device.{Progress, Begins, Writes}
+use Rattle.std.specs.Prelude.{◌≡◌, ℕ, ◌+◌, ◌^◌, ◌<◌, ◌⊎◌, Bool, List, Option, Some, None, Result}
+use Rattle.minelib_reader.specs.Device.{Progress, Writes, Wrote, WroteFront}
 use Rattle.minelib_reader.specs.declared.device.InBytes.{Ghosts as Reader}
 use Rattle.minelib_reader.specs.Answer.{IsRead}
 use Rattle.faults.specs.Refused.{at_line, clash, no_memory}
@@ -22,8 +22,8 @@ use Rattle.pit_model.specs.declared.direction.Direction.{Direction}
 use Rattle.pit_model.specs.Graph.{AreSamePairs, IsAcyclic, IsGraph}
 use Rattle.pit_model.specs.Mine.{Instance, instance_of, members, worth}
 use Rattle.pit_model.specs.Limits.{IsInstance}
-use Rattle.pit_model.specs.Fixed.{Fixed, FixedLists, IsClash, fixed_of}
-use Rattle.pit_model.specs.Direction.{IsPitToward}
+use Rattle.pit_model.specs.Pit.{Fixed, IsPit}
+use Rattle.pit_model.specs.Fixed.{FixedLists, IsClash, fixed_of}
 use Rattle.pit_model.specs.PitText.{pit_text}
 use Rattle.commands.specs.declared.mine.MineFiles.{MineFiles}
 use Rattle.commands.specs.declared.mine.FixedMine.{FixedMine}
@@ -164,7 +164,7 @@ pub record GaveInOrder (files : Files) (fixed_mine : FixedInstance) : Type 0 whe
 -- forced in and none that is barred
 pub record IsPitText (direction : Direction) (fixed_mine : FixedInstance) (text : List ℕ) : Type 0 where
   pub pit : ℕ → Bool
-  pub is_pit : IsPitToward direction fixed_mine.mine (fixed_in fixed_mine) pit
+  pub is_pit : IsPit direction fixed_mine.mine (fixed_in fixed_mine) pit
   pub is_text : text ≡ pit_text fixed_mine.mine.blocks (members fixed_mine.mine.blocks pit) (worth fixed_mine.mine pit)
 
 -- the text of a mine's pit was written, or a beginning of it
@@ -186,17 +186,13 @@ pub record IsDone (direction : Direction) (files : Files) (before after : Progre
   pub done : status ≡ Done
   pub text : List ℕ
   pub solves : Solves direction files text
-  pub written : after.bytes ≡ before.bytes ++ text
-  pub no_failure : after.failures ≡ before.failures
+  pub wrote : Wrote before after text
 
 -- a beginning of the pit's text was written, and then a write failed
 pub record IsCutShort (direction : Direction) (files : Files) (before after : Progress) : Type 0 where
   pub text : List ℕ
   pub solves : Solves direction files text
-  pub front : List ℕ
-  pub begins : Begins front text
-  pub written : after.bytes ≡ before.bytes ++ front
-  pub failure : after.failures ≡ before.failures + 1
+  pub wrote : WroteFront before after text
 
 -- the first fault in the order of the files: of the model; or of the precedence, where the model is spelled; or of the fixed
 -- blocks, where both are; or the cycle of the pairs, where all are; or, where there is none, the least barred block that must

@@ -3,7 +3,7 @@ ghost use Rattle.std.specs.Prelude.{◌≡◌, ◌<◌, ◌^◌, ℕ, Bool, IfOk
 ghost use Rattle.faults.specs.Refused.{write_failed};
 ghost use Rattle.mine_graph.specs.FixedBlocks.{IsFixedOf};
 ghost use Rattle.pit_model.specs.declared.direction.Direction.{Direction as AnyDirection};
-ghost use Rattle.pit_model.specs.Direction.{ListsPit};
+ghost use Rattle.pit_model.specs.Pit.{ListsPit};
 ghost use Rattle.pit_model.specs.Fixed.{fixed_of, graph_of_mine};
 ghost use Rattle.pit_model.specs.Mine.{members};
 ghost use Rattle.std.specs.Io.KnownBytes.{Keeps};

@@ -113,5 +113,5 @@ module _ {F JournalOut CertificateOut Model Prec Fixed Certificate Journal Block
         prec_spelled = subst (λ (it : List ℕ). SpellsPrec solves.upit.n it solves.pairs) same_prec solves.given.prec_spelled;
         fixed_spelled = subst (λ (it : List MemoryFile). FixesBlocks it (option_copied options.mine.fixed) solves.upit.n solves.lists) held_prec fixed;
         acyclic = solves.acyclic;
-        solved = subst (λ (it : List ℕ). IsPitText options.settings.pit (mine_of solves.upit solves.pairs solves.lists) it) (sym wrote ∙ sym is.written) solves.solved;
+        solved = subst (λ (it : List ℕ). IsPitText options.settings.pit (mine_of solves.upit solves.pairs solves.lists) it) (sym wrote ∙ sym is.wrote.0) solves.solved;
       }

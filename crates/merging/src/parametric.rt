@@ -6,7 +6,8 @@ ghost use Rattle.pit_model.specs.Mine.{value};
 ghost use Rattle.pit_model.specs.Limits.{IsInstance};
 ghost use Rattle.mine_graph.specs.Raised.{raised_at};
 ghost use Rattle.norm_tree.specs.Over.{most_rise};
-ghost use Rattle.optimality.specs.Check.{ShowsPit};
+ghost use Rattle.pit_model.specs.declared.direction.Direction.TheVariants.{Least};
+ghost use Rattle.pit_model.specs.Pit.{ListsPit, no_blocks_fixed};
 
 use crate::closing::merge_remaining;
 use crate::lowest_label::{LowestLabel, take_turns};
@@ -92,7 +93,7 @@ impl ParametricSolver {
     /// If memory runs out.
     pub fn solved(self) -> Result<(ParametricSolver, Vec<u32>), Fault>
         ensures mine { IfOk result (λ r. r.0 ≡ self) }
-        ensures shown { IfOk result (λ r. ShowsPit self r.1.items) }
+        ensures shown { IfOk result (λ r. ListsPit Least self no_blocks_fixed r.1.items) }
         ensures refused { IfErr result (λ e. e ≡ no_memory) }
     {
         let ParametricSolver {

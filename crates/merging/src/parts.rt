@@ -6,7 +6,8 @@ ghost use Rattle.std.specs.List.{All, AllZip};
 ghost use Rattle.faults.specs.Refused.{no_memory};
 ghost use Rattle.pit_model.specs.Mine.{value};
 ghost use Rattle.optimality.specs.Certificate.{IsCertificateOf};
-ghost use Rattle.optimality.specs.Check.{ShowsPit};
+ghost use Rattle.pit_model.specs.declared.direction.Direction.TheVariants.{Least};
+ghost use Rattle.pit_model.specs.Pit.{ListsPit, no_blocks_fixed};
 ghost use Rattle.merging.specs.Parts.{graph_of_instance, IsPartOf, IsSolvedPart};
 
 use crate::lift::join_parts;
@@ -143,7 +144,7 @@ pub fn pit_by_parts<R: Threads + Sync>(
     alloc: Global,
     instance: &Instance,
 ) -> Result<Vec<u32>, Fault>
-    ensures shown { IfOk result (λ pit. ShowsPit instance.now pit.items) }
+    ensures shown { IfOk result (λ pit. ListsPit Least instance.now no_blocks_fixed pit.items) }
     ensures refused { IfErr result (λ e. e ≡ no_memory) }
 {
     instance.law();

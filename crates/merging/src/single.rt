@@ -4,7 +4,8 @@ ghost use Rattle.faults.specs.Refused.{no_memory};
 ghost use Rattle.pit_model.specs.FirstRun.{first_run};
 ghost use Rattle.pit_model.specs.Tree.{is_merger};
 ghost use Rattle.optimality.specs.Certificate.{IsCertificateOf};
-ghost use Rattle.optimality.specs.Check.{ShowsPit};
+ghost use Rattle.pit_model.specs.declared.direction.Direction.TheVariants.{Least};
+ghost use Rattle.pit_model.specs.Pit.{ListsPit, no_blocks_fixed};
 ghost use Rattle.merging.specs.Solved.{IsSolvedAlone};
 
 use crate::budget_bound::is_enough;
@@ -61,7 +62,7 @@ pub(crate) fn solve_certificate(alloc: Global, instance: &Instance) -> Result<Ce
 ///
 /// If memory runs out.
 pub fn solve_pit(alloc: Global, instance: &Instance) -> Result<Vec<u32>, Fault>
-    ensures shown { IfOk result (λ pit. ShowsPit instance.now pit.items) }
+    ensures shown { IfOk result (λ pit. ListsPit Least instance.now no_blocks_fixed pit.items) }
     ensures refused { IfErr result (λ e. e ≡ no_memory) }
 {
     let tree = solved_tree(alloc, instance)?;

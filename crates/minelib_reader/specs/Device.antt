@@ -34,7 +34,14 @@ TakesSome (Err e) text = ⊥
 abbrev pub Begins : List ℕ → List ℕ → Type 0
 Begins front text = (behind : List ℕ) × (text ≡ front ++ behind)
 
--- the whole text was written; or a beginning of it, and then a write failed
+-- exactly this text was written
+abbrev pub Wrote : Progress → Progress → List ℕ → Type 0
+Wrote old new text = (new.bytes ≡ old.bytes ++ text) × (new.failures ≡ old.failures)
+
+-- a beginning of it was written, and then a write failed
+abbrev pub WroteFront : Progress → Progress → List ℕ → Type 0
+WroteFront old new text = ((front : List ℕ) × Begins front text × (new.bytes ≡ old.bytes ++ front)) × (new.failures ≡ old.failures + 1)
+
 abbrev pub Writes : {E : Type 0} → Progress → Progress → List ℕ → Result (Unit {0}) E → Type 0
-Writes old new text (Ok x) = (new.bytes ≡ old.bytes ++ text) × (new.failures ≡ old.failures)
-Writes old new text (Err e) = ((front : List ℕ) × Begins front text × (new.bytes ≡ old.bytes ++ front)) × (new.failures ≡ old.failures + 1)
+Writes old new text (Ok x) = Wrote old new text
+Writes old new text (Err e) = WroteFront old new text

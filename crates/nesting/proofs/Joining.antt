@@ -9,7 +9,7 @@ use Rattle.std.proofs.lemmas.List.FromFn.{get_or-range_with_len, length-range_wi
 use Rattle.pit_model.specs.Sum.{total, when}
 use Rattle.pit_model.specs.Graph.{Graph, first_of, second_of, IsGraph}
 use Rattle.pit_model.specs.declared.direction.Direction.{Direction}
-use Rattle.pit_model.specs.Direction.{IsPitToward, ListsPit, no_blocks_fixed}
+use Rattle.pit_model.specs.Pit.{IsPit, ListsPit, no_blocks_fixed}
 use Rattle.pit_model.specs.Mine.{Instance, members, value, worth}
 use Rattle.pit_model.specs.Part.{IsPart}
 use Rattle.pit_model.specs.Deposit.{Deposit, mine_at, IsPriced}
@@ -157,7 +157,7 @@ is_shell direction prices graph next factors k marks others shell grown factor p
     record {
       set = marked marks;
       listed = listed;
-      is_pit = subst (λ f. IsPitToward direction (mine_at deposit f) no_blocks_fixed (marked marks)) (sym factor) grown.before;
+      is_pit = subst (λ f. IsPit direction (mine_at deposit f) no_blocks_fixed (marked marks)) (sym factor) grown.before;
       worth_is = worth_is ∙ ap (λ f. worth (mine_at deposit f) (marked marks)) (sym factor);
     }
 

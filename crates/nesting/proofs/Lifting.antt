@@ -8,19 +8,18 @@ use Rattle.std.proofs.lemmas.Int.{ints}
 use Rattle.std.proofs.lemmas.List.{get_or-map}
 use Rattle.pit_model.specs.Sum.{total, when}
 use Rattle.pit_model.specs.Graph.{Graph, first_of, second_of, AreInRange}
-use Rattle.pit_model.specs.Mine.{Instance, IsClosed, members, value, worth}
+use Rattle.pit_model.specs.Mine.{IsClosed, members, value, worth}
 use Rattle.pit_model.specs.Deposit.{IsPriced, mine_at}
 use Rattle.pit_model.specs.Shells.{IsShell}
 use Rattle.pit_model.specs.declared.direction.Direction.{Direction}
 use Rattle.pit_model.specs.declared.direction.Direction.TheVariants.{Least, Greatest}
-use Rattle.pit_model.specs.Direction.{IsPitToward, no_blocks_fixed}
+use Rattle.pit_model.specs.Pit.{IsPit, LiesToward, no_blocks_fixed}
 use Rattle.pit_model.specs.declared.shell.Shell.{Shell}
-use Rattle.pit_model.proofs.Fixed.{closed_is_allowed}
+use Rattle.pit_model.proofs.Pits.{closed_best, closed_extreme, free}
 use Rattle.pit_model.proofs.Members.{members_each, members_place, members_rise}
 use Rattle.pit_model.proofs.MemberSums.{summed, summed-members}
 use Rattle.pit_model.proofs.Shells.{gains, value_at_is, values_rise}
 use Rattle.pit_model.proofs.Sums.{total-same}
-use Rattle.pit_model.proofs.Dual.{nothing_fixed}
 use Rattle.nesting.specs.Prices.{Prices, deposit_of}
 use Rattle.nesting.specs.Outermost.{AreLifted, IsLiftedShell, IsOutermost}
 
@@ -30,22 +29,13 @@ lies_inside true d x h = refl
 lies_inside false true x h = absurd (true≢false (sym (h refl)))
 lies_inside false false x h = refl
 
--- toward each direction a pit is closed, and no closed set is worth more
-closed_toward : (direction : Direction) (mine : Instance) (set : ℕ → Bool) → IsPitToward direction mine no_blocks_fixed set → IsClosed mine set
-closed_toward Least mine set pit = pit.allowed.closed
-closed_toward Greatest mine set pit = pit.allowed.closed
-
-best_toward : (direction : Direction) (mine : Instance) (set : ℕ → Bool) → IsPitToward direction mine no_blocks_fixed set → (other : ℕ → Bool) → IsClosed mine other → worth mine other ≤ℤ worth mine set
-best_toward Least mine set pit other closed = pit.best other (closed_is_allowed mine no_blocks_fixed nothing_fixed other closed)
-best_toward Greatest mine set pit other closed = pit.best other (closed_is_allowed mine no_blocks_fixed nothing_fixed other closed)
-
 -- the part on the outermost shell
 module _ (direction : Direction) (prices inner : Prices) (graph part : Graph) (lesser greater : ℕ) (blocks : List ℕ) (priced : IsPriced (deposit_of prices graph)) (le : lesser ≤ greater) (outer : IsOutermost direction prices graph greater blocks inner part) (range : AreInRange part.pairs part.blocks) where
   outer_closed : IsClosed (mine_at (deposit_of prices graph) greater) outer.set
-  outer_closed = closed_toward direction (mine_at (deposit_of prices graph) greater) outer.set outer.is_pit
+  outer_closed = outer.is_pit.allowed.closed
 
   outer_best : (other : ℕ → Bool) → IsClosed (mine_at (deposit_of prices graph) greater) other → worth (mine_at (deposit_of prices graph) greater) other ≤ℤ worth (mine_at (deposit_of prices graph) greater) outer.set
-  outer_best = best_toward direction (mine_at (deposit_of prices graph) greater) outer.set outer.is_pit
+  outer_best = closed_best outer.is_pit
 
   -- a block of the part
   each : (i : ℕ) → i < length blocks → (get_or blocks i 0 < graph.blocks) × (outer.set (get_or blocks i 0) ≡ true)
@@ -119,13 +109,13 @@ module _ (direction : Direction) (prices inner : Prices) (graph part : Graph) (l
     cut_worth = worth_inside (λ u. C u && outer.set u) (λ u l h. (and_parts (C u) (outer.set u) h).1)
 
   -- a set inside that is the pit of the part
-  module _ (found after : ℕ → Bool) (pit : IsPitToward direction (mine_at (deposit_of inner part) lesser) no_blocks_fixed found)
+  module _ (found after : ℕ → Bool) (pit : IsPit direction (mine_at (deposit_of inner part) lesser) no_blocks_fixed found)
       (adds : (i : ℕ) → i < length blocks → after (get_or blocks i 0) ≡ found i) (only : (u : ℕ) → after u ≡ true → outer.set u ≡ true) where
     found_closed : IsClosed (mine_at (deposit_of inner part) lesser) found
-    found_closed = closed_toward direction (mine_at (deposit_of inner part) lesser) found pit
+    found_closed = pit.allowed.closed
 
     found_best : (other : ℕ → Bool) → IsClosed (mine_at (deposit_of inner part) lesser) other → worth (mine_at (deposit_of inner part) lesser) other ≤ℤ worth (mine_at (deposit_of inner part) lesser) found
-    found_best = best_toward direction (mine_at (deposit_of inner part) lesser) found pit
+    found_best = closed_best pit
 
     pub after_closed : IsClosed (mine_at (deposit_of prices graph) lesser) after
     after_closed k l h =
@@ -205,23 +195,24 @@ module _ (direction : Direction) (prices inner : Prices) (graph part : Graph) (l
         let chosen = largest (λ j. C (get_or blocks j 0) && outer.set (get_or blocks j 0)) cut.0 cut.1 at.0 (omega arith) held in
         sym (ap after at.2) ∙ adds at.0 at.1 ∙ chosen
 
+after_extreme : (direction : Direction) (prices inner : Prices) (graph part : Graph) (lesser greater : ℕ) (blocks : List ℕ) (priced : IsPriced (deposit_of prices graph)) (le : lesser ≤ greater) (outer : IsOutermost direction prices graph greater blocks inner part) (range : AreInRange part.pairs part.blocks)
+    (found after : ℕ → Bool) (pit : IsPit direction (mine_at (deposit_of inner part) lesser) no_blocks_fixed found)
+    (adds : (i : ℕ) → i < length blocks → after (get_or blocks i 0) ≡ found i) (only : (u : ℕ) → after u ≡ true → outer.set u ≡ true)
+    → (C : ℕ → Bool) → IsClosed (mine_at (deposit_of prices graph) lesser) C → worth (mine_at (deposit_of prices graph) lesser) C ≡ worth (mine_at (deposit_of prices graph) lesser) after → LiesToward direction graph.blocks after C
+after_extreme Least prices inner graph part lesser greater blocks priced le outer range found after pit adds only =
+    after_smallest Least prices inner graph part lesser greater blocks priced le outer range found after pit adds only (closed_extreme pit)
+after_extreme Greatest prices inner graph part lesser greater blocks priced le outer range found after pit adds only =
+    after_largest Greatest prices inner graph part lesser greater blocks priced le outer range found after pit adds only (closed_extreme pit) (closed_extreme outer.is_pit)
+
 -- the pit of the part is that of the whole, toward each direction
 after_is_pit : (direction : Direction) (prices inner : Prices) (graph part : Graph) (lesser greater : ℕ) (blocks : List ℕ) (priced : IsPriced (deposit_of prices graph)) (le : lesser ≤ greater) (outer : IsOutermost direction prices graph greater blocks inner part) (range : AreInRange part.pairs part.blocks)
-    (found after : ℕ → Bool) (pit : IsPitToward direction (mine_at (deposit_of inner part) lesser) no_blocks_fixed found)
+    (found after : ℕ → Bool) (pit : IsPit direction (mine_at (deposit_of inner part) lesser) no_blocks_fixed found)
     (adds : (i : ℕ) → i < length blocks → after (get_or blocks i 0) ≡ found i) (only : (u : ℕ) → after u ≡ true → outer.set u ≡ true)
-    → IsPitToward direction (mine_at (deposit_of prices graph) lesser) no_blocks_fixed after
-after_is_pit Least prices inner graph part lesser greater blocks priced le outer range found after pit adds only = record {
-  allowed = closed_is_allowed (mine_at (deposit_of prices graph) lesser) no_blocks_fixed nothing_fixed after (after_closed Least prices inner graph part lesser greater blocks priced le outer range found after pit adds only);
-  best = λ C ok. after_best Least prices inner graph part lesser greater blocks priced le outer range found after pit adds only C ok.closed;
-  smallest = λ C ok same. after_smallest Least prices inner graph part lesser greater blocks priced le outer range found after pit adds only
-      (λ other closed. pit.smallest other (closed_is_allowed (mine_at (deposit_of inner part) lesser) no_blocks_fixed nothing_fixed other closed)) C ok.closed same;
-}
-after_is_pit Greatest prices inner graph part lesser greater blocks priced le outer range found after pit adds only = record {
-  allowed = closed_is_allowed (mine_at (deposit_of prices graph) lesser) no_blocks_fixed nothing_fixed after (after_closed Greatest prices inner graph part lesser greater blocks priced le outer range found after pit adds only);
-  best = λ C ok. after_best Greatest prices inner graph part lesser greater blocks priced le outer range found after pit adds only C ok.closed;
-  largest = λ C ok same. after_largest Greatest prices inner graph part lesser greater blocks priced le outer range found after pit adds only
-      (λ other closed. pit.largest other (closed_is_allowed (mine_at (deposit_of inner part) lesser) no_blocks_fixed nothing_fixed other closed))
-      (λ other closed. outer.is_pit.largest other (closed_is_allowed (mine_at (deposit_of prices graph) greater) no_blocks_fixed nothing_fixed other closed)) C ok.closed same;
+    → IsPit direction (mine_at (deposit_of prices graph) lesser) no_blocks_fixed after
+after_is_pit direction prices inner graph part lesser greater blocks priced le outer range found after pit adds only = record {
+  allowed = free (mine_at (deposit_of prices graph) lesser) after (after_closed direction prices inner graph part lesser greater blocks priced le outer range found after pit adds only);
+  best = λ C ok. after_best direction prices inner graph part lesser greater blocks priced le outer range found after pit adds only C ok.closed;
+  extreme = λ C ok. after_extreme direction prices inner graph part lesser greater blocks priced le outer range found after pit adds only C ok.closed;
 }
 
 module _ (direction : Direction) (prices inner : Prices) (graph part : Graph) (lesser greater : ℕ) (blocks : List ℕ) (priced : IsPriced (deposit_of prices graph)) (le : lesser ≤ greater) (outer : IsOutermost direction prices graph greater blocks inner part) (range : AreInRange part.pairs part.blocks) where
@@ -271,8 +262,8 @@ module _ (direction : Direction) (prices inner : Prices) (graph part : Graph) (l
         let some = by.pit.only u h in
         sym (ap outer.set some.2) ∙ (each direction prices inner graph part lesser greater blocks priced le outer range (get_or shell.pit.items some.0 0) (listed_at some.0 some.1).0).1
 
-    inner_pit : IsPitToward direction (mine_at (deposit_of inner part) lesser) no_blocks_fixed is.set
-    inner_pit = subst (λ f. IsPitToward direction (mine_at (deposit_of inner part) f) no_blocks_fixed is.set) factor is.is_pit
+    inner_pit : IsPit direction (mine_at (deposit_of inner part) lesser) no_blocks_fixed is.set
+    inner_pit = subst (λ f. IsPit direction (mine_at (deposit_of inner part) f) no_blocks_fixed is.set) factor is.is_pit
 
     pub lifted_is_shell : IsShell direction (deposit_of prices graph) lifted
     lifted_is_shell =
@@ -280,7 +271,7 @@ module _ (direction : Direction) (prices inner : Prices) (graph part : Graph) (l
         record {
           set = by.pit.set;
           listed = by.pit.listed;
-          is_pit = subst (λ f. IsPitToward direction (mine_at (deposit_of prices graph) f) no_blocks_fixed by.pit.set) (sym same)
+          is_pit = subst (λ f. IsPit direction (mine_at (deposit_of prices graph) f) no_blocks_fixed by.pit.set) (sym same)
               (after_is_pit direction prices inner graph part lesser greater blocks priced le outer range is.set by.pit.set inner_pit stands lies);
           worth_is = by.worth ∙ is.worth_is ∙ ap (λ f. worth (mine_at (deposit_of inner part) f) is.set) factor
               ∙ sym (after_worth direction prices inner graph part lesser greater blocks priced le outer range is.set by.pit.set inner_pit stands lies)

@@ -9,7 +9,7 @@ use Rattle.pit_model.specs.Mine.{members}
 use Rattle.pit_model.specs.Part.{IsPart}
 use Rattle.pit_model.specs.Deposit.{IsPriced, mine_at}
 use Rattle.pit_model.specs.declared.direction.Direction.{Direction}
-use Rattle.pit_model.specs.Direction.{ListsPit, no_blocks_fixed}
+use Rattle.pit_model.specs.Pit.{ListsPit, no_blocks_fixed}
 use Rattle.pit_model.specs.Shells.{AreFactors, AreShells, IsShell}
 use Rattle.pit_model.specs.declared.shell.Shell.{Shell}
 use Rattle.pit_model.proofs.Members.{members_each}

@@ -10,19 +10,20 @@ use Rattle.std.proofs.lemmas.Int.{ints}
 use Rattle.std.proofs.lemmas.List.{ext_get_or, get_or-map, get_or-set_same, get_or-set_other, length-map, length-set}
 use Rattle.pit_model.specs.Sum.{total, when}
 use Rattle.pit_model.specs.Graph.{Graph, first_of}
-use Rattle.pit_model.specs.Mine.{Instance, IsClosed, IsPit, instance_of, members, value, worth}
+use Rattle.pit_model.specs.Pit.{IsPit, no_blocks_fixed}
+use Rattle.pit_model.specs.Mine.{Instance, IsClosed, instance_of, members, value, worth}
 use Rattle.pit_model.specs.Deposit.{Deposit, IsPriced, mine_at, value_at}
 use Rattle.pit_model.specs.declared.direction.Direction.{Direction}
 use Rattle.pit_model.specs.declared.direction.Direction.TheVariants.{Least, Greatest}
 use Rattle.pit_model.specs.declared.shell.Shell.{Shell}
 use Rattle.pit_model.specs.Shells.{IsShell}
-use Rattle.pit_model.specs.Direction.{IsDual, IsPitToward, no_blocks_fixed}
-use Rattle.pit_model.proofs.Fixed.{none_fixes_nothing}
+use Rattle.pit_model.specs.Direction.{IsDual}
+use Rattle.pit_model.proofs.Pits.{closed_best, closed_extreme, free}
 use Rattle.pit_model.proofs.MemberSums.{summed-members}
 use Rattle.pit_model.proofs.Rest.{union_closed}
 use Rattle.pit_model.proofs.Shells.{gains, value_at_is, values_rise}
 use Rattle.pit_model.proofs.Sums.{total-same, total-sub}
-use Rattle.pit_model.proofs.Dual.{complement_is_greatest, nothing_fixed}
+use Rattle.pit_model.proofs.Dual.{complement_is_greatest}
 use Rattle.mine_graph.specs.Raised.{raised_at}
 use Rattle.nesting.specs.Prices.{Prices, deposit_of, price_of}
 use Rattle.nesting.specs.Grown.{marked}
@@ -93,11 +94,11 @@ cut false false x y over same = refl
 
 -- the pit of a mine, and a closed set of one whose values are not lower
 module _ (n : ℕ) (pairs : List (ℕ × ℕ)) (low high : List ℤ) (more : (u : ℕ) → u < n → get_or low u (pos 0) ≤ℤ get_or high u (pos 0)) (A C : ℕ → Bool)
-    (pit : IsPit (instance_of n low pairs) A) (closed : IsClosed (instance_of n high pairs) C) where
+    (pit : IsPit Least (instance_of n low pairs) no_blocks_fixed A) (closed : IsClosed (instance_of n high pairs) C) where
   met : IsClosed (instance_of n low pairs) (λ u. A u && C u)
   met k l h =
       let held = and_parts (A (first_of pairs k)) (C (first_of pairs k)) h in
-      and_from _ _ (pit.closed k l held.0) (closed k l held.1)
+      and_from _ _ (pit.allowed.closed k l held.0) (closed k l held.1)
 
   gained : (worth (instance_of n low pairs) A -ℤ worth (instance_of n low pairs) (λ u. A u && C u)) ≤ℤ (worth (instance_of n high pairs) (λ u. A u || C u) -ℤ worth (instance_of n high pairs) C)
   gained = gains n (value (instance_of n low pairs)) (value (instance_of n high pairs)) A C more
@@ -105,25 +106,25 @@ module _ (n : ℕ) (pairs : List (ℕ × ℕ)) (low high : List ℤ) (more : (u 
   -- the closed set gains by joining the pit
   joins : worth (instance_of n high pairs) C ≤ℤ worth (instance_of n high pairs) (λ u. A u || C u)
   joins =
-      let best = pit.best (λ u. A u && C u) met in
+      let best = closed_best pit (λ u. A u && C u) met in
       let rises = gained in
       omega (arith, ints)
 
   -- and where it gains nothing, it holds the pit
   holds : worth (instance_of n high pairs) (λ u. A u || C u) ≤ℤ worth (instance_of n high pairs) C → (u : ℕ) → u < n → A u ≡ true → C u ≡ true
   holds none u below h =
-      let best = pit.best (λ u. A u && C u) met in
+      let best = closed_best pit (λ u. A u && C u) met in
       let rises = gained in
       let same : worth (instance_of n low pairs) (λ u. A u && C u) ≡ worth (instance_of n low pairs) A = omega (arith, ints) in
-      (and_parts (A u) (C u) (pit.smallest (λ u. A u && C u) met same u below h)).1
+      (and_parts (A u) (C u) (closed_extreme pit (λ u. A u && C u) met same u below h)).1
 
 -- values before and after the rise, and the pit S of the lower mine, which is that of the mine before
 module _ (n : ℕ) (pairs : List (ℕ × ℕ)) (low high vs ws : List ℤ) (S P : ℕ → Bool) (more : (u : ℕ) → u < n → get_or low u (pos 0) ≤ℤ get_or high u (pos 0))
     (outside : (u : ℕ) → u < n → S u ≡ false → get_or vs u (pos 0) ≡ get_or low u (pos 0))
     (risen : (u : ℕ) → u < n → S u ≡ false → get_or ws u (pos 0) ≡ get_or high u (pos 0))
     (kept : (u : ℕ) → u < n → S u ≡ true → get_or ws u (pos 0) ≡ get_or vs u (pos 0))
-    (here : IsPit (instance_of n vs pairs) S) (there : IsPit (instance_of n low pairs) S)
-    (pit : IsPit (instance_of n ws pairs) P) where
+    (here : IsPit Least (instance_of n vs pairs) no_blocks_fixed S) (there : IsPit Least (instance_of n low pairs) no_blocks_fixed S)
+    (pit : IsPit Least (instance_of n ws pairs) no_blocks_fixed P) where
   rise : (u : ℕ) → u < n → get_or vs u (pos 0) ≤ℤ get_or ws u (pos 0)
   rise u l = ⊎_elim
       (λ (on : S u ≡ true). let same = kept u l on in omega (arith, ints))
@@ -136,7 +137,7 @@ module _ (n : ℕ) (pairs : List (ℕ × ℕ)) (low high vs ws : List ℤ) (S P 
 
   -- the pit after the rise holds the one before
   pub grown : (u : ℕ) → u < n → S u ≡ true → P u ≡ true
-  grown = holds n pairs vs ws rise S P here pit.closed (pit.best (λ v. S v || P v) (union_closed (instance_of n ws pairs) S P here.closed pit.closed))
+  grown = holds n pairs vs ws rise S P here pit.allowed.closed (closed_best pit (λ v. S v || P v) (union_closed (instance_of n ws pairs) S P here.allowed.closed pit.allowed.closed))
 
   shift : (C : ℕ → Bool) → ((u : ℕ) → u < n → S u ≡ true → C u ≡ true)
       → (worth (instance_of n high pairs) C -ℤ worth (instance_of n ws pairs) C) ≡ (worth (instance_of n high pairs) S -ℤ worth (instance_of n ws pairs) S)
@@ -148,25 +149,25 @@ module _ (n : ℕ) (pairs : List (ℕ × ℕ)) (low high vs ws : List ℤ) (S P 
       (λ u l. cut (C u) (S u) (v u) (w u) (over u l) (λ off. sym (risen u l off)))
       ∙ total-sub n (λ u. when (S u) (v u)) (λ u. when (S u) (w u))
 
-  pub pit_there : IsPit (instance_of n high pairs) P
+  pub pit_there : IsPit Least (instance_of n high pairs) no_blocks_fixed P
   pit_there =
       let A = instance_of n high pairs in
       let M = instance_of n ws pairs in
       let own = shift P grown in
       record {
-        closed = pit.closed;
-        best = λ other closed.
-            let gain = joins n pairs low high more S other there closed in
-            let up = pit.best (λ u. S u || other u) (union_closed M S other here.closed closed) in
+        allowed = free A P pit.allowed.closed;
+        best = λ other ok.
+            let gain = joins n pairs low high more S other there ok.closed in
+            let up = closed_best pit (λ u. S u || other u) (union_closed M S other here.allowed.closed ok.closed) in
             let wide = shift (λ u. S u || other u) (λ u l h. or_left (S u) (other u) h) in
             omega (arith, ints);
-        smallest = λ other closed same u l h.
-            let up = pit.best (λ v. S v || other v) (union_closed M S other here.closed closed) in
+        extreme = λ other ok same u l h.
+            let up = closed_best pit (λ v. S v || other v) (union_closed M S other here.allowed.closed ok.closed) in
             let wide = shift (λ v. S v || other v) (λ v m on. or_left (S v) (other v) on) in
             let none : worth A (λ v. S v || other v) ≤ℤ worth A other = omega (arith, ints) in
-            let narrow = shift other (holds n pairs low high more S other there closed none) in
+            let narrow = shift other (holds n pairs low high more S other there ok.closed none) in
             let level : worth M other ≡ worth M P = omega (arith, ints) in
-            pit.smallest other closed level u l h;
+            closed_extreme pit other ok.closed level u l h;
       }
 
 -- ---- the mine that is searched
@@ -209,9 +210,8 @@ dual_of deposit factor pairs are = record {
 
 -- its pit gives the pit toward the direction
 pit_toward_is : (direction : Direction) (deposit : Deposit) (factor : ℕ) (pairs : List (ℕ × ℕ)) (P : ℕ → Bool) → ArePairsToward direction deposit pairs
-    → IsPit (searched_mine direction deposit factor pairs) P → IsPitToward direction (mine_at deposit factor) no_blocks_fixed (set_toward direction P)
-pit_toward_is Least deposit factor pairs P are pit =
-    (none_fixes_nothing (mine_at deposit factor) no_blocks_fixed P nothing_fixed).1 (subst (λ ps. IsPit (searched_mine Least deposit factor ps) P) are pit)
+    → IsPit Least (searched_mine direction deposit factor pairs) no_blocks_fixed P → IsPit direction (mine_at deposit factor) no_blocks_fixed (set_toward direction P)
+pit_toward_is Least deposit factor pairs P are pit = subst (λ ps. IsPit Least (searched_mine Least deposit factor ps) no_blocks_fixed P) are pit
 pit_toward_is Greatest deposit factor pairs P are pit =
     complement_is_greatest (mine_at deposit factor) (searched_mine Greatest deposit factor pairs) P (dual_of deposit factor pairs are) pit
 
@@ -244,7 +244,7 @@ searched_is Greatest deposit factor mine is =
 
 -- the mine that has risen: its pit holds the one before, and is that of the next factor
 module _ (direction : Direction) (prices : Prices) (graph : Graph) (from to : ℕ) (marks : List Bool) (before mine : Instance) (P : ℕ → Bool) (priced : IsPriced (deposit_of prices graph)) (follows : Follows direction from to)
-    (held : IsHeld direction (deposit_of prices graph) from marks before) (is : HasIncreased direction prices marks to before.blocks before mine) (pit : IsPit mine P) where
+    (held : IsHeld direction (deposit_of prices graph) from marks before) (is : HasIncreased direction prices marks to before.blocks before mine) (pit : IsPit Least mine no_blocks_fixed P) where
   abbrev low : List ℤ
   low = (searched_mine direction (deposit_of prices graph) from before.pairs).values
 
@@ -274,20 +274,20 @@ module _ (direction : Direction) (prices : Prices) (graph : Graph) (from to : �
   old_values : (u : ℕ) → u < graph.blocks → held.set u ≡ true → value mine u ≡ value before u
   old_values u l on = is.kept u (held.marks_are u l ∙ on)
 
-  pit_before : IsPit (instance_of graph.blocks before.values before.pairs) held.set
-  pit_before = subst (λ (m : Instance). IsPit m held.set) (ap (λ n. instance_of n before.values before.pairs) held.blocks) held.here
+  pit_before : IsPit Least (instance_of graph.blocks before.values before.pairs) no_blocks_fixed held.set
+  pit_before = subst (λ (m : Instance). IsPit Least m no_blocks_fixed held.set) (ap (λ n. instance_of n before.values before.pairs) held.blocks) held.here
 
-  pit_now : IsPit (instance_of graph.blocks mine.values before.pairs) P
-  pit_now = subst (λ (m : Instance). IsPit m P) (ap (λ n. instance_of n mine.values mine.pairs) same_blocks ∙ ap (λ ps. instance_of graph.blocks mine.values ps) is.pairs) pit
+  pit_now : IsPit Least (instance_of graph.blocks mine.values before.pairs) no_blocks_fixed P
+  pit_now = subst (λ (m : Instance). IsPit Least m no_blocks_fixed P) (ap (λ n. instance_of n mine.values mine.pairs) same_blocks ∙ ap (λ ps. instance_of graph.blocks mine.values ps) is.pairs) pit
 
-  pit_high : IsPit (searched_mine direction (deposit_of prices graph) to before.pairs) P
+  pit_high : IsPit Least (searched_mine direction (deposit_of prices graph) to before.pairs) no_blocks_fixed P
   pit_high = pit_there graph.blocks before.pairs low high before.values mine.values held.set P more old_outside new_values old_values pit_before held.there pit_now
 
   same_pairs : ArePairsToward direction (deposit_of prices graph) mine.pairs
   same_pairs = subst (λ ps. ArePairsToward direction (deposit_of prices graph) ps) (sym is.pairs) held.pairs
 
-  pub pit_next : IsPit (searched_mine direction (deposit_of prices graph) to mine.pairs) P
-  pit_next = subst (λ ps. IsPit (searched_mine direction (deposit_of prices graph) to ps) P) (sym is.pairs) pit_high
+  pub pit_next : IsPit Least (searched_mine direction (deposit_of prices graph) to mine.pairs) no_blocks_fixed P
+  pit_next = subst (λ ps. IsPit Least (searched_mine direction (deposit_of prices graph) to ps) no_blocks_fixed P) (sym is.pairs) pit_high
 
   pub held_next : (new : List Bool) → length new ≡ mine.blocks → ((u : ℕ) → u < mine.blocks → marked new u ≡ P u) → IsHeld direction (deposit_of prices graph) to new mine
   held_next new size marks_are =
@@ -313,7 +313,7 @@ outside_toward : (direction : Direction) (deposit : Deposit) (factor : ℕ) (min
 outside_toward direction deposit factor mine is u l =
     ap (λ (m : Instance). value m u) (searched_is direction deposit factor mine is) ∙ value_toward direction deposit factor mine.pairs u l
 
-pub held_first : (direction : Direction) (prices : Prices) (graph : Graph) (factor : ℕ) (new : List Bool) (mine : Instance) (P : ℕ → Bool) → IsSearchedAt direction (deposit_of prices graph) factor mine → IsPit mine P
+pub held_first : (direction : Direction) (prices : Prices) (graph : Graph) (factor : ℕ) (new : List Bool) (mine : Instance) (P : ℕ → Bool) → IsSearchedAt direction (deposit_of prices graph) factor mine → IsPit Least mine no_blocks_fixed P
     → length new ≡ mine.blocks → ((u : ℕ) → u < mine.blocks → marked new u ≡ P u) → IsHeld direction (deposit_of prices graph) factor new mine
 held_first direction prices graph factor new mine P is pit size marks_are =
     let deposit = deposit_of prices graph in
@@ -326,12 +326,12 @@ held_first direction prices graph factor new mine P is pit size marks_are =
       pairs = pairs_toward direction deposit factor mine is;
       outside = λ u l off. outside_toward direction deposit factor mine is u l;
       here = pit;
-      there = subst (λ (m : Instance). IsPit m P) (searched_is direction deposit factor mine is) pit;
+      there = subst (λ (m : Instance). IsPit Least m no_blocks_fixed P) (searched_is direction deposit factor mine is) pit;
     }
 
 -- the pit of a factor, listed, is its shell
 pub is_shell : (direction : Direction) (prices : Prices) (graph : Graph) (factor : ℕ) (pairs : List (ℕ × ℕ)) (P : ℕ → Bool) (shell : Shell) → ArePairsToward direction (deposit_of prices graph) pairs
-    → IsPit (searched_mine direction (deposit_of prices graph) factor pairs) P → shell.pit.items ≡ members graph.blocks (set_toward direction P)
+    → IsPit Least (searched_mine direction (deposit_of prices graph) factor pairs) no_blocks_fixed P → shell.pit.items ≡ members graph.blocks (set_toward direction P)
     → shell.factor ≡ factor → shell.worth ≡ total (length shell.pit.items) (λ i. price_of prices factor (get_or shell.pit.items i 0)) → IsShell direction (deposit_of prices graph) shell
 is_shell direction prices graph factor pairs P shell are pit listed named sum =
     let deposit = deposit_of prices graph in
@@ -344,7 +344,7 @@ is_shell direction prices graph factor pairs P shell are pit listed named sum =
     record {
       set = set;
       listed = listed;
-      is_pit = subst (λ f. IsPitToward direction (mine_at deposit f) no_blocks_fixed set) (sym named) (pit_toward_is direction deposit factor pairs P are pit);
+      is_pit = subst (λ f. IsPit direction (mine_at deposit f) no_blocks_fixed set) (sym named) (pit_toward_is direction deposit factor pairs P are pit);
       worth_is = worth_is ∙ ap (λ f. worth (mine_at deposit f) set) (sym named);
     }
 
@@ -360,7 +360,7 @@ pub first_is_shell : (direction : Direction) (prices : Prices) (graph : Graph) (
 first_is_shell direction prices graph factor mine risen shell is solved =
     let deposit = deposit_of prices graph in
     is_shell direction prices graph factor mine.pairs solved.set shell (pairs_toward direction deposit factor mine is)
-    (subst (λ (m : Instance). IsPit m solved.set) (searched_is direction deposit factor mine is) solved.is_pit)
+    (subst (λ (m : Instance). IsPit Least m no_blocks_fixed solved.set) (searched_is direction deposit factor mine is) solved.is_pit)
     (solved.listed ∙ ap (λ n. members n (set_toward direction solved.set)) (blocks_toward direction deposit factor mine is)) solved.factor_is solved.worth_is
 
 module _ (direction : Direction) (prices : Prices) (graph : Graph) (from to : ℕ) (marks : List Bool) (before mine : Instance) (risen : ParametricState) (shell : Shell) (priced : IsPriced (deposit_of prices graph))

@@ -3,9 +3,8 @@ use Rattle.std.proofs.Common.{◌≡◌, ◌<◌, ℕ, List, inl, inr, length, �
 use Rattle.faults.specs.Refused.{no_memory}
 use Rattle.faults.specs.declared.fault.Fault.{Fault}
 use Rattle.pit_model.specs.declared.direction.Direction.{Direction}
-use Rattle.pit_model.specs.Direction.{no_blocks_fixed}
+use Rattle.pit_model.specs.Pit.{Fixed, no_blocks_fixed}
 use Rattle.pit_model.specs.Deposit.{Deposit}
-use Rattle.pit_model.specs.Fixed.{Fixed}
 use Rattle.pit_model.specs.Mine.{Instance}
 use Rattle.pit_model.specs.Shells.{IsRest}
 use Rattle.pit_search.specs.Searched.{OfSearched, RefusesFind}

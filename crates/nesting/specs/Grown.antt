@@ -3,7 +3,7 @@ use Rattle.std.specs.Prelude.{◌≡◌, ◌⊎◌, ◌<◌, ℕ, false, Bool, L
 use Rattle.faults.specs.declared.fault.Fault.{Fault}
 use Rattle.faults.specs.Refused.{no_memory}
 use Rattle.pit_model.specs.declared.direction.Direction.{Direction}
-use Rattle.pit_model.specs.Direction.{no_blocks_fixed}
+use Rattle.pit_model.specs.Pit.{no_blocks_fixed}
 use Rattle.pit_model.specs.Graph.{Graph}
 use Rattle.pit_model.specs.Mine.{Instance}
 use Rattle.pit_model.specs.Deposit.{Deposit, mine_on}

@@ -4,7 +4,7 @@ use Rattle.pit_model.specs.declared.shell.Shell.{Shell}
 use Rattle.pit_model.specs.Graph.{Graph}
 use Rattle.pit_model.specs.Mine.{members}
 use Rattle.pit_model.specs.declared.direction.Direction.{Direction}
-use Rattle.pit_model.specs.Direction.{IsPitToward, no_blocks_fixed}
+use Rattle.pit_model.specs.Pit.{IsPit, no_blocks_fixed}
 use Rattle.pit_model.specs.Part.{IsPart}
 use Rattle.pit_model.specs.Deposit.{mine_at}
 use Rattle.nesting.specs.Prices.{Prices, deposit_of}
@@ -16,7 +16,7 @@ amounts_of amounts blocks = map (λ u. get_or amounts u (pos 0)) blocks
 -- the part of a deposit on the pit toward a direction at a factor
 pub record IsOutermost (direction : Direction) (prices : Prices) (graph : Graph) (factor : ℕ) (blocks : List ℕ) (inner : Prices) (part : Graph) : Type 0 where
   pub set : ℕ → Bool
-  pub is_pit : IsPitToward direction (mine_at (deposit_of prices graph) factor) no_blocks_fixed set
+  pub is_pit : IsPit direction (mine_at (deposit_of prices graph) factor) no_blocks_fixed set
   pub is_part : IsPart graph set blocks part
   pub revenues : inner.revenues ≡ amounts_of prices.revenues blocks
   pub costs : inner.costs ≡ amounts_of prices.costs blocks

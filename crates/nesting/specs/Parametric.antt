@@ -5,7 +5,8 @@ use Rattle.std.specs.List.{range_with_len}
 use Rattle.pit_model.specs.Sum.{total}
 use Rattle.pit_model.specs.Graph.{AreSamePairs}
 use Rattle.pit_model.specs.Fixed.{transposed}
-use Rattle.pit_model.specs.Mine.{Instance, IsPit, instance_of, members, value}
+use Rattle.pit_model.specs.Pit.{IsPit, no_blocks_fixed}
+use Rattle.pit_model.specs.Mine.{Instance, instance_of, members, value}
 use Rattle.pit_model.specs.Deposit.{Deposit, mine_at, value_at}
 use Rattle.pit_model.specs.Direction.{IsDual}
 use Rattle.pit_model.specs.declared.direction.Direction.{Direction}
@@ -67,13 +68,13 @@ pub record IsHeld (direction : Direction) (deposit : Deposit) (factor : ℕ) (ma
   pub blocks : mine.blocks ≡ deposit.blocks
   pub pairs : ArePairsToward direction deposit mine.pairs
   pub outside : (u : ℕ) → u < deposit.blocks → set u ≡ false → value mine u ≡ searched_value direction (value_at deposit factor u)
-  pub here : IsPit mine set
-  pub there : IsPit (searched_mine direction deposit factor mine.pairs) set
+  pub here : IsPit Least mine no_blocks_fixed set
+  pub there : IsPit Least (searched_mine direction deposit factor mine.pairs) no_blocks_fixed set
 
 -- the same mine with its pit marked, and the shell that lists the pit toward the direction, with its worth at a factor
 pub record IsSolvedAt (direction : Direction) (prices : Prices) (factor : ℕ) (mine : Instance) (risen : ParametricState) (shell : Shell) : Type 0 where
   pub set : ℕ → Bool
-  pub is_pit : IsPit mine set
+  pub is_pit : IsPit Least mine no_blocks_fixed set
   pub same : risen.mine ≡ mine
   pub size : length risen.marks.items ≡ mine.blocks
   pub marks_are : (u : ℕ) → u < mine.blocks → marked risen.marks.items u ≡ set u

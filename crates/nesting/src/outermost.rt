@@ -3,7 +3,7 @@
 ghost use Rattle.std.specs.Prelude.{◌≡◌, ◌<◌, ◌≤◌, ℕ, not, map, length, get_or, IfOk, IfErr};
 ghost use Rattle.faults.specs.Refused.{no_memory};
 ghost use Rattle.pit_model.specs.Deposit.{mine_at};
-ghost use Rattle.pit_model.specs.Direction.{ListsPit, no_blocks_fixed};
+ghost use Rattle.pit_model.specs.Pit.{ListsPit, no_blocks_fixed};
 ghost use Rattle.nesting.specs.Grown.{IsUnlimited};
 ghost use Rattle.pit_model.specs.Shells.{AreShells};
 ghost use Rattle.nesting.specs.Outermost.{IsOutermost, IsLiftedShell, AreLifted, IsPlacedIn};

@@ -7,14 +7,14 @@ use Rattle.std.proofs.lemmas.List.Elements.{All-get_or}
 use Rattle.pit_model.specs.declared.direction.Direction.TheVariants.{Least}
 use Rattle.pit_model.specs.Mine.{Instance, PairsInRange, arcs, source, target, members}
 use Rattle.pit_model.specs.Certificate.{IsCertificate}
-use Rattle.pit_model.specs.Direction.{ListsPit}
-use Rattle.pit_model.specs.Fixed.{AreSettled, CertifiesOpen, Fixed, IsFixedCertificate, IsNothingFixed, fixed_of, graph_of_mine, is_among, is_open, transposed}
+use Rattle.pit_model.specs.Pit.{Fixed, ListsPit, no_blocks_fixed}
+use Rattle.pit_model.specs.Fixed.{AreSettled, CertifiesOpen, IsFixedCertificate, IsNothingFixed, fixed_of, graph_of_mine, is_among, is_open, transposed}
 use Rattle.pit_model.proofs.Duality.{certificate_gives_pit}
 use Rattle.pit_model.proofs.Fixed.{closure_is_one}
 use Rattle.pit_model.proofs.OpenCertificates.{none_fixed_certifies, open_certificate_gives_fixed_pit}
 use Rattle.mine_graph.specs.FixedBlocks.{FixedBlocks, IsFixedOf, forced_closure, barred_closure}
 use Rattle.mine_graph.proofs.Among.{among_at}
-use Rattle.optimality.specs.Check.{has, amount, open_in, AreAmounts, AreExcesses, AreReached, PairsAllow, BlocksAllow, ShowsPit}
+use Rattle.optimality.specs.Check.{has, amount, open_in, AreAmounts, AreExcesses, AreReached, PairsAllow, BlocksAllow}
 use Rattle.optimality.proofs.SameSet.{members_agree, reached_same}
 
 -- the same set, with what is dug and left by other names
@@ -143,5 +143,5 @@ none_fixed_is mine fixed dug left pit flow settled none = (
   λ c. record { dug = dug; left = left; settled = settled; set = c.set; listed = c.listed; counted = c.counted; certifies = (none_fixed_certifies mine fixed dug left c.set (amount flow) none settled).1 c.certifies },
 )
 
-pub shows : (mine : Instance) (pit : List ℕ) (flow : List ℤ) → PairsInRange mine → IsCertificate mine pit flow → ShowsPit mine pit
+pub shows : (mine : Instance) (pit : List ℕ) (flow : List ℤ) → PairsInRange mine → IsCertificate mine pit flow → ListsPit Least mine no_blocks_fixed pit
 shows mine pit flow range c = record { set = c.set; listed = c.listed; is_pit = certificate_gives_pit mine c.set (amount flow) range c.certifies }

@@ -3,7 +3,8 @@ use Rattle.std.specs.Prelude.{◌≡◌, ℕ, false, IsTrue, Option, Some, None}
 use Rattle.pit_model.specs.Mine.{Instance, arcs, members}
 use Rattle.pit_model.specs.Tree.{MineTree, is_strong, is_merger}
 use Rattle.pit_model.specs.Certificate.{IsCertificate}
-use Rattle.pit_model.specs.Fixed.{Fixed, IsFixedCertificate}
+use Rattle.pit_model.specs.Pit.{Fixed}
+use Rattle.pit_model.specs.Fixed.{IsFixedCertificate}
 use Rattle.optimality.specs.Check.{IsCandidate}
 use Rattle.optimality.specs.declared.pit_with_flow.Certificate.{Certificate}
 

@@ -2,7 +2,7 @@
 use Rattle.std.specs.Prelude.{◌≡◌, ℕ, ◌^◌, ◌<◌, ℤ, pos, ◌≤ℤ◌, Bool, false, not, ◌&&◌, ◌||◌, ◌↔◌, IsTrue, List, length, get_or}
 use Rattle.std.specs.List.{All}
 use Rattle.pit_model.specs.Graph.{first_of, second_of}
-use Rattle.pit_model.specs.Mine.{Instance, value, members, IsPit}
+use Rattle.pit_model.specs.Mine.{Instance, value, members}
 use Rattle.pit_model.specs.Flow.{excess}
 use Rattle.pit_model.specs.Certificate.{IsReached}
 use Rattle.pit_model.specs.Limits.{Between}
@@ -33,12 +33,6 @@ pub record IsCandidate (n m : ℕ) (pit : List ℕ) (flow : List ℤ) : Type 0 w
   pub rising : AreAscending pit
   pub counted : length flow ≡ m
   pub amounts : AreAmounts flow
-
--- the list is that of the pit: of the smallest closed set of greatest worth
-pub record ShowsPit (mine : Instance) (pit : List ℕ) : Type 0 where
-  pub set : ℕ → Bool
-  pub listed : pit ≡ members mine.blocks set
-  pub is_pit : IsPit mine set
 
 abbrev pub AreValues : Instance → List ℤ → Type 0
 AreValues mine numbers = (u : ℕ) → u < mine.blocks → get_or numbers u (pos 0) ≡ value mine u

@@ -6,7 +6,7 @@ ghost use Rattle.faults.specs.Refused.{no_memory};
 ghost use Rattle.pit_model.specs.Mine.{arcs, members};
 ghost use Rattle.pit_model.specs.Certificate.{IsCertificate};
 ghost use Rattle.pit_model.specs.Size.{most_blocks};
-ghost use Rattle.pit_model.specs.Direction.{ListsPit};
+ghost use Rattle.pit_model.specs.Pit.{ListsPit};
 ghost use Rattle.pit_model.specs.Fixed.{IsFixedCertificate, IsNothingFixed, fixed_of, graph_of_mine};
 ghost use Rattle.pit_model.specs.declared.direction.Direction.TheVariants.{Least};
 ghost use Rattle.mine_graph.specs.FixedBlocks.{IsFixedOf};

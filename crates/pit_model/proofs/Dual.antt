@@ -1,68 +1,26 @@
 -- A set is closed where its complement is closed along the transposed pairs, and worth what all blocks are worth and the
 -- complement with negated values. So what lies within all others on the one side holds all others on the other.
-use Rattle.std.proofs.Common.{◌≡◌, ℕ, zero, suc, ◌+◌, ◌-◌, ◌<◌, ◌≤◌, List, length, ◌||◌, not, Bool, true, false, refl, sym, ap, ◌∙◌, arith, ⊎_elim, get_or}
-use Rattle.std.specs.Prelude.{ℤ, pos, ◌-ℤ◌, ◌≤ℤ◌}
+use Rattle.std.proofs.Common.{◌≡◌, ℕ, zero, suc, ◌+◌, ◌-◌, ◌<◌, ◌≤◌, List, length, not, Bool, true, false, refl, sym, ap, ◌∙◌, arith, ⊎_elim}
+use Rattle.std.specs.Prelude.{ℤ, pos, ◌-ℤ◌}
 use Rattle.std.proofs.lemmas.Bool.{cases_Bool, cases_eq, true≢false}
 use Rattle.std.proofs.lemmas.Int.{ints}
-use Rattle.pit_model.specs.declared.direction.Direction.TheVariants.{Least, Greatest}
+use Rattle.pit_model.specs.declared.direction.Direction.TheVariants.{Greatest}
 use Rattle.pit_model.specs.Sum.{total, when}
 use Rattle.pit_model.specs.Graph.{first_of, second_of}
 use Rattle.pit_model.specs.Mine.{Instance, IsClosed, value, worth}
-use Rattle.pit_model.specs.Fixed.{IsClosedAlong, IsNothingFixed, is_open, mine_among, transposed}
-use Rattle.pit_model.specs.Direction.{ComplementIsGreatest, IsDual, LeastWithinGreatest, RestGivesPitToward, DualGivesGreatest, TransposedHasNoCycle, no_blocks_fixed}
-use Rattle.pit_model.specs.Uniqueness.{GreatestIsOne}
+use Rattle.pit_model.specs.Fixed.{IsClosedAlong, mine_among, transposed}
+use Rattle.pit_model.specs.Direction.{ComplementIsGreatest, IsDual, LeastWithinGreatest, DualGivesGreatest, TransposedHasNoCycle}
 use Rattle.pit_model.proofs.Sums.{total-same, total-sub}
-use Rattle.pit_model.proofs.Members.{members_ext}
 use Rattle.pit_model.proofs.SamePairs.{closed_in, turned as other_way}
-use Rattle.pit_model.proofs.Uniqueness.{same_truth}
-use Rattle.pit_model.proofs.Rest.{after_best, after_closed, level, wide_rest, within_after}
-use Rattle.pit_model.proofs.Fixed.{closed_is_allowed, closed_upward, complement_closed, joined_allowed, none_fixes_nothing, rest_gives_fixed_pit, rest_on, rival, split_of, transposed_at, transposed_count}
-
-pub nothing_fixed : IsNothingFixed no_blocks_fixed
-nothing_fixed = record { none_forced = λ u. refl; none_barred = λ u. refl }
-
-pub greatest_is_one : GreatestIsOne
-greatest_is_one mine fixed pit other is is_other =
-    let up = is.best other is_other.allowed in
-    let down = is_other.best pit is.allowed in
-    let even : worth mine other ≡ worth mine pit = omega (arith, ints) in
-    let same : (u : ℕ) → u < mine.blocks → pit u ≡ other u =
-    λ u below. same_truth (pit u) (other u) (is_other.largest pit is.allowed (sym even) u below) (is.largest other is_other.allowed even u below) in
-    record {
-      blocks = same;
-      listed = members_ext mine.blocks pit other same;
-      worths = sym even;
-    }
+use Rattle.pit_model.proofs.Pits.{closed_best, closed_extreme, free}
+use Rattle.pit_model.proofs.Fixed.{closed_upward, complement_closed, rest_gives_pit, transposed_at, transposed_count}
 
 pub least_within_greatest : LeastWithinGreatest
 least_within_greatest mine fixed least greatest is is_other =
     let up = is.best greatest is_other.allowed in
     let down = is_other.best least is.allowed in
     let even : worth mine least ≡ worth mine greatest = omega (arith, ints) in
-    is_other.largest least is.allowed even
-
-pub rest_gives_pit_toward : RestGivesPitToward
-rest_gives_pit_toward Least mine fixed dug left blocks part found after rest pit join =
-    rest_gives_fixed_pit mine fixed dug left blocks part found after rest ((none_fixes_nothing (mine_among mine blocks part) no_blocks_fixed found nothing_fixed).0 pit) join
-rest_gives_pit_toward Greatest mine fixed dug left blocks part found after rest pit join =
-    let small = mine_among mine blocks part in
-    let split = split_of mine fixed dug left blocks part rest in
-    let is = rest_on mine fixed dug left blocks part rest in
-    let open_blocks = is_open dug left in
-    let closed = pit.allowed.closed in
-    let best : (other : ℕ → Bool) → IsClosed small other → worth small other ≤ℤ worth small found = λ other c. pit.best other (closed_is_allowed small no_blocks_fixed nothing_fixed other c) in
-    record {
-      allowed = joined_allowed mine fixed dug left blocks part rest found after join
-          (after_closed mine dug left open_blocks blocks small found after split is join closed best);
-      best = λ other ok. after_best mine dug left open_blocks blocks small found after split is join closed best other (rival mine fixed dug left blocks part rest other ok);
-      largest = λ other ok same.
-          let is_rival = rival mine fixed dug left blocks part rest other ok in
-          within_after mine dug left open_blocks blocks small found after split is join closed best other is_rival same
-          (pit.largest (λ i. dug (get_or blocks i 0) || other (get_or blocks i 0))
-          (closed_is_allowed small no_blocks_fixed nothing_fixed (λ i. dug (get_or blocks i 0) || other (get_or blocks i 0))
-          (wide_rest mine dug left open_blocks blocks small found after split is join closed best other is_rival))
-          (level mine dug left open_blocks blocks small found after split is join closed best other is_rival same));
-    }
+    is_other.extreme least is.allowed even
 
 -- ---- transposed
 
@@ -109,22 +67,22 @@ pub complement_is_greatest : ComplementIsGreatest
 complement_is_greatest mine other found is pit =
     let at = worth_of_dual mine other is found in
     record {
-      allowed = closed_is_allowed mine no_blocks_fixed nothing_fixed (λ u. not (found u)) (closed_back mine other is found pit.closed);
+      allowed = free mine (λ u. not (found u)) (closed_back mine other is found pit.allowed.closed);
       best = λ set ok.
-          let low = pit.best (λ u. not (set u)) (closed_transposed mine other is set ok.closed) in
+          let low = closed_best pit (λ u. not (set u)) (closed_transposed mine other is set ok.closed) in
           let back = worth_back mine other is set in
           omega (arith, ints);
-      largest = λ set ok same u l h.
+      extreme = λ set ok same u l h.
           let back = worth_back mine other is set in
           let even : worth other (λ v. not (set v)) ≡ worth other found = omega (arith, ints) in
           let size = is.reversed.same_blocks in
           let below : u < other.blocks = omega arith in
-          dual_truth (found u) (set u) (pit.smallest (λ v. not (set v)) (closed_transposed mine other is set ok.closed) even u below) h;
+          dual_truth (found u) (set u) (closed_extreme pit (λ v. not (set v)) (closed_transposed mine other is set ok.closed) even u below) h;
     }
 
 pub dual_gives_greatest : DualGivesGreatest
 dual_gives_greatest mine fixed dug left blocks part other found after rest is pit join =
-    rest_gives_pit_toward Greatest mine fixed dug left blocks part (λ i. not (found i)) after rest
+    rest_gives_pit Greatest mine fixed dug left blocks part (λ i. not (found i)) after rest
     (complement_is_greatest (mine_among mine blocks part) other found is pit) join
 
 -- no first block of a pair lies higher than all their heights together; so heights counted down from there fall along the transposed pairs

@@ -7,13 +7,11 @@ use Rattle.pit_model.specs.Sum.{when}
 use Rattle.pit_model.specs.Mine.{Instance, instance_of, source, target, value}
 use Rattle.pit_model.specs.Certificate.{IsReached}
 use Rattle.pit_model.specs.Fixed.{is_among}
-use Rattle.pit_model.specs.Direction.{no_blocks_fixed}
 use Rattle.pit_model.specs.Fixed.IsRestOf.{all_open}
 use Rattle.pit_model.specs.ExampleMines.{cut_fork, two_blocks}
 use Rattle.pit_model.specs.ExamplePits.{CertificatesOfSmallMines, PitsOfTwoBlocks, amounts, loss}
 use Rattle.pit_model.proofs.Duality.{certificate_gives_pit}
-use Rattle.pit_model.proofs.Fixed.{closed_is_allowed}
-use Rattle.pit_model.proofs.Dual.{nothing_fixed}
+use Rattle.pit_model.proofs.Pits.{closed_extreme, free, nothing_fixed}
 use Rattle.pit_model.proofs.Tested.{certified, closed_at, each_below, implied, in_range}
 
 -- blocks 1 and 2 of the fork, of which 1 has an excess
@@ -67,15 +65,15 @@ pits_of_two_blocks =
       worth_is = refl;
       breaks_even = certificate_gives_pit even (is_among []) (amounts (pos 5 ∷ [])) (in_range even refl)
           (certified even (is_among []) (amounts (pos 5 ∷ [])) refl refl refl refl refl (λ u l h. absurd (false≢true h)));
-      not_both = λ pit. absurd (false≢true (pit.smallest (is_among []) (λ k l h. absurd (false≢true h)) refl 0 (omega arith) refl));
+      not_both = λ pit. absurd (false≢true (closed_extreme pit (is_among []) (λ k l h. absurd (false≢true h)) refl 0 (omega arith) refl));
       not_alone = λ alone. absurd (false≢true (alone 0 (omega arith) refl));
       waste_alone = λ k l h. implied _ _ (each_below 1 (closed_at even (is_among (0 ∷ []))) refl k l) h;
       greatest = record {
-        allowed = closed_is_allowed even no_blocks_fixed nothing_fixed both closed;
+        allowed = free even both closed;
         best = λ other ok. even_worth (other 0) (other 1) (ok.closed 0 (omega arith));
-        largest = λ other ok equal u l h. both_in u l;
+        extreme = λ other ok equal u l h. both_in u l;
       };
-      not_nothing = λ pit. absurd (false≢true (pit.largest both (closed_is_allowed even no_blocks_fixed nothing_fixed both closed) refl 0 (omega arith) refl));
+      not_nothing = λ pit. absurd (false≢true (closed_extreme pit both closed refl 0 (omega arith) refl));
       searched = (
         even,
         all_open nothing_fixed refl,

@@ -12,19 +12,18 @@ use Rattle.pit_model.specs.Mine.{members, worth}
 use Rattle.pit_model.specs.Certificate.{IsReached}
 use Rattle.pit_model.specs.Deposit.{Deposit, mine_at}
 use Rattle.pit_model.specs.Fixed.{is_among}
-use Rattle.pit_model.specs.Direction.{IsPitToward, no_blocks_fixed}
+use Rattle.pit_model.specs.Pit.{IsPit, no_blocks_fixed}
 use Rattle.pit_model.specs.Shells.{IsShell}
 use Rattle.pit_model.specs.Uniqueness.{plain}
 use Rattle.pit_model.specs.ExampleMines.{pair_deposit, three_deposit}
 use Rattle.pit_model.specs.ExamplePits.{ShellsOfPair, amounts, loss}
 use Rattle.pit_model.proofs.Duality.{certificate_gives_pit}
-use Rattle.pit_model.proofs.Fixed.{closed_is_allowed, none_fixes_nothing}
-use Rattle.pit_model.proofs.Dual.{nothing_fixed}
+use Rattle.pit_model.proofs.Pits.{free}
 use Rattle.pit_model.proofs.Tested.{certified, closed_at, each_below, implied, in_range}
 
 shell_of :
     (direction : Direction) (deposit : Deposit) (shell : Shell) (factor : ℕ) (pit : List ℕ) (its_worth : ℤ) (set : ℕ → Bool) → plain shell ≡ (factor, pit, its_worth)
-    → pit ≡ members deposit.blocks set → IsPitToward direction (mine_at deposit factor) no_blocks_fixed set → its_worth ≡ worth (mine_at deposit factor) set
+    → pit ≡ members deposit.blocks set → IsPit direction (mine_at deposit factor) no_blocks_fixed set → its_worth ≡ worth (mine_at deposit factor) set
     → IsShell direction deposit shell
 shell_of direction deposit shell factor pit its_worth set is listed is_pit worth_is =
     let at : shell.factor ≡ factor = ap (λ (p : ℕ × List ℕ × ℤ). p.0) is in
@@ -33,7 +32,7 @@ shell_of direction deposit shell factor pit its_worth set is listed is_pit worth
     record {
       set = set;
       listed = blocks ∙ listed;
-      is_pit = subst (λ f. IsPitToward direction (mine_at deposit f) no_blocks_fixed set) (sym at) is_pit;
+      is_pit = subst (λ f. IsPit direction (mine_at deposit f) no_blocks_fixed set) (sym at) is_pit;
       worth_is = worths ∙ worth_is ∙ ap (λ f. worth (mine_at deposit f) set) (sym at);
     }
 
@@ -53,18 +52,17 @@ both_in (suc zero) l = refl
 both_in (suc (suc u)) l = absurd (omega arith)
 
 -- at 400 nothing, by a flow that takes all that the second block is worth
-least_at_400 : IsPitToward Least (mine_at pair_deposit 400) no_blocks_fixed (is_among [])
+least_at_400 : IsPit Least (mine_at pair_deposit 400) no_blocks_fixed (is_among [])
 least_at_400 =
-    (none_fixes_nothing (mine_at pair_deposit 400) no_blocks_fixed (is_among []) nothing_fixed).1
-    (certificate_gives_pit (mine_at pair_deposit 400) (is_among []) (amounts (pos 3000000000 ∷ [])) (in_range (mine_at pair_deposit 400) refl)
-    (certified (mine_at pair_deposit 400) (is_among []) (amounts (pos 3000000000 ∷ [])) refl refl refl refl refl (λ u l h. absurd (false≢true h))))
+    certificate_gives_pit (mine_at pair_deposit 400) (is_among []) (amounts (pos 3000000000 ∷ [])) (in_range (mine_at pair_deposit 400) refl)
+    (certified (mine_at pair_deposit 400) (is_among []) (amounts (pos 3000000000 ∷ [])) refl refl refl refl refl (λ u l h. absurd (false≢true h)))
 
-greatest_at_400 : IsPitToward Greatest (mine_at pair_deposit 400) no_blocks_fixed both
+greatest_at_400 : IsPit Greatest (mine_at pair_deposit 400) no_blocks_fixed both
 greatest_at_400 = record {
-  allowed = closed_is_allowed (mine_at pair_deposit 400) no_blocks_fixed nothing_fixed both
+  allowed = free (mine_at pair_deposit 400) both
       (λ k l h. implied (both (first_of pair_deposit.pairs k)) (both (second_of pair_deposit.pairs k)) (each_below 1 (closed_at (mine_at pair_deposit 400) both) refl k l) h);
   best = λ other ok. even_worth (other 0) (other 1) (ok.closed 0 (omega arith));
-  largest = λ other ok equal u l h. both_in u l;
+  extreme = λ other ok equal u l h. both_in u l;
 }
 
 reached_at_1000 : (u : ℕ) → u < 2 → both u ≡ true → (steps : ℕ) × IsReached (mine_at pair_deposit 1000) both (amounts (pos 3000000000 ∷ [])) u steps
@@ -72,11 +70,10 @@ reached_at_1000 zero l h = (1, (refl, (1, omega arith, (refl, omega (arith, ints
 reached_at_1000 (suc zero) l h = (0, (refl, omega (arith, ints)))
 reached_at_1000 (suc (suc u)) l h = absurd (omega arith)
 
-least_at_1000 : IsPitToward Least (mine_at pair_deposit 1000) no_blocks_fixed both
+least_at_1000 : IsPit Least (mine_at pair_deposit 1000) no_blocks_fixed both
 least_at_1000 =
-    (none_fixes_nothing (mine_at pair_deposit 1000) no_blocks_fixed both nothing_fixed).1
-    (certificate_gives_pit (mine_at pair_deposit 1000) both (amounts (pos 3000000000 ∷ [])) (in_range (mine_at pair_deposit 1000) refl)
-    (certified (mine_at pair_deposit 1000) both (amounts (pos 3000000000 ∷ [])) refl refl refl refl refl reached_at_1000))
+    certificate_gives_pit (mine_at pair_deposit 1000) both (amounts (pos 3000000000 ∷ [])) (in_range (mine_at pair_deposit 1000) refl)
+    (certified (mine_at pair_deposit 1000) both (amounts (pos 3000000000 ∷ [])) refl refl refl refl refl reached_at_1000)
 
 reached_at_500 : (u : ℕ) → u < 3 → both u ≡ true → (steps : ℕ) × IsReached (mine_at three_deposit 500) both (amounts (pos 3000000000 ∷ pos 0 ∷ [])) u steps
 reached_at_500 zero l h = (1, (refl, (1, omega arith, (refl, omega (arith, ints)), (0, omega arith, inl (refl, refl)))))
@@ -84,11 +81,10 @@ reached_at_500 (suc zero) l h = (0, (refl, omega (arith, ints)))
 reached_at_500 (suc (suc zero)) l h = absurd (false≢true h)
 reached_at_500 (suc (suc (suc u))) l h = absurd (omega arith)
 
-least_at_500 : IsPitToward Least (mine_at three_deposit 500) no_blocks_fixed both
+least_at_500 : IsPit Least (mine_at three_deposit 500) no_blocks_fixed both
 least_at_500 =
-    (none_fixes_nothing (mine_at three_deposit 500) no_blocks_fixed both nothing_fixed).1
-    (certificate_gives_pit (mine_at three_deposit 500) both (amounts (pos 3000000000 ∷ pos 0 ∷ [])) (in_range (mine_at three_deposit 500) refl)
-    (certified (mine_at three_deposit 500) both (amounts (pos 3000000000 ∷ pos 0 ∷ [])) refl refl refl refl refl reached_at_500))
+    certificate_gives_pit (mine_at three_deposit 500) both (amounts (pos 3000000000 ∷ pos 0 ∷ [])) (in_range (mine_at three_deposit 500) refl)
+    (certified (mine_at three_deposit 500) both (amounts (pos 3000000000 ∷ pos 0 ∷ [])) refl refl refl refl refl reached_at_500)
 
 -- outside of the shell at 500 is block 2 alone, and both pairs end in the shell
 no_pair_left : (l : ℕ) → l < 2 → not (both (second_of three_deposit.pairs l)) ≡ true → ⊥

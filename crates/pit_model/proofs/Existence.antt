@@ -11,20 +11,23 @@ use Rattle.pit_model.specs.declared.direction.Direction.{Direction}
 use Rattle.pit_model.specs.declared.direction.Direction.TheVariants.{Greatest, Least}
 use Rattle.pit_model.specs.Graph.{Graph}
 use Rattle.pit_model.specs.Mine.{Instance, IsSimple, arcs, source, target, value}
-use Rattle.pit_model.specs.Fixed.{Fixed, IsClashFree, IsFixedJoined, IsFixedRest, graph_of_mine, is_open, mine_among, transposed}
-use Rattle.pit_model.specs.Direction.{IsPitToward, IsDual, no_blocks_fixed}
+use Rattle.pit_model.specs.Pit.{Fixed, IsPit, no_blocks_fixed}
+use Rattle.pit_model.specs.Fixed.IsRestOf.{all_open, some_fixed}
+use Rattle.pit_model.specs.Fixed.{IsClashFree, IsFixedJoined, IsFixedRest, graph_of_mine, is_open, mine_among, transposed}
+use Rattle.pit_model.specs.Direction.{IsDual}
 use Rattle.pit_model.specs.Tree.{Tree, flow, is_merger, is_strong, opening, IsNormalised}
 use Rattle.pit_model.specs.Merger.{merged}
 use Rattle.pit_model.specs.Rank.{rank}
 use Rattle.pit_model.specs.FirstRun.{HasMerger, HasNoMerger, IsFirstMerger, first_merger, first_run}
 use Rattle.pit_model.specs.Journal.{applied_count, replay}
-use Rattle.pit_model.specs.Existence.{BudgetSuffices, PitExists, PitTowardExists}
+use Rattle.pit_model.specs.Existence.{BudgetSuffices, PitExists}
 use Rattle.pit_model.proofs.Duality.{certificate_gives_pit}
-use Rattle.pit_model.proofs.Fixed.{none_fixes_nothing, settled_are_apart, transposed_at, transposed_count}
+use Rattle.pit_model.proofs.Pits.{keeps_to_none}
+use Rattle.pit_model.proofs.Fixed.{rest_gives_pit, settled_are_apart, transposed_at, transposed_count}
 use Rattle.pit_model.proofs.OneRest.{part_once}
 use Rattle.pit_model.proofs.Rest.{part_each}
 use Rattle.pit_model.proofs.Simple.{graph_is_simple}
-use Rattle.pit_model.proofs.Dual.{complement_is_greatest, nothing_fixed, rest_gives_pit_toward}
+use Rattle.pit_model.proofs.Dual.{complement_is_greatest}
 use Rattle.pit_model.proofs.FirstRuns.{after_first_none, after_first_some, first_merger_is_least, first_run-suc, first_run-zero, first_run_is_normalised}
 use Rattle.pit_model.proofs.Gathered.{merger_keeps_normalised}
 use Rattle.pit_model.proofs.Journals.{journal_keeps_normalised, replayed}
@@ -80,8 +83,8 @@ module _ (mine : Instance) (simple : IsSimple mine) where
 size_of : (x : ℤ) → x ≤ℤ pos (unsigned_abs x)
 size_of x = omega (arith, ints)
 
-pub pit_exists : PitExists
-pit_exists mine simple =
+least_exists : (mine : Instance) → IsSimple mine → (set : ℕ → Bool) × IsPit Least mine no_blocks_fixed set
+least_exists mine simple =
     let first = opening mine in
     let end = settle mine simple (unsigned_abs (rank mine first)) first (opening_is_normalised mine) (size_of (rank mine first)) in
     let tree = end.0 in (
@@ -148,10 +151,10 @@ module _ (mine : Instance) (simple : IsSimple mine) where
         simple.one_way k l at.0 there.0 (sym at.2 ∙ b ∙ there.1) (sym at.1 ∙ a ∙ there.2);
   }
 
-free_exists : (direction : Direction) (mine : Instance) → IsSimple mine → (set : ℕ → Bool) × IsPitToward direction mine no_blocks_fixed set
-free_exists Least mine simple = let pit = pit_exists mine simple in (pit.0, (none_fixes_nothing mine no_blocks_fixed pit.0 nothing_fixed).1 pit.1)
+free_exists : (direction : Direction) (mine : Instance) → IsSimple mine → (set : ℕ → Bool) × IsPit direction mine no_blocks_fixed set
+free_exists Least mine simple = least_exists mine simple
 free_exists Greatest mine simple =
-    let pit = pit_exists (dual_mine mine simple) (dual_simple mine simple) in
+    let pit = least_exists (dual_mine mine simple) (dual_simple mine simple) in
     (λ u. not (pit.0 u), complement_is_greatest mine (dual_mine mine simple) pit.0 (dual_is mine simple) pit.1)
 
 differs : (a b : ℕ) → (a ≡ b → ⊥) → eqb a b ≡ false
@@ -184,10 +187,14 @@ module _ (mine : Instance) (fixed : Fixed) (dug left : ℕ → Bool) (blocks : L
         ∙ ap (λ b. b && found (position_or_len (λ w. eqb w v) blocks)) opened ∙ ap found (place_of i l);
   }
 
-pub pit_toward_exists : PitTowardExists
-pit_toward_exists direction mine fixed dug left blocks part rest free =
+pub pit_exists : PitExists
+pit_exists direction mine fixed rest (all_open none same) simple free =
+    let pit = free_exists direction mine (subst IsSimple same simple) in
+    (pit.0, keeps_to_none direction mine fixed pit.0 none pit.1)
+pit_exists direction mine fixed rest (some_fixed u some dug left blocks part is same) simple free =
     let small = mine_among mine blocks part in
-    let pit = free_exists direction small (graph_is_simple small rest.is_graph) in (
-      after mine fixed dug left blocks part rest free pit.0,
-      rest_gives_pit_toward direction mine fixed dug left blocks part pit.0 (after mine fixed dug left blocks part rest free pit.0) rest pit.1 (joined mine fixed dug left blocks part rest free pit.0),
+    let apart = free dug is.settled.dug_is in
+    let pit = free_exists direction small (graph_is_simple small is.is_graph) in (
+      after mine fixed dug left blocks part is apart pit.0,
+      rest_gives_pit direction mine fixed dug left blocks part pit.0 (after mine fixed dug left blocks part is apart pit.0) is pit.1 (joined mine fixed dug left blocks part is apart pit.0),
     )

@@ -14,12 +14,12 @@ use Rattle.pit_model.specs.Deposit.{Deposit, graph_of, mine_at, values_at}
 use Rattle.pit_model.specs.Shells.{IsShellBefore, factor_of}
 use Rattle.pit_model.specs.FirstRun.{HasMerger, HasNoMerger, first_run}
 use Rattle.pit_model.specs.OneEnd.{BudgetEndsOneWay, PartsAreOne, SearchedIsOne, ShellRestIsOne}
-use Rattle.pit_model.specs.Direction.{IsSearched, IsDual, no_blocks_fixed}
+use Rattle.pit_model.specs.Pit.{no_blocks_fixed}
+use Rattle.pit_model.specs.Direction.{IsSearched, IsDual}
 use Rattle.pit_model.proofs.OneOrder.{pairs_have_one_order}
 use Rattle.pit_model.proofs.Members.{members_ext}
 use Rattle.pit_model.proofs.OneRest.{one_part, rest_is_one}
-use Rattle.pit_model.proofs.OneShells.{pit_toward_is_one}
-use Rattle.pit_model.proofs.Uniqueness.{same_truth}
+use Rattle.pit_model.proofs.Uniqueness.{pit_is_one, same_truth}
 
 -- a set that no pair leaves holds both of two blocks that are joined, or neither
 joined : (graph : Graph) (set : ℕ → Bool) → ((k : ℕ) → k < length graph.pairs → set (first_of graph.pairs k) ≡ set (second_of graph.pairs k)) → (u v : ℕ) → AreNeighbours graph.pairs u v → set u ≡ set v
@@ -54,7 +54,7 @@ parts_are_one graph set other root second u is is_other l here there =
 before_is_one : (direction : Direction) (deposit : Deposit) (factors : List ℕ) (k : ℕ) (before other : ℕ → Bool) → IsShellBefore direction deposit factors k before
     → IsShellBefore direction deposit factors k other → (u : ℕ) → u < deposit.blocks → before u ≡ other u
 before_is_one direction deposit factors zero before other is is_other u l = is u ∙ sym (is_other u)
-before_is_one direction deposit factors (suc k) before other is is_other u l = (pit_toward_is_one direction (mine_at deposit (factor_of factors k)) before other is is_other).blocks u l
+before_is_one direction deposit factors (suc k) before other is is_other u l = (pit_is_one direction (mine_at deposit (factor_of factors k)) no_blocks_fixed before other is is_other).blocks u l
 
 pub shell_rest_is_one : ShellRestIsOne
 shell_rest_is_one direction deposit factors k rest other is is_other =

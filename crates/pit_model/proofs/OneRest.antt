@@ -6,7 +6,8 @@ use Rattle.pit_model.specs.Graph.{Graph, IsGraph, first_of, second_of}
 use Rattle.pit_model.specs.Mine.{instance_of, value}
 use Rattle.pit_model.specs.Part.{IsPart}
 use Rattle.pit_model.specs.Fixed.IsRestOf.{all_open, some_fixed}
-use Rattle.pit_model.specs.Fixed.{Fixed, IsNothingFixed, graph_of_mine, is_open}
+use Rattle.pit_model.specs.Pit.{Fixed}
+use Rattle.pit_model.specs.Fixed.{IsNothingFixed, graph_of_mine, is_open}
 use Rattle.pit_model.specs.Uniqueness.{RestIsOne}
 use Rattle.pit_model.proofs.Members.{members_ext, members_rise}
 use Rattle.pit_model.proofs.Fixed.{closure_is_one}

@@ -10,28 +10,21 @@ use Rattle.std.proofs.lemmas.List.Folds.{flat_map-map}
 use Rattle.std.proofs.lemmas.Option.{slice_get-map}
 use Rattle.pit_model.specs.declared.shell.Shell.{Shell}
 use Rattle.pit_model.specs.declared.direction.Direction.{Direction}
-use Rattle.pit_model.specs.declared.direction.Direction.TheVariants.{Least, Greatest}
-use Rattle.pit_model.specs.Mine.{Instance, worth}
+use Rattle.pit_model.specs.Mine.{worth}
 use Rattle.pit_model.specs.Deposit.{Deposit, mine_at}
 use Rattle.pit_model.specs.PitText.{with_decimals}
 use Rattle.pit_model.specs.Shells.{IsShell}
 use Rattle.pit_model.specs.ShellText.{shells_head, shell_line, block_factor_line, has_block, first_factor, last_pit, shells_text}
-use Rattle.pit_model.specs.Direction.{IsPitToward, no_blocks_fixed}
-use Rattle.pit_model.specs.Uniqueness.{AreOneSet, ShellsAreOne, plain}
-use Rattle.pit_model.proofs.Fixed.{fixed_pit_is_one}
-use Rattle.pit_model.proofs.Dual.{greatest_is_one}
+use Rattle.pit_model.specs.Pit.{IsPit, no_blocks_fixed}
+use Rattle.pit_model.specs.Uniqueness.{ShellsAreOne, plain}
+use Rattle.pit_model.proofs.Uniqueness.{pit_is_one}
 
 abbrev pub Plain : Type 0
 Plain = ℕ × List ℕ × ℤ
 
--- toward each direction two pits are one set
-pub pit_toward_is_one : (direction : Direction) (mine : Instance) (pit other : ℕ → Bool) → IsPitToward direction mine no_blocks_fixed pit → IsPitToward direction mine no_blocks_fixed other → AreOneSet mine pit other
-pit_toward_is_one Least mine pit other is is_other = fixed_pit_is_one mine no_blocks_fixed pit other is is_other
-pit_toward_is_one Greatest mine pit other is is_other = greatest_is_one mine no_blocks_fixed pit other is is_other
-
 one_shell : (direction : Direction) (deposit : Deposit) (s t : Shell) → IsShell direction deposit s → IsShell direction deposit t → s.factor ≡ t.factor → plain s ≡ plain t
 one_shell direction deposit s t is is_other at =
-    let one = pit_toward_is_one direction (mine_at deposit s.factor) is.set is_other.set is.is_pit (subst (λ k. IsPitToward direction (mine_at deposit k) no_blocks_fixed is_other.set) (sym at) is_other.is_pit) in
+    let one = pit_is_one direction (mine_at deposit s.factor) no_blocks_fixed is.set is_other.set is.is_pit (subst (λ k. IsPit direction (mine_at deposit k) no_blocks_fixed is_other.set) (sym at) is_other.is_pit) in
     let blocks : s.pit.items ≡ t.pit.items = is.listed ∙ one.listed ∙ sym is_other.listed in
     let worths : s.worth ≡ t.worth = is.worth_is ∙ one.worths ∙ ap (λ k. worth (mine_at deposit k) is_other.set) at ∙ sym is_other.worth_is in
     ap (λ k. (k, s.pit.items, s.worth)) at ∙ ap (λ xs. (t.factor, xs, s.worth)) blocks ∙ ap (λ w. (t.factor, t.pit.items, w)) worths

@@ -6,7 +6,7 @@ use Rattle.pit_model.specs.declared.journal.Verdict.TheVariants.{Applied}
 use Rattle.pit_model.specs.declared.shell.Shell.{Shell}
 use Rattle.pit_model.specs.Graph.{AreApart}
 use Rattle.pit_model.specs.Fixed.{AreFixable}
-use Rattle.pit_model.specs.Direction.{ListsPit, no_blocks_fixed}
+use Rattle.pit_model.specs.Pit.{ListsPit, no_blocks_fixed}
 use Rattle.pit_model.specs.JournalText.{AreSeatedBelow}
 use Rattle.pit_model.specs.Shells.{IsWithin}
 use Rattle.pit_model.specs.Uniqueness.{plain}

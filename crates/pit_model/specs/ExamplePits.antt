@@ -3,12 +3,13 @@
 use Rattle.std.specs.Prelude.{◌≡◌, ℕ, ℤ, pos, neg_ℤ, List, [], ◌∷◌, get_or}
 use Rattle.pit_model.specs.declared.direction.Direction.TheVariants.{Greatest, Least}
 use Rattle.pit_model.specs.declared.shell.Shell.{Shell}
-use Rattle.pit_model.specs.Mine.{instance_of, IsClosed, IsPit, worth}
+use Rattle.pit_model.specs.Pit.{Fixed, IsPit, no_blocks_fixed}
+use Rattle.pit_model.specs.Mine.{instance_of, IsClosed, worth}
 use Rattle.pit_model.specs.Flow.{HasResidual}
 use Rattle.pit_model.specs.Certificate.{Certifies, IsCertificate}
 use Rattle.pit_model.specs.Deposit.{value_at}
-use Rattle.pit_model.specs.Fixed.{Fixed, IsClash, IsFixedCertificate, IsFixedPit, IsRestOf, fixed_of, is_among}
-use Rattle.pit_model.specs.Direction.{IsPitToward, IsSearched, no_blocks_fixed}
+use Rattle.pit_model.specs.Fixed.{IsClash, IsFixedCertificate, IsRestOf, fixed_of, is_among}
+use Rattle.pit_model.specs.Direction.{IsSearched}
 use Rattle.pit_model.specs.Shells.{IsRest, IsShell}
 use Rattle.pit_model.specs.Uniqueness.{plain}
 use Rattle.pit_model.specs.ExampleMines.{cut_fork, field, pair_deposit, three_deposit, two_blocks}
@@ -21,14 +22,14 @@ loss x = neg_ℤ (pos x)
 
 -- the law: a block that pays for what it needs is dug with it; one that only just does is not, unless the greatest pit is asked for
 pub record PitsOfTwoBlocks : Type 0 where
-  pub pays : IsPit (two_blocks (loss 3) (pos 5)) (is_among (0 ∷ 1 ∷ []))
+  pub pays : IsPit Least (two_blocks (loss 3) (pos 5)) no_blocks_fixed (is_among (0 ∷ 1 ∷ []))
   pub worth_is : worth (two_blocks (loss 3) (pos 5)) (is_among (0 ∷ 1 ∷ [])) ≡ pos 2
-  pub breaks_even : IsPit (two_blocks (loss 5) (pos 5)) (is_among [])
-  pub not_both : IsPit (two_blocks (loss 5) (pos 5)) (is_among (0 ∷ 1 ∷ [])) → ⊥
+  pub breaks_even : IsPit Least (two_blocks (loss 5) (pos 5)) no_blocks_fixed (is_among [])
+  pub not_both : IsPit Least (two_blocks (loss 5) (pos 5)) no_blocks_fixed (is_among (0 ∷ 1 ∷ [])) → ⊥
   pub not_alone : IsClosed (two_blocks (loss 5) (pos 5)) (is_among (1 ∷ [])) → ⊥
   pub waste_alone : IsClosed (two_blocks (loss 5) (pos 5)) (is_among (0 ∷ []))
-  pub greatest : IsPitToward Greatest (two_blocks (loss 5) (pos 5)) no_blocks_fixed (is_among (0 ∷ 1 ∷ []))
-  pub not_nothing : IsPitToward Greatest (two_blocks (loss 5) (pos 5)) no_blocks_fixed (is_among []) → ⊥
+  pub greatest : IsPit Greatest (two_blocks (loss 5) (pos 5)) no_blocks_fixed (is_among (0 ∷ 1 ∷ []))
+  pub not_nothing : IsPit Greatest (two_blocks (loss 5) (pos 5)) no_blocks_fixed (is_among []) → ⊥
   pub searched : IsSearched Greatest (two_blocks (loss 5) (pos 5)) no_blocks_fixed (instance_of 2 (pos 5 ∷ loss 5 ∷ []) ((0, 1) ∷ []))
 
 -- the law: two flows show the pit of the fork; each condition refuses what breaks it alone
@@ -51,13 +52,13 @@ fix forced barred = fixed_of (record { forced = forced; barred = barred })
 -- the law: with block 3 forced in, 0 and 1 must be dug too, and block 2 is the rest; with block 0 barred, 2 and 3 must be left
 pub record FixedPitsOfField : Type 0 where
   pub forced_shows : IsFixedCertificate field (fix (3 ∷ []) []) (0 ∷ 1 ∷ 2 ∷ 3 ∷ []) (pos 0 ∷ pos 0 ∷ pos 0 ∷ [])
-  pub forced : IsFixedPit field (fix (3 ∷ []) []) (is_among (0 ∷ 1 ∷ 2 ∷ 3 ∷ []))
+  pub forced : IsPit Least field (fix (3 ∷ []) []) (is_among (0 ∷ 1 ∷ 2 ∷ 3 ∷ []))
   pub forced_worth : worth field (is_among (0 ∷ 1 ∷ 2 ∷ 3 ∷ [])) ≡ pos 5
   pub rest : IsRestOf field (fix (3 ∷ []) []) (instance_of 1 (pos 10 ∷ []) [])
-  pub barred : IsFixedPit field (fix [] (0 ∷ [])) (is_among [])
+  pub barred : IsPit Least field (fix [] (0 ∷ [])) (is_among [])
   pub clash : IsClash field.pairs (fix (3 ∷ []) (0 ∷ 1 ∷ [])) 0
   pub no_clash : IsClash field.pairs (fix (2 ∷ []) (1 ∷ [])) 1 → ⊥
-  pub free : IsPit field (is_among (0 ∷ 2 ∷ []))
+  pub free : IsPit Least field no_blocks_fixed (is_among (0 ∷ 2 ∷ []))
 
 -- the law: at 400 per mille the second block only just pays for both; so it is dug at 1000, and at 400 for the greatest pit
 pub record ShellsOfPair : Type 0 where

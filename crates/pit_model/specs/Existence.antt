@@ -2,24 +2,19 @@
 use Rattle.std.specs.Prelude.{ℕ, suc, ℤ, pos, ◌+ℤ◌, ◌*ℤ◌, ◌≤ℤ◌, Bool, List, Some}
 use Rattle.pit_model.specs.declared.direction.Direction.{Direction}
 use Rattle.pit_model.specs.declared.journal.Entry.{Entry}
-use Rattle.pit_model.specs.Graph.{Graph}
-use Rattle.pit_model.specs.Mine.{Instance, IsPit, IsSimple}
-use Rattle.pit_model.specs.Fixed.{Fixed, IsClashFree, IsFixedRest, graph_of_mine}
-use Rattle.pit_model.specs.Direction.{IsPitToward}
+use Rattle.pit_model.specs.Pit.{Fixed, IsPit}
+use Rattle.pit_model.specs.Mine.{Instance, IsSimple}
+use Rattle.pit_model.specs.Fixed.{IsClashFree, IsClosure, IsRestOf}
 use Rattle.pit_model.specs.Rank.{positive_worth}
 use Rattle.pit_model.specs.FirstRun.{HasNoMerger, first_run}
 use Rattle.pit_model.specs.Replay.{IsSpentAt}
 
--- the law: a mine has a pit
+-- the law: toward each direction a mine has a pit, unless its fixed blocks clash
 abbrev pub PitExists : Type 0
-PitExists = (mine : Instance) → IsSimple mine → (set : ℕ → Bool) × IsPit mine set
-
--- the law: and one toward each direction among the sets that keep to fixed blocks, unless these clash
-abbrev pub PitTowardExists : Type 0
-PitTowardExists =
-    (direction : Direction) (mine : Instance) (fixed : Fixed) (dug left : ℕ → Bool) (blocks : List ℕ) (part : Graph)
-    → IsFixedRest (graph_of_mine mine) fixed dug left blocks part → IsClashFree fixed dug
-    → (set : ℕ → Bool) × IsPitToward direction mine fixed set
+PitExists =
+    (direction : Direction) (mine : Instance) (fixed : Fixed) (rest : Instance) → IsRestOf mine fixed rest → IsSimple rest
+    → ((dug : ℕ → Bool) → IsClosure mine.pairs fixed.forced dug → IsClashFree fixed dug)
+    → (set : ℕ → Bool) × IsPit direction mine fixed set
 
 -- as many mergers as any run can make: P * (n + 1) + n, P the sum of the positive values
 abbrev pub most_mergers : Instance → ℤ

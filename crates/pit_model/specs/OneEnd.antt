@@ -4,8 +4,8 @@ use Rattle.pit_model.specs.declared.direction.Direction.{Direction}
 use Rattle.pit_model.specs.Graph.{Graph}
 use Rattle.pit_model.specs.Mine.{Instance}
 use Rattle.pit_model.specs.Part.{IsClass}
-use Rattle.pit_model.specs.Direction.{IsSearched, no_blocks_fixed}
-use Rattle.pit_model.specs.Fixed.{Fixed}
+use Rattle.pit_model.specs.Pit.{Fixed, no_blocks_fixed}
+use Rattle.pit_model.specs.Direction.{IsSearched}
 use Rattle.pit_model.specs.FirstRun.{HasMerger, HasNoMerger, first_run}
 use Rattle.pit_model.specs.Deposit.{Deposit}
 use Rattle.pit_model.specs.Shells.{IsRest}

@@ -7,13 +7,13 @@ use Rattle.std.proofs.lemmas.Bool.{eq-eqb, or_left, or_right}
 use Rattle.pit_model.specs.declared.direction.Direction.{Direction}
 use Rattle.pit_model.specs.declared.direction.Direction.TheVariants.{Least, Greatest}
 use Rattle.pit_model.specs.Mine.{Instance, members}
-use Rattle.pit_model.specs.Direction.{IsSearched, IsDual, ListsPit, no_blocks_fixed, IsPitToward}
+use Rattle.pit_model.specs.Pit.{IsPit, ListsPit, no_blocks_fixed}
+use Rattle.pit_model.specs.Direction.{IsSearched, IsDual}
 use Rattle.pit_model.specs.Fixed.{FixedLists, IsNothingFixed, IsRestOf, all_open, some_fixed, fixed_of, graph_of_mine, is_among}
-use Rattle.pit_model.proofs.Fixed.{none_fixes_nothing}
+use Rattle.pit_model.proofs.Fixed.{rest_gives_pit}
 use Rattle.pit_model.proofs.Members.{members_below, members_each, members_few}
-use Rattle.pit_model.proofs.Dual.{complement_is_greatest, nothing_fixed, rest_gives_pit_toward}
+use Rattle.pit_model.proofs.Dual.{complement_is_greatest}
 use Rattle.mine_graph.specs.FixedBlocks.{FixedBlocks, forced_closure, barred_closure, no_lists}
-use Rattle.optimality.specs.Check.{ShowsPit}
 use Rattle.merging.specs.Reduced.{IsRestIn, ListsJoined}
 use Rattle.merging.specs.declared.reduced_mine.ReducedMine.{ReducedMine}
 use Rattle.pit_search.specs.Searched.{IsOpenPart, IsSearchOf}
@@ -48,25 +48,21 @@ pub joined_pit : (direction : Direction) (mine : Instance) (fixed : FixedBlocks)
     → ((set : ℕ → Bool) → found ≡ members (length rest.blocks.items) set → ListsJoined mine.blocks fixed rest.blocks.items set pit) → ListsPit direction mine (fixed_of fixed.lists) pit
 joined_pit direction mine fixed rest found pit is shown joined =
     let list = joined shown.set (shown.listed ∙ ap (λ n. members n shown.set) is.is_rest.is_part.count) in
-    let here = subst (λ (m : Instance). IsPitToward direction m no_blocks_fixed shown.set) is.mine_is shown.is_pit in
+    let here = subst (λ (m : Instance). IsPit direction m no_blocks_fixed shown.set) is.mine_is shown.is_pit in
     record {
       set = list.after;
       listed = list.listed;
-      is_pit = rest_gives_pit_toward direction mine (fixed_of fixed.lists) (forced_closure fixed) (barred_closure fixed) rest.blocks.items (graph_of_mine rest.mine) shown.set list.after is.is_rest here list.joined;
+      is_pit = rest_gives_pit direction mine (fixed_of fixed.lists) (forced_closure fixed) (barred_closure fixed) rest.blocks.items (graph_of_mine rest.mine) shown.set list.after is.is_rest here list.joined;
     }
 
 -- the blocks outside the pit of the dual instance
-pub turned_pit : (mine other : Instance) (found list : List ℕ) → IsDual mine other → ShowsPit other found
+pub turned_pit : (mine other : Instance) (found list : List ℕ) → IsDual mine other → ListsPit Least other no_blocks_fixed found
     → ((set : ℕ → Bool) → found ≡ members mine.blocks set → list ≡ members mine.blocks (λ u. not (set u))) → ListsPit Greatest mine no_blocks_fixed list
 turned_pit mine other found list is shown outside = record {
   set = λ u. not (shown.set u);
   listed = outside shown.set (shown.listed ∙ ap (λ n. members n shown.set) is.reversed.same_blocks);
   is_pit = complement_is_greatest mine other shown.set is shown.is_pit;
 }
-
--- with nothing fixed the pit of a mine is its least pit, and the mine itself is searched
-pub least_pit : (mine : Instance) (pit : List ℕ) → ShowsPit mine pit → ListsPit Least mine no_blocks_fixed pit
-least_pit mine pit shown = record { set = shown.set; listed = shown.listed; is_pit = (none_fixes_nothing mine no_blocks_fixed shown.set nothing_fixed).1 shown.is_pit }
 
 -- ---- what is searched
 pub rest_is : (mine : Instance) (fixed : FixedBlocks) (blocks : Option (Vec ℕ)) (rest : Instance) → IsOpenPart mine fixed blocks rest → IsRestOf mine (fixed_of fixed.lists) rest

@@ -6,9 +6,10 @@ use Rattle.faults.specs.declared.fault.Fault.{Fault}
 use Rattle.pit_model.specs.declared.direction.Direction.{Direction}
 use Rattle.pit_model.specs.declared.direction.Direction.TheVariants.{Least, Greatest}
 use Rattle.pit_model.specs.Mine.{Instance, members, worth}
-use Rattle.pit_model.specs.Fixed.{Fixed, graph_of_mine}
+use Rattle.pit_model.specs.Pit.{Fixed, ListsPit, no_blocks_fixed}
+use Rattle.pit_model.specs.Fixed.{graph_of_mine}
 use Rattle.pit_model.specs.Limits.{IsInstance}
-use Rattle.pit_model.specs.Direction.{IsDual, IsSearched, ListsPit, no_blocks_fixed}
+use Rattle.pit_model.specs.Direction.{IsDual, IsSearched}
 use Rattle.pit_model.specs.Graph.{IsGraph}
 use Rattle.mine_graph.specs.FixedBlocks.{FixedBlocks, IsFixedOf, no_lists}
 use Rattle.merging.specs.Reduced.{IsRestIn}

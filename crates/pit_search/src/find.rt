@@ -1,6 +1,6 @@
 //! The pit of a mine with fixed blocks, by the minimal pit of the instance that is searched for it.
 ghost use Rattle.std.specs.Prelude.{IfOk, IfErr};
-ghost use Rattle.pit_model.specs.Direction.{no_blocks_fixed};
+ghost use Rattle.pit_model.specs.Pit.{no_blocks_fixed};
 ghost use Rattle.pit_model.specs.Fixed.{fixed_of, graph_of_mine};
 ghost use Rattle.mine_graph.specs.FixedBlocks.{IsFixedOf};
 ghost use Rattle.pit_search.specs.Searched.{IsFound, OfSearched, RefusesFind};

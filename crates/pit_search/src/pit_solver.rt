@@ -4,7 +4,8 @@ ghost use Rattle.std.specs.Global.{Vec as AnyVec};
 ghost use Rattle.std.specs.Fn.{FnReturnsAt};
 ghost use Rattle.faults.specs.declared.fault.Fault.{Fault as AnyFault};
 ghost use Rattle.pit_model.specs.Mine.{Instance as AnyInstance};
-ghost use Rattle.optimality.specs.Check.{ShowsPit};
+ghost use Rattle.pit_model.specs.declared.direction.Direction.TheVariants.{Least};
+ghost use Rattle.pit_model.specs.Pit.{ListsPit, no_blocks_fixed};
 
 use faults::Fault;
 use mine_graph::Instance;
@@ -23,7 +24,7 @@ pub trait PitSolver {
     /// Returns the blocks of the minimal pit of an instance, rising.
     fn minimal_pit(&self, instance: &Instance) -> Result<Vec<u32>, Fault>
         requires { FindsPits self.now }
-        ensures shown { IfOk result (λ pit. ShowsPit instance.now pit.items) }
+        ensures shown { IfOk result (λ pit. ListsPit Least instance.now no_blocks_fixed pit.items) }
         ensures within { IfOk result (λ _. Ends self.now instance.now) }
         ensures refused { IfErr result (λ e. Refuses self.now instance.now e) };
 }
@@ -37,7 +38,7 @@ pub struct FnSolver<F> {
 
 impl<F: Fn(&Instance) -> Result<Vec<u32>, Fault>> PitSolver for FnSolver<F> {
     ghost FindsPits = { λ s. F.IsAlwaysCallable s.solve
-        × ((mine : AnyInstance) (r : Result (AnyVec ℕ) AnyFault) → FnReturnsAt F.Fn s.solve mine r → IfOk r (λ pit. ShowsPit mine pit.items)) };
+        × ((mine : AnyInstance) (r : Result (AnyVec ℕ) AnyFault) → FnReturnsAt F.Fn s.solve mine r → IfOk r (λ pit. ListsPit Least mine no_blocks_fixed pit.items)) };
 
     ghost Ends = { λ s mine. (pit : AnyVec ℕ) × FnReturnsAt F.Fn s.solve mine (Ok pit) };
 

@@ -3,10 +3,10 @@
 ghost use Rattle.std.specs.Prelude.{◌≡◌, IfOk, IfErr};
 ghost use Rattle.faults.specs.Refused.{no_memory};
 ghost use Rattle.pit_model.specs.declared.direction.Direction.{Direction as AnyDirection};
-ghost use Rattle.pit_model.specs.Direction.{ListsPit, no_blocks_fixed};
+ghost use Rattle.pit_model.specs.declared.direction.Direction.TheVariants.{Least};
+ghost use Rattle.pit_model.specs.Pit.{ListsPit, no_blocks_fixed};
 ghost use Rattle.pit_model.specs.Fixed.{fixed_of, graph_of_mine};
 ghost use Rattle.pit_model.specs.Mine.{Instance as AnyInstance};
-ghost use Rattle.optimality.specs.Check.{ShowsPit};
 ghost use Rattle.mine_graph.specs.FixedBlocks.{IsFixedOf};
 ghost use Rattle.pit_search.specs.Searched.{IsFound, IsOpenPart, IsSearch, IsSearchOf, IsToward, ListsRestPit, own_values};
 
@@ -82,7 +82,7 @@ fn pit_toward(
     instance: &Instance,
     found: Vec<u32>,
 ) -> Result<Vec<u32>, Fault>
-    requires { ShowsPit instance.now found.items }
+    requires { ListsPit Least instance.now no_blocks_fixed found.items }
     ensures shown { IfOk result (λ pit. (rest : AnyInstance) → IsToward direction rest instance.now → ListsPit direction rest no_blocks_fixed pit.items) }
     ensures refused { IfErr result (λ e. e ≡ no_memory) }
 {
@@ -168,7 +168,7 @@ impl Searched {
     /// Returns the pit of the mine, by the minimal pit of the instance. Error: `NoMemory`.
     pub fn pit(self, alloc: Global, fixed: &Fixed, found: Vec<u32>) -> Result<FoundPit, Fault>
         requires search { IsSearch fixed.now self }
-        requires shown { ShowsPit self.instance found.items }
+        requires shown { ListsPit Least self.instance no_blocks_fixed found.items }
         ensures found { IfOk result (λ pit. (direction : AnyDirection) (mine : AnyInstance) → IsSearchOf direction mine fixed.now self → IsFound direction mine (fixed_of fixed.now.lists) pit) }
         ensures refused { IfErr result (λ e. e ≡ no_memory) }
     {

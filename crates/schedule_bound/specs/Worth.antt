@@ -1,6 +1,8 @@
 -- The nodes at prices of limits, the worth of their pit, and why there is no bound.
 use Rattle.std.specs.Prelude.{◌≡◌, ℕ, ◌*◌, ◌<◌, ℤ, pos, Bool, List, length, get_or}
-use Rattle.pit_model.specs.Mine.{Instance, IsPit, worth}
+use Rattle.pit_model.specs.declared.direction.Direction.TheVariants.{Least}
+use Rattle.pit_model.specs.Pit.{IsPit, no_blocks_fixed}
+use Rattle.pit_model.specs.Mine.{Instance, worth}
 use Rattle.schedule_model.specs.Problem.{Problem}
 use Rattle.schedule_model.specs.Bound.{IsTimeExpanded, node}
 use Rattle.scheduling.specs.declared.bound_error.BoundError.{BoundError}
@@ -22,7 +24,7 @@ pub record AreNodesAt (problem : Problem) (prices : List ℤ) (nodes : Instance)
 
 pub record IsWorthOfPit (nodes : Instance) (amount : ℤ) : Type 0 where
   pub pit : ℕ → Bool
-  pub is_pit : IsPit nodes pit
+  pub is_pit : IsPit Least nodes no_blocks_fixed pit
   pub is : amount ≡ worth nodes pit
 
 -- there are values of all nodes

@@ -7,7 +7,9 @@ use Rattle.std.proofs.lemmas.Nat.{div-mul-add, mod-mul-add}
 use Rattle.std.proofs.Math.Nat.{mul-le-mul_right, mod-lt, div-lt_iff_lt-mul}
 use Rattle.pit_model.specs.Sum.{total}
 use Rattle.pit_model.specs.Graph.{AreInRange, first_of, second_of}
-use Rattle.pit_model.specs.Mine.{Instance, IsPit, PairsInRange, arcs, source, target, value, worth}
+use Rattle.pit_model.specs.declared.direction.Direction.TheVariants.{Least}
+use Rattle.pit_model.specs.Pit.{IsPit, no_blocks_fixed}
+use Rattle.pit_model.specs.Mine.{Instance, PairsInRange, arcs, source, target, value, worth}
 use Rattle.pit_model.proofs.Sums.{total-same, total-le, total-swap, total-not_negative}
 use Rattle.schedule_model.specs.Problem.{Problem, capacity, gain, used}
 use Rattle.schedule_model.specs.Schedule.{IsScheduleOf, mined, mined_in_first, overall, schedule_value, share, usage}
@@ -137,7 +139,7 @@ module _ (problem : Problem) (whole : ℕ) (shares : List ℕ) (schedule : IsSch
         total-same problem.blocks (λ b. z (t * problem.blocks + b) *ℤ value nodes (t * problem.blocks + b)) (λ b. mined_in_first problem shares b (suc t) *ℤ value nodes (node problem b t)) (λ b hb.
         ap (λ u. u *ℤ value nodes (t * problem.blocks + b)) (z_at b t hb))))
 
-    weighted_most : (pit : ℕ → Bool) → IsPit nodes pit → weighted ≤ℤ (pos whole *ℤ worth nodes pit)
+    weighted_most : (pit : ℕ → Bool) → IsPit Least nodes no_blocks_fixed pit → weighted ≤ℤ (pos whole *ℤ worth nodes pit)
     weighted_most pit is_pit =
         let e = by_node in
         let c = expanded.count in
@@ -227,7 +229,7 @@ module _ (problem : Problem) (whole : ℕ) (shares : List ℕ) (schedule : IsSch
         let t = over-times problem.periods problem.blocks problem.destinations problem.limits (share problem shares) (gain problem) (used problem) (price problem prices) (pos whole) (λ r s. price problem prices r s *ℤ capacity problem r s) in
         omega (arith, ints)
 
-    pub bounded : (pit : ℕ → Bool) → IsPit nodes pit → schedule_value problem shares ≤ℤ (pos whole *ℤ (pos unit *ℤ worth nodes pit +ℤ over_limits problem (λ r s. price problem prices r s *ℤ capacity problem r s)))
+    pub bounded : (pit : ℕ → Bool) → IsPit Least nodes no_blocks_fixed pit → schedule_value problem shares ≤ℤ (pos whole *ℤ (pos unit *ℤ worth nodes pit +ℤ over_limits problem (λ r s. price problem prices r s *ℤ capacity problem r s)))
     unfolding of_capacity
     bounded pit is_pit =
         let a = value_is in

@@ -4,7 +4,10 @@ use Rattle.std.proofs.Common.{◌≡◌, ℕ, ◌<◌, sym, ◌∙◌, arith}
 use Rattle.std.specs.Prelude.{ℤ, pos, ◌*ℤ◌, ◌≤ℤ◌, int_lt, Bool}
 use Rattle.std.proofs.lemmas.Int.{ints}
 use Rattle.pit_model.specs.Sum.{total, when}
-use Rattle.pit_model.specs.Mine.{Instance, IsClosed, IsPit, PairsInRange, arcs, source, target, value, worth}
+use Rattle.pit_model.specs.declared.direction.Direction.TheVariants.{Least}
+use Rattle.pit_model.specs.Pit.{IsPit, no_blocks_fixed}
+use Rattle.pit_model.specs.Mine.{Instance, IsClosed, PairsInRange, arcs, source, target, value, worth}
+use Rattle.pit_model.proofs.Pits.{closed_best}
 use Rattle.pit_model.proofs.Sums.{total-same, total-le, total-swap}
 use Rattle.schedule_model.proofs.Sums.{total-constant, total-levels}
 
@@ -26,9 +29,9 @@ module _ (nodes : Instance) (z : ℕ → ℤ) (m : ℕ) (range : PairsInRange no
       total-same nodes.blocks (λ i. z i *ℤ value nodes i) (λ i. total m (λ j. when (int_lt (pos j) (z i)) (value nodes i))) (λ i h. sym (total-levels m (z i) (value nodes i) (least i h) (most i h)))
       ∙ total-swap nodes.blocks m (λ i j. when (int_lt (pos j) (z i)) (value nodes i))
 
-  pub levels_bounded : (pit : ℕ → Bool) → IsPit nodes pit → total nodes.blocks (λ i. z i *ℤ value nodes i) ≤ℤ (pos m *ℤ worth nodes pit)
+  pub levels_bounded : (pit : ℕ → Bool) → IsPit Least nodes no_blocks_fixed pit → total nodes.blocks (λ i. z i *ℤ value nodes i) ≤ℤ (pos m *ℤ worth nodes pit)
   levels_bounded pit p =
       let a = by_levels in
-      let b = total-le m (λ j. worth nodes (level j)) (λ j. worth nodes pit) (λ j h. p.best (level j) (level_closed j)) in
+      let b = total-le m (λ j. worth nodes (level j)) (λ j. worth nodes pit) (λ j h. closed_best p (level j) (level_closed j)) in
       let c = total-constant m (worth nodes pit) in
       omega (arith, ints)

@@ -6,7 +6,10 @@ use Rattle.std.proofs.lemmas.Bool.{cases_eq}
 use Rattle.std.proofs.lemmas.Nat.{div-add-mod'}
 use Rattle.std.proofs.Math.Nat.{div-lt_iff_lt-mul, mod-lt}
 use Rattle.pit_model.specs.Sum.{total, when}
-use Rattle.pit_model.specs.Mine.{Instance, IsClosed, IsPit, value, worth}
+use Rattle.pit_model.specs.declared.direction.Direction.TheVariants.{Least}
+use Rattle.pit_model.specs.Pit.{IsPit, no_blocks_fixed}
+use Rattle.pit_model.specs.Mine.{Instance, IsClosed, value, worth}
+use Rattle.pit_model.proofs.Pits.{closed_best}
 use Rattle.pit_model.proofs.Sums.{total-same}
 use Rattle.schedule_model.specs.Problem.{Problem, capacity}
 use Rattle.schedule_model.specs.Bound.{AreNodePairs, BoundIsOne, IsBest, IsRoundedUp, IsTimeExpanded, node, over_limits, price, unit}
@@ -73,10 +76,10 @@ module _ (problem : Problem) (prices : List ℤ) (first second : ℕ → ℕ →
       ∙ total-same (problem.periods * problem.blocks) (λ u. when (set u) (value one u)) (λ u. when (set u) (value other u)) (λ u h. ap (when (set u)) (same_value u h))
       ∙ ap (λ n. total n (λ u. when (set u) (value other u))) (sym q.count)
 
-  pub same_pit_worth : (pit its : ℕ → Bool) → IsPit one pit → IsPit other its → worth one pit ≡ worth other its
+  pub same_pit_worth : (pit its : ℕ → Bool) → IsPit Least one no_blocks_fixed pit → IsPit Least other no_blocks_fixed its → worth one pit ≡ worth other its
   same_pit_worth pit its is it_is =
-      let up = it_is.best pit (closed_alike problem one other pit p.pairs q.pairs is.closed) in
-      let down = is.best its (closed_alike problem other one its q.pairs p.pairs it_is.closed) in
+      let up = closed_best it_is pit (closed_alike problem one other pit p.pairs q.pairs is.allowed.closed) in
+      let down = closed_best is its (closed_alike problem other one its q.pairs p.pairs it_is.allowed.closed) in
       let e = same_worth pit in
       let f = same_worth its in
       omega (arith, ints)

@@ -2,7 +2,9 @@
 use Rattle.std.specs.Prelude.{◌≡◌, ℕ, suc, ◌+◌, ◌*◌, ◌^◌, ◌<◌, ℤ, pos, ◌+ℤ◌, ◌-ℤ◌, ◌*ℤ◌, ◌≤ℤ◌, ◌<ℤ◌, ◌⊎◌, Bool, List, length, get_or}
 use Rattle.pit_model.specs.Sum.{total}
 use Rattle.pit_model.specs.Graph.{AreInRange, first_of, second_of}
-use Rattle.pit_model.specs.Mine.{Instance, IsPit, value, worth}
+use Rattle.pit_model.specs.declared.direction.Direction.TheVariants.{Least}
+use Rattle.pit_model.specs.Pit.{IsPit, no_blocks_fixed}
+use Rattle.pit_model.specs.Mine.{Instance, value, worth}
 use Rattle.schedule_model.specs.Problem.{Problem, capacity, gain, of_limit, used}
 use Rattle.schedule_model.specs.Schedule.{IsScheduleOf, schedule_value}
 
@@ -70,7 +72,7 @@ pub record IsLagrangianBound (problem : Problem) (prices : List ℤ) (bound : �
   pub nodes : Instance
   pub expanded : IsTimeExpanded problem best nodes
   pub pit : ℕ → Bool
-  pub is_pit : IsPit nodes pit
+  pub is_pit : IsPit Least nodes no_blocks_fixed pit
   pub is : bound ≡ pos unit *ℤ worth nodes pit +ℤ over_limits problem (λ r s. price problem prices r s *ℤ capacity problem r s)
 
 -- the law: no schedule is worth more than the bound, for any common denominator of its shares

@@ -5,7 +5,7 @@ use Rattle.faults.specs.declared.refusal.Refusal.{Refusal}
 use Rattle.faults.specs.declared.refusal.Refusal.TheVariants.{NoMemory}
 use Rattle.faults.specs.Refused.{no_memory}
 use Rattle.pit_model.specs.declared.direction.Direction.{Direction}
-use Rattle.pit_model.specs.Direction.{no_blocks_fixed}
+use Rattle.pit_model.specs.Pit.{no_blocks_fixed}
 use Rattle.pit_model.specs.Mine.{Instance}
 use Rattle.pit_model.specs.Deposit.{Deposit}
 use Rattle.pit_model.specs.Shells.{IsRest}

@@ -1,6 +1,7 @@
 //! The shells of a mine, by the way that the mode allows.
 ghost use Rattle.std.specs.Prelude.{◌≡◌, length, IsTrue, IfOk, IfErr};
-ghost use Rattle.optimality.specs.Check.{ShowsPit};
+ghost use Rattle.pit_model.specs.declared.direction.Direction.TheVariants.{Least};
+ghost use Rattle.pit_model.specs.Pit.{ListsPit, no_blocks_fixed};
 ghost use Rattle.pit_model.specs.Shells.{AreShells};
 ghost use Rattle.nesting.specs.Prices.{deposit_of};
 ghost use Rattle.nesting.specs.Planned.{deposit_in, HasRows};
@@ -39,7 +40,7 @@ fn all_shells<G: Gate + Sync, R: Threads + Wait + Sync>(
     ensures refused { IfErr result (λ e. RefusesShells search.now.mode plan.now.direction (deposit_in plan.now) plan.now.factors.now e.refusal e) }
 {
     let solve = |instance: &Instance| -> Result<Vec<u32>, Fault>
-        ensures shown { IfOk result (λ pit. ShowsPit instance.now pit.items) }
+        ensures shown { IfOk result (λ pit. ListsPit Least instance.now no_blocks_fixed pit.items) }
         ensures within { IfOk result (λ _. EndsWithin search.entry.now.mode instance.now) }
         ensures refused { IfErr result (λ e. RefusesSolve search.entry.now.mode instance.now e.refusal e) }
     { search.minimal_pit(instance) };

@@ -8,8 +8,7 @@ use Rattle.pit_model.specs.declared.direction.Direction.{Direction}
 use Rattle.pit_model.specs.declared.direction.Direction.TheVariants.{Least, Greatest}
 use Rattle.pit_model.specs.declared.journal.Entry.{Entry}
 use Rattle.pit_model.specs.Mine.{Instance}
-use Rattle.pit_model.specs.Fixed.{Fixed}
-use Rattle.pit_model.specs.Direction.{ListsPit}
+use Rattle.pit_model.specs.Pit.{Fixed, ListsPit}
 use Rattle.optimality.specs.Certificate.{IsCertificateOf, IsFixedCertificateOf}
 use Rattle.merging.specs.declared.outcome.Outcome.{Outcome}
 use Rattle.merging.specs.declared.outcome.Outcome.TheVariants as outcomes

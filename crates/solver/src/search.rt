@@ -4,7 +4,8 @@ ghost use Rattle.faults.specs.Refused.{no_memory};
 ghost use Rattle.pit_model.specs.Fixed.{fixed_of, graph_of_mine};
 ghost use Rattle.mine_graph.specs.FixedBlocks.{IsFixedOf};
 ghost use Rattle.merging.specs.Reduced.{IsRestIn};
-ghost use Rattle.optimality.specs.Check.{ShowsPit};
+ghost use Rattle.pit_model.specs.declared.direction.Direction.TheVariants.{Least};
+ghost use Rattle.pit_model.specs.Pit.{ListsPit, no_blocks_fixed};
 ghost use Rattle.solver.specs.Modes.{EndsIn, EndsWithin, LacksRoom, RefusesSolve};
 ghost use Rattle.pit_search.specs.Searched.{IsFound, OfSearched};
 ghost use Rattle.solver.specs.Searched.{EndsFixed, IsLiftedOutcome, IsShown, RefusesSearch};
@@ -79,7 +80,7 @@ impl<R: Threads + Wait + Sync, G: Gate + Sync> Search<'_, R, G> {
 
     /// The least pit of an instance by a solve that makes its certificate. Refused as `minimal_pit` is.
     fn solve_with_certificate(&self, instance: &Instance) -> Result<Vec<u32>, Fault>
-        ensures shown { IfOk result (λ pit. ShowsPit instance.now pit.items) }
+        ensures shown { IfOk result (λ pit. ListsPit Least instance.now no_blocks_fixed pit.items) }
         ensures within { IfOk result (λ _. EndsWithin self.now.mode instance.now) }
         ensures refused { IfErr result (λ e. RefusesSolve self.now.mode instance.now e.refusal e) }
     {
@@ -94,7 +95,7 @@ impl<R: Threads + Wait + Sync, G: Gate + Sync> Search<'_, R, G> {
     /// Returns the minimal pit of an instance. By one thread without a budget, and by parts, no certificate is made. Errors: lack
     /// of memory (1), a used-up budget with a merger arc left (20).
     pub fn minimal_pit(&self, instance: &Instance) -> Result<Vec<u32>, Fault>
-        ensures shown { IfOk result (λ pit. ShowsPit instance.now pit.items) }
+        ensures shown { IfOk result (λ pit. ListsPit Least instance.now no_blocks_fixed pit.items) }
         ensures within { IfOk result (λ _. EndsWithin self.now.mode instance.now) }
         ensures refused { IfErr result (λ e. RefusesSolve self.now.mode instance.now e.refusal e) }
     {
@@ -118,7 +119,7 @@ impl<R: Threads + Wait + Sync, G: Gate + Sync> Search<'_, R, G> {
         ensures refused { IfErr result (λ e. RefusesSearch self.now.mode self.now.direction mine (fixed_of fixed.now.lists) e.refusal e) }
     {
         let solve = |instance: &Instance| -> Result<Vec<u32>, Fault>
-            ensures shown { IfOk result (λ pit. ShowsPit instance.now pit.items) }
+            ensures shown { IfOk result (λ pit. ListsPit Least instance.now no_blocks_fixed pit.items) }
             ensures within { IfOk result (λ _. EndsWithin self.entry.now.mode instance.now) }
             ensures refused { IfErr result (λ e. RefusesSolve self.entry.now.mode instance.now e.refusal e) }
         { self.minimal_pit(instance) };

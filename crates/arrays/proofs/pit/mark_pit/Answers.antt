@@ -5,7 +5,7 @@ use Rattle.std.specs.Int.{w128}
 use Rattle.std.proofs.lemmas.Int.{to_z-of_z}
 use mir.Val.{SFits}
 use Rattle.pit_model.specs.Mine.{instance_of, members}
-use Rattle.pit_model.proofs.SamePairs.{fixed_pit_knows_no_order, turned}
+use Rattle.pit_model.proofs.SamePairs.{pit_knows_no_order, turned}
 use Rattle.arrays.specs.Fixing.{fixed_by, toward}
 use Rattle.arrays.specs.Solved.{AreMarks}
 use Rattle.arrays.proofs.Marking.{listed_below}
@@ -33,7 +33,7 @@ returns-clause-marked c =
       encoded = encoded.encoded;
       set = shown.set;
       marks_are = subst (λ n. AreMarks n shown.set c.write_marks.new.marks) size (c.write_marks.ensures shown.set listed);
-      is_pit = fixed_pit_knows_no_order (toward c.args.greatest) mine.blocks mine.values mine.pairs encoded.pairs (fixed_by c.args.arrays.now.numbers.now) shown.set
+      is_pit = pit_knows_no_order (toward c.args.greatest) mine.blocks mine.values mine.pairs encoded.pairs (fixed_by c.args.arrays.now.numbers.now) shown.set
           (turned encoded.pairs mine.pairs encoded.same) shown.is_pit;
       worth_is = to_z-of_z w128 c.in_ok-found.found.worth fits ∙ found.worth_is shown.set shown.listed;
     }

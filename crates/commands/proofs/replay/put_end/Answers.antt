@@ -3,7 +3,7 @@ use Rattle.std.proofs.Common.{ℕ, List, refl, subst, sym}
 use Rattle.std.proofs.lemmas.Result.{err_from_is_err_and}
 use Rattle.commands.specs.Replay.{ShowsEnd, cut, spent}
 use Rattle.commands.specs.Solve.{fixed_in, fixed_instance_of}
-use Rattle.pit_model.specs.Direction.{ListsPit}
+use Rattle.pit_model.specs.Pit.{ListsPit}
 use Rattle.pit_model.specs.declared.direction.Direction.TheVariants.{Least}
 use Rattle.commands.specs.declared.status.Status.TheVariants.{Done, No}
 use Rattle.commands.proofs.replay.put_end.Goals as goal

@@ -7,7 +7,7 @@ use mir.Val.{SFits}
 use Rattle.pit_model.specs.Sum.{total}
 use Rattle.std.proofs.lemmas.Result.{err_from_is_err_and}
 use Rattle.pit_model.specs.Mine.{Instance, members}
-use Rattle.pit_model.specs.Direction.{ListsPit, no_blocks_fixed}
+use Rattle.pit_model.specs.Pit.{ListsPit, no_blocks_fixed}
 use Rattle.pit_search.specs.Searched.{OfSearched, RefusesFind}
 use Rattle.pit_model.specs.Graph.{Graph}
 use Rattle.pit_model.specs.Size.{most_blocks}

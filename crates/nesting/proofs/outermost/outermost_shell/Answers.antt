@@ -1,6 +1,6 @@
 -- A solver without a budget is refused for want of memory alone.
 use Rattle.std.proofs.lemmas.Result.{err_from_is_err_and}
-use Rattle.pit_model.specs.Direction.{no_blocks_fixed}
+use Rattle.pit_model.specs.Pit.{no_blocks_fixed}
 use Rattle.nesting.proofs.Refusing.{find_lacks_memory}
 use Rattle.nesting.proofs.outermost.outermost_shell.Goals as goal
 

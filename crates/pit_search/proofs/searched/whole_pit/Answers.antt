@@ -2,7 +2,7 @@
 use Rattle.std.proofs.Common.{◌≡◌, ℕ, ◌<◌, Bool, List, ap, sym, subst, ◌∙◌, length, get_or}
 use Rattle.std.proofs.lemmas.Result.{IfOk-weaker}
 use Rattle.pit_model.specs.declared.direction.Direction.{Direction}
-use Rattle.pit_model.specs.Direction.{ListsPit, no_blocks_fixed}
+use Rattle.pit_model.specs.Pit.{ListsPit, no_blocks_fixed}
 use Rattle.pit_model.specs.Fixed.{fixed_of}
 use Rattle.pit_model.specs.Mine.{Instance, members}
 use Rattle.merging.proofs.Resting.{none_both}

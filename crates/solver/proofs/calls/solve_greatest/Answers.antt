@@ -2,7 +2,7 @@
 use Rattle.std.proofs.Common.{◌≡◌, IfOk, Result, subst}
 use Rattle.faults.specs.declared.fault.Fault.{Fault}
 use Rattle.pit_model.specs.declared.direction.Direction.TheVariants.{Greatest}
-use Rattle.pit_model.specs.Direction.{ListsPit}
+use Rattle.pit_model.specs.Pit.{ListsPit}
 use Rattle.pit_model.specs.Fixed.{fixed_of}
 use Rattle.pit_model.specs.Mine.{Instance}
 use Rattle.solver.specs.Modes.{EndsWithin}
