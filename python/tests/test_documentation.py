@@ -26,9 +26,9 @@ OTHERS = [ROOT / "CHANGELOG.md", *sorted(ROOT.glob("crates/*/README.md")), *sort
 LINKED = [*PAGES, *OTHERS]
 MANUALS = sorted((ROOT / "man").glob("*.in"))
 NOTEBOOKS = sorted((ROOT / "examples").glob("*.ipynb"))
-# Pages that a planner reads from top to bottom, and README.
-MOST_WORDS, MOST_WORDS_OF_SENTENCES = 900, 25
-SHORT = [page for page in PAGES if page.parent.name == "planning" or page.name == "README.md" and page.parent == ROOT]
+# README, and pages that a planner reads from top to bottom.
+README_WORDS, MOST_WORDS, MOST_WORDS_OF_SENTENCES = 600, 900, 25
+SHORT = [ROOT / "README.md", *(page for page in PAGES if page.parent.name == "planning")]
 
 
 @pytest.fixture(scope="module")
@@ -156,8 +156,9 @@ def test_files_that_manual_pages_name_exist(page):
 
 @pytest.mark.parametrize("page", SHORT, ids=[page.name for page in SHORT])
 def test_pages_are_short(page):
-    """README and each page for planners has at most 900 words, those of code blocks not counted."""
-    assert words(page.read_text(encoding="utf-8")) <= MOST_WORDS
+    """README has at most 600 words and each page for planners 900, those of code blocks not counted."""
+    most = README_WORDS if page == ROOT / "README.md" else MOST_WORDS
+    assert words(page.read_text(encoding="utf-8")) <= most
 
 
 def test_sentences_for_planners_are_short():
