@@ -299,4 +299,4 @@ def test_years_together_count_a_node_for_each_block_and_year():
     nodes = without_first(problem_of(np.ones((3, 4, 5)), [(1, 0)]))
     assert nodes.size_of(0, 5) == (15, 17) and nodes.size_of(2, 3) == (3, 1)
     precedences = nodes.of_years(1, 3)
-    assert precedences.starts.tolist() == [0, 1, 3, 4, 4, 5, 5] and precedences.needed.tolist() == [3, 0, 4, 5, 3]
+    assert precedences.starts.tolist() == [0, 1, 3, 4, 4, 5, 5] and precedences.predecessors.tolist() == [3, 0, 4, 5, 3]

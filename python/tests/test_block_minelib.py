@@ -74,7 +74,7 @@ def test_its_problem_is_discounted_from_the_second_period_on(published):
     ]
     assert [limit.most.tolist() for limit in problem.limits] == [[2, 2, 2], [7.5, np.inf, np.inf]]
     assert [limit.amounts[:, 0].tolist() for limit in problem.limits] == [[1, 1, 1, 1], [0, 7, 0, 7]]
-    assert list(zip(problem.precedences.users, problem.precedences.needed)) == [(1, 0), (3, 2)]
+    assert list(zip(problem.precedences.users, problem.precedences.predecessors)) == [(1, 0), (3, 2)]
 
 
 def test_the_certificate_of_two_pillars_by_hand(published, tmp_path, capsys):

@@ -42,7 +42,8 @@ def test_the_table_is_that_of_the_file(path, capsys, command, file, shows):
     options = ["--json", "--quiet", "--no-verify", "--out", str(out)]
     assert main([command, str(path), *options, *([] if command == "pit" else ["--no-figures"])]) == 0
     said = json.loads(capsys.readouterr().out)
-    assert set(said) == {"path", "table"} and said["path"] == str(out / shows)
+    more = {"selected"} if command == "shells" else set()
+    assert set(said) == {"path", "table"} | more and said["path"] == str(out / shows)
     written = pd.read_csv(out / file, keep_default_na=False, na_values=[""])
     found = pd.DataFrame(said["table"])
     shared = [name for name in written if name in found]
@@ -54,3 +55,21 @@ def test_the_table_is_that_of_the_file(path, capsys, command, file, shows):
             )
         else:
             assert found[name].fillna("").tolist() == written[name].fillna("").tolist()
+
+
+def test_shells_name_the_selected_one_last(path, capsys, monkeypatch):
+    """In one line before the path of the report, with the amounts of its row; of the project in this folder if none is named."""
+    monkeypatch.chdir(path.parent)
+    assert main(["shells", "--quiet", "--no-verify", "--no-figures", "--out", "out"]) == 0
+    *_, line, shown = capsys.readouterr().out.splitlines()
+    factor = json.loads((path.parent / "out" / "plan.json").read_text())["shells"]["selected"]
+    shells = pd.read_csv("out/tables/shells.csv").set_index("revenue_factor")
+    assert shown == "out/report.html" and line.startswith(f"selected shell: revenue factor {factor:.2f}, ")
+    assert f", {shells['tonnes'][factor]:,.2f} t, {shells['feed_tonnes'][factor]:,.2f} t of mill feed, " in line
+
+
+def test_without_a_project_in_the_folder_the_remedy_is_named(tmp_path, capsys, monkeypatch):
+    monkeypatch.chdir(tmp_path)
+    assert main(["check"]) == 1
+    said = "pitplan: project.toml: is not in this folder: name the project, or write one for your block model: pitplan init TABLE"
+    assert capsys.readouterr().err.strip() == said

@@ -98,7 +98,14 @@ def factor(verb: str) -> Argument:
     return revenue_factor(text, default=BASE_PRICE)
 
 
-PROJECT = argument("project", type=Path, metavar="PROJECT", help="project file (project.toml)")
+PROJECT = argument(
+    "project",
+    type=Path,
+    nargs="?",
+    default=subcommands.PROJECT,
+    metavar="PROJECT",
+    help="project file (default: project.toml)",
+)
 SET = argument(
     "--set",
     action="append",

@@ -10,15 +10,14 @@ import math
 from argparse import Namespace
 from collections.abc import Callable
 from decimal import Decimal
+from pathlib import Path
 from typing import TYPE_CHECKING, Any
 
 from minelib.ending import tell
 from pitplan.core.progress import Progress, on_standard_error, silent
-from pitplan.errors import WARNING
+from pitplan.errors import WARNING, PlanError
 
 if TYPE_CHECKING:
-    from pathlib import Path
-
     from pandas import DataFrame
 
     from pitplan.blockmodel.guesses import GuessedModel
@@ -28,6 +27,10 @@ if TYPE_CHECKING:
     from pitplan.studies.scenarios.result import ScenarioResult
 
     from ..commands.writing import Writing
+
+
+# The project if none is named.
+PROJECT = Path("project.toml")
 
 
 def progress_of(options: Namespace) -> Progress:
@@ -40,6 +43,9 @@ def project_of(options: Namespace) -> Project:
 
     from pitplan.config.project import load
 
+    if options.project == PROJECT and not PROJECT.exists():
+        why = "is not in this folder: name the project, or write one for your block model: pitplan init TABLE"
+        raise PlanError(f"{PROJECT}: {why}")
     overrides = getattr(options, "set", [])
     return replace(load(options.project, overrides=overrides), solver=getattr(options, "solver", None))
 
@@ -57,26 +63,30 @@ def draw_block_model(model: GuessedModel, path: Path) -> None:
     write_block_model(model, path)
 
 
-def print_answer(table: DataFrame, columns: Columns, folder: Path, as_json: bool = False) -> None:
-    """Prints an answer's table and the path of its report, and its notes on standard error."""
-    from pitplan.report.columns import cells_of
+def print_answer(table: DataFrame, columns: Columns, folder: Path, as_json: bool, of_shells: bool = False) -> None:
+    """Prints an answer's table and the path of its report, and its notes on standard error; of shells also the selected one."""
+    from pitplan.report.columns import cells_of, selected_line
     from pitplan.results.folder import read_record
     from pitplan.results.names import REPORT
 
+    record = read_record(folder)
+    selected = record["shells"]["selected"] if of_shells else None
     if not as_json:
         print_table([heading for _, heading, _, _ in columns], cells_of(table, columns))
-    print_notes(read_record(folder)["notes"])
+    print_notes(record["notes"])
     if as_json:
-        print_json(table, folder / REPORT)
-    else:
-        print(folder / REPORT)
+        print_json(table, folder / REPORT, **({"selected": selected} if of_shells else {}))
+        return
+    if selected is not None:
+        print(selected_line(table, columns, selected))
+    print(folder / REPORT)
 
 
-def print_json(table: DataFrame, path: Path) -> None:
-    """Prints a table and the path of its file as one JSON object: `{"path": .., "table": [{column: value, ..}, ..]}`. Numbers are not
-    rounded, and one that is missing is null."""
+def print_json(table: DataFrame, path: Path, **more: Any) -> None:
+    """Prints a table and the path of its file as one JSON object: `{"path": .., "table": [{column: value, ..}, ..]}`, with what is given more. Numbers
+    are not rounded, and one that is missing is null."""
     rows = [{name: plain_of(value) for name, value in row.items()} for row in table.to_dict("records")]
-    print(json.dumps({"path": str(path), "table": rows}, indent=2, ensure_ascii=False))
+    print(json.dumps({"path": str(path), **more, "table": rows}, indent=2, ensure_ascii=False))
 
 
 def plain_of(value: Any) -> Any:
@@ -170,14 +180,16 @@ def prepare(options: Namespace) -> None:
     print(folder)
 
 
-def answered(options: Namespace, write: Callable[..., DataFrame], columns: Display, name: str) -> Path:
+def answered(
+    options: Namespace, write: Callable[..., DataFrame], columns: Display, name: str, *, of_shells: bool = False
+) -> Path:
     """Writes an answer into the folder that is asked for, by default `name` in the project's output folder, and prints its table, notes and the
     path of its report. Returns the folder."""
 
     project = project_of(options)
     folder = options.out or project.folder / name
     table = write(project, folder, writing_of(options))
-    print_answer(table, columns.of(table, project), folder, options.json)
+    print_answer(table, columns.of(table, project), folder, options.json, of_shells)
     return folder
 
 
@@ -185,7 +197,7 @@ def shells(options: Namespace) -> None:
     from pitplan.commands.plans import write_shells
     from pitplan.report.columns import OF_SHELLS
 
-    answered(options, write_shells, OF_SHELLS, "")
+    answered(options, write_shells, OF_SHELLS, "", of_shells=True)
 
 
 def pit(options: Namespace) -> None:
@@ -346,7 +358,6 @@ def serve(options: Namespace) -> None:
     from .. import __version__
 
     demand_modules({"starlette": "python3-starlette", "uvicorn": "python3-uvicorn"}, "pitplan serve")
-    from ..errors import PlanError
     from ..web.server import Proxy, serve
 
     if (options.host is None) != (options.socket is None):

@@ -149,7 +149,7 @@ OF_PUSHBACKS = Display(
     EARNED[:1],
 )
 OF_METHODS = Display(METHODS, ("method", *BOUNDED, "optimality_gap", "npv_at_mean_grade", *AMOUNTS), ("npv",))
-OF_BLOCKS = Display(METHODS, (*BOUNDED, "optimality_gap", *AMOUNTS), BOUNDED)
+OF_BLOCKS = Display(METHODS, (*BOUNDED, "optimality_gap", "npv_at_mean_grade", *AMOUNTS), BOUNDED)
 SPENT, FLOWS = ("fixed_cost", "capex"), ("cash_flow", "discounted_cash_flow")
 OF_YEARS = Display(
     YEARLY,
@@ -172,6 +172,19 @@ def cases_in_words(table: pd.DataFrame) -> list[str]:
             table["parameter"], table["change"], table["second_parameter"], table["second_change"]
         )
     ]
+
+
+def selected_line(table: pd.DataFrame, columns: Columns, factor: float) -> str:
+    """Returns the selected shell of a table of shells in one line."""
+    row, shown = table[table["revenue_factor"] == factor].iloc[0], {it.name: it for it in columns}
+    tonnes, feed, best, worst = (
+        f"{cell_of(row[name], shown[name])} {shown[name].heading.partition(', ')[2]}"
+        for name in ("tonnes", "feed_tonnes", "npv_best", "npv_worst")
+    )
+    where = f"{tonnes}, {feed} of mill feed"
+    return (
+        f"selected shell: revenue factor {factor_text(factor)}, {where}, NPV {best} (best case), {worst} (worst case)"
+    )
 
 
 def cells_of(table: pd.DataFrame, columns: Columns) -> list[list[str]]:

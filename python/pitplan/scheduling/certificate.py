@@ -20,6 +20,7 @@ from pitplan.economics.period_costs import of_project
 from pitplan.errors import PlanError, ProgramError
 from pitplan.solver.choice import is_proved
 
+from .blocks.problem import BlockPrecedences
 from .methods import PROVED
 
 # Numbers of the texts are millionths.
@@ -119,14 +120,6 @@ class Shares:
 
 
 @dataclass(frozen=True)
-class Predecessors:
-    """The direct predecessors of each block: those of block u are `blocks[starts[u]:starts[u + 1]]`."""
-
-    starts: NDArray[Any]
-    blocks: NDArray[Any]
-
-
-@dataclass(frozen=True)
 class Certificate:
     """What is certified.
 
@@ -140,7 +133,7 @@ class Certificate:
         Discount factors, in millionths.
     rows : tuple of CertificateLimit
         The limits.
-    predecessors : Predecessors
+    precedences : BlockPrecedences
     shares : Shares
     unit : int
         How many units of the currency one of the texts is; a power of ten.
@@ -150,14 +143,14 @@ class Certificate:
     values: tuple[Term, ...]
     discounts: NDArray[np.int64]
     rows: tuple[CertificateLimit, ...]
-    predecessors: Predecessors
+    precedences: BlockPrecedences
     shares: Shares
     unit: int = 1
 
     def counts(self, *words: str) -> dict[str, int]:
         """Returns counts of the problem by their words in the texts."""
         found = {
-            "BLOCKS": len(self.predecessors.starts) - 1,
+            "BLOCKS": len(self.precedences.starts) - 1,
             "PERIODS": len(self.discounts),
             "DESTINATIONS": self.destinations,
             "LIMITS": len(self.rows),
@@ -354,7 +347,7 @@ def slack(terms: Sequence[Term], shares: Shares, periods: int) -> NDArray[np.flo
 
 def demand_size(certificate: Certificate, columns: int) -> None:
     """Raises PlanError if the texts have more of something than the program reads."""
-    blocks, periods = len(certificate.predecessors.starts) - 1, len(certificate.discounts)
+    blocks, periods = len(certificate.precedences.starts) - 1, len(certificate.discounts)
     uses = len(certificate.values) + sum(len(row.terms) for row in certificate.rows)
     for count, most, name in (
         (blocks * periods, MOST_NODES, "blocks times periods"),
@@ -426,8 +419,8 @@ def problem_text(certificate: Certificate) -> str:
     return "\n".join(lines) + "\n"
 
 
-def precedence_text(predecessors: Predecessors) -> str:
-    starts, blocks = predecessors.starts.tolist(), predecessors.blocks.tolist()
+def precedence_text(precedences: BlockPrecedences) -> str:
+    starts, blocks = precedences.starts.tolist(), precedences.predecessors.tolist()
     rows = [(block, blocks[first:end]) for block, (first, end) in enumerate(zip(starts, starts[1:])) if end > first]
     return "".join(f"{block} {len(others)} {' '.join(map(str, others))}\n" for block, others in rows)
 
@@ -452,7 +445,7 @@ def write(certificate: Certificate, names: Sequence[Any], stage: Path) -> None:
     """Writes the four texts, and a line with the name of each block, into a folder."""
     texts = {
         "problem": problem_text(certificate),
-        "prec": precedence_text(certificate.predecessors),
+        "prec": precedence_text(certificate.precedences),
         "schedule": schedule_text(certificate),
         "prices": prices_text(certificate),
     }

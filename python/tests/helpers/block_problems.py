@@ -36,7 +36,7 @@ def precedences_of(blocks, pairs):
 
 
 def pairs_of(problem):
-    return list(zip(problem.precedences.users.tolist(), problem.precedences.needed.tolist()))
+    return list(zip(problem.precedences.users.tolist(), problem.precedences.predecessors.tolist()))
 
 
 def random_problem(seed, most=60, years=4, destinations=3):

@@ -80,7 +80,7 @@ def solved(nodes: Nodes, gain: NDArray[np.int64], first: int, last: int) -> Year
     """Solves the closure of some years; `gain` is by block and year."""
     precedences, counts = nodes.of_years(first, last), nodes.counts[first:last]
     values = np.concatenate([gain[:count, year] for year, count in enumerate(counts, first)])
-    pit = pitshell.solve(values, (precedences.starts, precedences.needed), millionths=True)
+    pit = pitshell.solve(values, (precedences.starts, precedences.predecessors), millionths=True)
     return YearsClosure(first, last, np.split(pit.in_pit, np.cumsum(counts)[:-1]), worth_of(pit))
 
 

@@ -26,10 +26,10 @@ SUMMED = 3_000
 
 @dataclass(frozen=True)
 class Ranks:
-    """Blocks in an order in which each stands behind all that it needs.
+    """Blocks in an order in which each stands behind its predecessors.
 
     order   the blocks
-    bounds  the blocks of rank k, whose longest way of needs has k pairs, are `order[bounds[k]:bounds[k + 1]]`
+    bounds  the blocks of rank k, whose longest chain of predecessors has k pairs, are `order[bounds[k]:bounds[k + 1]]`
     """
 
     order: NDArray[np.int64]
@@ -41,11 +41,11 @@ class Ranks:
 
 
 def ranks_of(precedences: BlockPrecedences) -> Ranks:
-    """The ranks of all blocks, whose needs lead in no circle: else ValueError."""
+    """The ranks of all blocks. Raises ValueError if the precedences have a cycle."""
     blocks = len(precedences.starts) - 1
-    ones = np.ones(len(precedences.needed), dtype=np.int8)
+    ones = np.ones(len(precedences.predecessors), dtype=np.int8)
     rows = csr_matrix(
-        (ones, precedences.needed.astype(np.int64), precedences.starts.astype(np.int64)), shape=(blocks, blocks)
+        (ones, precedences.predecessors.astype(np.int64), precedences.starts.astype(np.int64)), shape=(blocks, blocks)
     )
     users = rows.tocsc()
     waiting = np.diff(precedences.starts.astype(np.int64))
@@ -81,10 +81,10 @@ def rows_of(starts: NDArray[np.integer], entries: NDArray[np.integer], rows: NDA
 def greatest_of_predecessors(
     precedences: BlockPrecedences, ranks: Ranks, keys: NDArray[np.float64]
 ) -> NDArray[np.float64]:
-    """For each block the greatest key of itself and of all that it needs, directly or through others."""
+    """For each block the greatest key of its cone: itself and its predecessors, directly or through others."""
     found = keys.copy()
     for rank in list(ranks)[1:]:
-        above = found[rows_of(precedences.starts, precedences.needed, rank)]
+        above = found[rows_of(precedences.starts, precedences.predecessors, rank)]
         found[rank] = np.maximum(found[rank], np.maximum.reduceat(above, row_starts(precedences, rank)))
     return found
 
@@ -96,7 +96,7 @@ def row_starts(precedences: BlockPrecedences, rows: NDArray[np.int64]) -> NDArra
 
 
 def cone_sums(precedences: BlockPrecedences, ranks: Ranks, amounts: NDArray[np.float64]) -> NDArray[np.float64]:
-    """What the cone of each block, itself and all that it needs directly or through others, adds up to of amounts of shape (blocks,
+    """What the cone of each block, itself and its predecessors directly or through others, adds up to of amounts of shape (blocks,
     kinds)."""
     sums = np.zeros_like(amounts)
     for first in range(0, len(amounts), AT_ONCE):
@@ -122,7 +122,7 @@ def cones_with(precedences: BlockPrecedences, ranks: Ranks, marked: NDArray[np.i
     number = np.arange(len(marked))
     held[marked, number // BITS] = np.left_shift(np.uint64(1), (number % BITS).astype(np.uint64))
     for rank in list(ranks)[1:]:
-        above = held[rows_of(precedences.starts, precedences.needed, rank)]
+        above = held[rows_of(precedences.starts, precedences.predecessors, rank)]
         held[rank] |= np.bitwise_or.reduceat(above, row_starts(precedences, rank), axis=0)
     return held
 
@@ -157,6 +157,21 @@ class Room:
             for number, (amounts, left) in enumerate(zip(self.amounts, self.left))
             if number not in self.spread
         ]
+
+        # What each block uses of a limit wherever it goes.
+        least = [limit.amounts.min(axis=1) for limit in problem.limits]
+        self.anywhere = [
+            (least[number].tolist(), left)
+            for number, left in enumerate(self.left)
+            if number not in self.spread and (least[number] > 0).any()
+        ]
+
+    def fits_somewhere(self, block: int, year: int) -> bool:
+        """Whether a year may have room for a block: whether it has what the block uses wherever it goes."""
+        for least, left in self.anywhere:
+            if least[block] > left[year]:
+                return False
+        return True
 
     def years(self, number: int, destination: int, year: int) -> Sequence[int]:
         """The years in which a block uses a limit that is mined in a year."""
@@ -233,21 +248,21 @@ class Filling:
     waits: bool = False
 
     @cached_property
-    def needed(self) -> list[list[int]]:
+    def predecessors(self) -> list[list[int]]:
         precedences = self.problem.precedences
-        bounds, needed = precedences.starts.tolist(), precedences.needed.tolist()
-        return [needed[first:last] for first, last in zip(bounds, bounds[1:])]
+        bounds, blocks = precedences.starts.tolist(), precedences.predecessors.tolist()
+        return [blocks[first:last] for first, last in zip(bounds, bounds[1:])]
 
     @cached_property
     def preferred(self) -> list[list[list[int]]]:
         return self.preference.tolist()
 
     def fill(self, sequence: BlockOrder) -> Assignment:
-        """Each block of the order in the first year with room from the one on in which all that it needs is mined, if there is one."""
+        """Each block of the order in the first year with room from the one on in which its predecessors are mined, if there is one."""
         problem, room = self.problem, Room(self.problem)
         year, destination = [problem.years] * problem.blocks, [0] * problem.blocks
         for block, first in zip(sequence.order.tolist(), sequence.earliest[sequence.order].tolist()):
-            ready = max(map(year.__getitem__, self.needed[block]), default=0)
+            ready = max(map(year.__getitem__, self.predecessors[block]), default=0)
             place = self.place(block, range(max(first, ready), problem.years), room)
             if place is not None:
                 year[block], destination[block] = place
@@ -260,9 +275,12 @@ class Filling:
         if self.waits and room.held:
             # No year has room where a total has none.
             preferred = [sorted(of_year, key=lambda it: not room.fits_in_all(block, it)) for of_year in preferred]
-        first = ((year, preferred[year][0]) for year in years if self.waits)
-        tried = chain(first, ((year, destination) for year in years for destination in preferred[year]))
-        for year, destination in tried:
+        open_years: Iterable[int] = (year for year in years if room.fits_somewhere(block, year))
+        first: Iterable[tuple[int, int]] = ()
+        if self.waits:
+            open_years = list(open_years)
+            first = [(year, preferred[year][0]) for year in open_years]
+        for year, destination in chain(first, ((it, place) for it in open_years for place in preferred[it])):
             if room.fits(block, destination, year):
                 return year, destination
         return None
@@ -288,8 +306,8 @@ def schedule_of(problem: BlockProblem, year: NDArray[np.int64], destination: NDA
 
 
 def paying(problem: BlockProblem, schedule: Assignment) -> Assignment:
-    """The schedule without what earns less, at its time, than it costs: the best of its parts that hold with each block all that it
-    needs. Blocks that take from signed limits stay in the years that do not keep these without them."""
+    """The schedule without what earns less, at its time, than it costs: the best of its parts that hold with each block its
+    predecessors. Blocks that take from signed limits stay in the years that do not keep these without them."""
     stays = np.zeros(problem.blocks, dtype=bool)
     signed = [(limit.amounts * schedule.share).sum(axis=1) < 0 for limit in problem.limits if limit.signed]
     while True:
@@ -304,12 +322,12 @@ def paying(problem: BlockProblem, schedule: Assignment) -> Assignment:
 
 
 def without_losses(problem: BlockProblem, schedule: Assignment, stays: NDArray[np.bool_]) -> Assignment:
-    """The best of the parts of a schedule that hold with each block all that it needs, and the blocks that stay."""
+    """The best of the parts of a schedule that hold with each block its predecessors, and the blocks that stay."""
     is_mined = schedule.year < problem.years
     fixed = np.where(stays, pitshell.FORCED, np.where(is_mined, pitshell.FREE, pitshell.BARRED)).astype(np.uint8)
     whole = upward(schedule.worths(problem)).amounts
     kept = pitshell.solve(
-        whole, (problem.precedences.starts, problem.precedences.needed), fixed, millionths=True
+        whole, (problem.precedences.starts, problem.precedences.predecessors), fixed, millionths=True
     ).in_pit
     return Assignment(np.where(kept, schedule.year, problem.years), np.where(kept[:, None], schedule.share, 0.0))
 
@@ -351,7 +369,7 @@ LEAST, ALL = (LEFT, SOLVER_SUM), 0.0
 class BlockOrder:
     """How years are filled.
 
-    order     the blocks that are mined, each behind all that it needs
+    order     the blocks that are mined, each behind its predecessors
     earliest  of each block of the problem the first year in which it may be mined, from 0: shape (blocks,)
     """
 
@@ -381,7 +399,7 @@ def sequences(
 
 
 def in_order(problem: BlockProblem, ranks: Ranks, key: NDArray, second: NDArray) -> NDArray[np.int64]:
-    """The blocks by rising keys, each behind those that it needs, whose keys may be greater by what the solver leaves open."""
+    """The blocks by rising keys, each behind its predecessors, whose keys may be greater by what the solver leaves open."""
     rank = np.empty(problem.blocks, dtype=np.int64)
     rank[ranks.order] = np.repeat(np.arange(len(ranks.bounds) - 1), np.diff(ranks.bounds))
     first, then = (
@@ -417,14 +435,14 @@ class Moving:
         moving = Moving(filling, schedule.year.tolist(), destination, Room(problem), users, last, values)
         for block in np.flatnonzero(schedule.year < problem.years).tolist():
             moving.room.take(block, moving.destination[block], moving.year[block])
-            for needed in filling.needed[block]:
-                users[needed].append(block)
+            for predecessor in filling.predecessors[block]:
+                users[predecessor].append(block)
         return moving
 
     def move(self, block: int) -> bool:
         """Moves a block to the year and destination where it earns most, of those that have room; gives whether it has moved."""
         now = self.year[block], self.destination[block]
-        first = max(map(self.year.__getitem__, self.filling.needed[block]), default=0)
+        first = max(map(self.year.__getitem__, self.filling.predecessors[block]), default=0)
         last = min(map(self.year.__getitem__, self.users[block]), default=self.last)
         worth = self.worth[block]
         self.room.take(block, now[1], now[0], -1)
@@ -439,8 +457,8 @@ class Moving:
 
 
 def moved(filling: Filling, ranks: Ranks, schedule: Assignment) -> Assignment:
-    """The schedule, whose blocks go to one destination each, with blocks moved as long as that earns more: by turns from those that nothing
-    needs on, for what costs to be mined later, and from those on that need nothing, for what earns to be mined sooner.
+    """The schedule, whose blocks go to one destination each, with blocks moved as long as that earns more: by turns from those that are no
+    predecessor on, for what costs to be mined later, and from those on that have none, for what earns to be mined sooner.
     """
     moving = Moving.of(filling, schedule)
     mined = [block for block in ranks.order.tolist() if moving.year[block] < filling.problem.years]

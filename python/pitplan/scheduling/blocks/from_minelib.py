@@ -24,11 +24,11 @@ def of_minelib(model: Path, prec: Path, second: Optional[str] = None) -> BlockPr
     values = np.array([[float(value) for value in of_block] for of_block in read.values]).reshape(blocks, -1)
     precedences = precedence.read(prec, blocks, MOST_NODES).needs
     counts = np.array([len(precedences.get(block, ())) for block in range(blocks)], dtype=np.int64)
-    needed = np.array([other for block in sorted(precedences) for other in precedences[block]], dtype=np.uint32)
+    found = np.array([other for block in sorted(precedences) for other in precedences[block]], dtype=np.uint32)
     starts = np.concatenate([[0], np.cumsum(counts)]).astype(np.uint32)
     discounts = (1 + float(read.rate)) ** -np.arange(float(read.periods))
     limits = tuple(limit_of(read, resource) for resource in range(len(read.taken)))
-    return BlockProblem(values[:, :, None] * discounts, BlockPrecedences(starts, needed), limits)
+    return BlockProblem(values[:, :, None] * discounts, BlockPrecedences(starts, found), limits)
 
 
 def limit_of(model: ScheduleModel, resource: int) -> BlockLimit:

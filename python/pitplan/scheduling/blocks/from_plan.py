@@ -1,4 +1,4 @@
-"""The blocks of a plan as a problem: what they earn by year, what they need, and the limits of `[schedule]`."""
+"""The blocks of a plan as a problem: what they earn by year, their predecessors, and the limits of `[schedule]`."""
 
 from __future__ import annotations
 
@@ -365,7 +365,7 @@ class Minable:
 
     @staticmethod
     def of_plan(plan: Plan, wanted: NDArray[np.bool_]) -> Minable:
-        """Returns the cells that are wanted, or must be mined, with all that they need except for air that no rock lies over."""
+        """Returns the cells that are wanted, or must be mined, with their predecessors except for air that no rock lies over."""
         cells = cells_of(plan, wanted)
         precedences = precedences_of(plan, cells)
         has_rock = (plan.values.tonnes[cells] > 0).astype(float)
@@ -377,7 +377,7 @@ class Minable:
         """Returns whether each block is in the pit of greatest value that holds the must-mine blocks."""
         cash = amounts.greatest_cash(project)
         fixed = np.where(self.must_mine, pitshell.FORCED, pitshell.FREE).astype(np.uint8)
-        precedences = self.precedences.starts, self.precedences.needed
+        precedences = self.precedences.starts, self.precedences.predecessors
         return pitshell.solve(upward(cash).amounts, precedences, fixed, millionths=True).in_pit
 
     def totals(self, amounts: BlockAmounts, project: Project) -> tuple[TotalLimit, ...]:
@@ -463,7 +463,7 @@ def of_plan(plan: Plan) -> PlannedBlocks:
     grades = head_grades(plan)
     of_all = BlockAmounts.of_plan(plan, grades)
     minable = Minable.of_plan(plan, (of_all.greatest_cash(project) > 0) | owing(plan, of_all))
-    demand_room(len(minable.cells), len(minable.precedences.needed), f"{project.path}: ")
+    demand_room(len(minable.cells), len(minable.precedences.predecessors), f"{project.path}: ")
     amounts = of_all.of_cells(minable.cells)
     goes = taken(plan, minable.cells, amounts.pays)
     # Without dumps a process in which a block yields nothing costs what waste costs.
@@ -553,7 +553,7 @@ def demand_small(plan: Plan, cells: NDArray[np.int64]) -> None:
 
 
 def cells_of(plan: Plan, wanted: NDArray[np.bool_]) -> NDArray[np.int64]:
-    """The cells that are wanted, or must be mined, with all that they need; none that may not be mined, and none that needs one such."""
+    """The cells that are wanted, or must be mined, with their predecessors; none that may not be mined, and none that has one such as a predecessor."""
     left = np.zeros(plan.grid.count, dtype=bool) if plan.settled is None else plan.settled.left
     wanted = wanted & ~left
     wanted[plan.fixed.must_mine] = True
@@ -622,16 +622,16 @@ def of_money(plan: Plan) -> Flows:
 
 
 def precedences_of(plan: Plan, cells: NDArray[np.int64]) -> BlockPrecedences:
-    """The needs among cells, which rise, and with which stand all that they need."""
+    """The precedences among cells, which rise and have their predecessors among them."""
     number = np.full(plan.grid.count, -1)
     number[cells] = np.arange(len(cells))
-    counts, needed = [np.zeros(0, dtype=np.int64)], [np.zeros(0, dtype=np.int64)]
+    counts, predecessors = [np.zeros(0, dtype=np.int64)], [np.zeros(0, dtype=np.int64)]
     for part in slices(plan.grid, plan.domains, cells) if len(cells) else ():
-        is_need = part.precedences != ABSENT
-        counts.append(is_need.sum(axis=1))
-        needed.append(number[part.precedences[is_need]])
+        is_there = part.precedences != ABSENT
+        counts.append(is_there.sum(axis=1))
+        predecessors.append(number[part.precedences[is_there]])
     starts = np.concatenate([[0], np.cumsum(np.concatenate(counts))])
-    return BlockPrecedences(starts.astype(np.uint32), np.concatenate(needed).astype(np.uint32))
+    return BlockPrecedences(starts.astype(np.uint32), np.concatenate(predecessors).astype(np.uint32))
 
 
 def years_of(pits: Sequence[dict[str, float]], project: Project) -> int:

@@ -1,4 +1,4 @@
-"""What is scheduled block by block: what each block earns by year, what it needs, and what a year may hold.
+"""What is scheduled block by block: what each block earns by year, its predecessors, and what a year may hold.
 
 With one destination this is the constrained pit limit problem (CPIT), with several the precedence constrained production scheduling
 problem (PCPSP) of Espinoza, Goycoolea, Moreno and Newman (MineLib: a library of open pit mining problems, Annals of Operations Research
@@ -178,34 +178,34 @@ class TotalLimit:
 
 @dataclass(frozen=True)
 class BlockPrecedences:
-    """Which blocks each block needs: block u needs `needed[starts[u]:starts[u + 1]]`; both uint32, as the library of pits takes them."""
+    """The predecessors of each block: those of block u are `predecessors[starts[u]:starts[u + 1]]`; both uint32, as the library of pits takes them."""
 
     starts: NDArray[np.uint32]
-    needed: NDArray[np.uint32]
+    predecessors: NDArray[np.uint32]
 
     @property
     def users(self) -> NDArray[np.int64]:
-        """For each pair the block that needs the other: shape (pairs,)."""
+        """For each pair the block whose predecessor the other is: shape (pairs,)."""
         return np.repeat(np.arange(len(self.starts) - 1), np.diff(self.starts.astype(np.int64)))
 
     def within(self, kept: NDArray[np.bool_]) -> BlockPrecedences:
         """The pairs whose two blocks are kept, by the numbers that these have among themselves."""
         number = np.cumsum(kept, dtype=np.int64) - 1
         users = self.users
-        both = kept[users] & kept[self.needed]
+        both = kept[users] & kept[self.predecessors]
         starts = np.zeros(int(kept.sum()) + 1, dtype=np.uint32)
         np.cumsum(np.bincount(number[users[both]], minlength=len(starts) - 1), out=starts[1:], dtype=np.uint32)
-        return BlockPrecedences(starts, number[self.needed[both]].astype(np.uint32))
+        return BlockPrecedences(starts, number[self.predecessors[both]].astype(np.uint32))
 
     def in_order(self, order: NDArray[np.int64]) -> BlockPrecedences:
-        """The same needs with the blocks in an order."""
+        """The same precedences with the blocks in an order."""
         number = np.empty(len(order), dtype=np.uint32)
         number[order] = np.arange(len(order))
         first = self.starts[order].astype(np.int64)
         counts = self.starts[order + 1] - first
         starts = np.concatenate([[0], np.cumsum(counts)])
         place = np.arange(starts[-1]) + np.repeat(first - starts[:-1], counts)
-        return BlockPrecedences(starts.astype(np.uint32), number[self.needed[place]])
+        return BlockPrecedences(starts.astype(np.uint32), number[self.predecessors[place]])
 
 
 @dataclass(frozen=True)
@@ -283,11 +283,11 @@ class BlockProblem:
         return self.each(lambda values: values[order], self.precedences.in_order(order))
 
     def of_blocks(self, kept: NDArray[np.bool_]) -> BlockProblem:
-        """The problem of these blocks alone, which need none of the others."""
+        """The problem of these blocks alone, which have none of the others as predecessors."""
         return self.each(lambda values: values[kept], self.precedences.within(kept))
 
     def of_some(self, blocks: NDArray[np.int64]) -> BlockProblem:
-        """The problem of some blocks, without their needs."""
+        """The problem of some blocks, without their precedences."""
         none = BlockPrecedences(np.zeros(len(blocks) + 1, dtype=np.uint32), np.zeros(0, dtype=np.uint32))
         return self.each(lambda values: values[blocks], none)
 
@@ -351,15 +351,15 @@ def demand_sound(problem: BlockProblem) -> None:
 #
 # With several destinations a block has a node for each of them in a year, one after the other: "mined before, or in
 # this year and sent to one of the destinations up to this one". A node needs the next one of its block, in the year
-# or in the next year, and the last one of a year those of all that its block needs. So a closed set of nodes is a
+# or in the next year, and the last one of a year those of the predecessors of its block. So a closed set of nodes is a
 # schedule without limits (Bienstock and Zuckerberg, Solving LP relaxations of large-scale precedence constrained
 # problems, IPCO 2010).
 #
-# Only the last node of a year is one that other blocks need. So a maximum closure takes one node for each block and
+# Only the last node of a year is one that others depend on. So a maximum closure takes one node for each block and
 # year, worth as much as the best destination of that year; `expanded` then gives the nodes of destinations
 # .
 #
-# Blocks are ordered by the first year in which they can be mined, so that those of a year, with all that they need,
+# Blocks are ordered by the first year in which they can be mined, so that those of a year, with their predecessors,
 # come first.
 
 # What the library of pits takes.
@@ -424,10 +424,10 @@ class Nodes:
         return np.concatenate(parts)
 
     def of_year(self, year: int) -> BlockPrecedences:
-        """Returns what the blocks that can be mined by a year need of each other."""
+        """Returns the precedences among the blocks that can be mined by a year."""
         precedences = self.problem.precedences
         starts = precedences.starts[: self.counts[year] + 1]
-        return BlockPrecedences(starts, precedences.needed[: starts[-1]])
+        return BlockPrecedences(starts, precedences.predecessors[: starts[-1]])
 
     def size_of(self, first: int, last: int) -> tuple[int, int]:
         """Returns the number of blocks by year, and of precedences, of the closure of the years from `first` up to `last`, without that."""
@@ -449,14 +449,14 @@ class Nodes:
         lengths = np.concatenate([np.diff(part.starts.astype(np.int64)) for part in parts])
         lengths[: base[-2]] += 1
         starts = np.concatenate([[0], np.cumsum(lengths)])
-        needed = np.empty(starts[-1], dtype=np.uint32)
+        predecessors = np.empty(starts[-1], dtype=np.uint32)
         for part, offset, count, following in zip(parts, base, counts, [*base[1:-1], None]):
             row = np.repeat(np.arange(count), np.diff(part.starts.astype(np.int64)))
-            place = starts[offset + row] + np.arange(len(part.needed)) - part.starts[row]
-            needed[place] = part.needed + np.uint32(offset)
+            place = starts[offset + row] + np.arange(len(part.predecessors)) - part.starts[row]
+            predecessors[place] = part.predecessors + np.uint32(offset)
             if following is not None:
-                needed[starts[offset + np.arange(count) + 1] - 1] = following + np.arange(count)
-        return BlockPrecedences(starts.astype(np.uint32), needed)
+                predecessors[starts[offset + np.arange(count) + 1] - 1] = following + np.arange(count)
+        return BlockPrecedences(starts.astype(np.uint32), predecessors)
 
 
 def demand_room(blocks: int, pairs: int, source: str = "") -> None:
@@ -471,7 +471,7 @@ def demand_room(blocks: int, pairs: int, source: str = "") -> None:
 def nodes_of(problem: BlockProblem, first: NDArray[np.int64]) -> Nodes:
     """Returns the nodes of a problem whose blocks stand by rising first years. Raises PlanError if those of a year are more than the library
     takes."""
-    demand_room(problem.blocks, len(problem.precedences.needed))
+    demand_room(problem.blocks, len(problem.precedences.predecessors))
     return Nodes(problem, first)
 
 
@@ -599,11 +599,11 @@ class Assignment:
         return self.is_allowed(problem) and not self.lacking(problem)
 
     def is_allowed(self, problem: BlockProblem) -> bool:
-        """Whether no block is mined before one that it needs, each goes whole to destinations, and no year, nor all together, is above a limit
+        """Whether no block is mined before a predecessor, each goes whole to destinations, and no year, nor all together, is above a limit
         except for a hair."""
         is_mined = self.year < problem.years
         whole = np.abs(self.share.sum(axis=1) - is_mined) <= SUM_ERROR
-        ordered = self.year[problem.precedences.users] >= self.year[problem.precedences.needed]
+        ordered = self.year[problem.precedences.users] >= self.year[problem.precedences.predecessors]
         within = all(it.used(self.share) <= it.most * (1 + SUM_ERROR) for it in problem.totals)
         is_kept = within and not self.exceeded(problem).any()
         return bool(whole.all() and (self.share >= 0).all() and ordered.all() and is_kept)

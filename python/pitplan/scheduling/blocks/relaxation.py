@@ -299,17 +299,17 @@ def scale_of(most: NDArray[np.float64], used: NDArray[np.float64]) -> NDArray[np
 
 
 def pairs_of(groups: Groups, nodes: Nodes) -> csr_matrix:
-    """Which groups need which others, as places of a matrix: some node of one needs some node of the other."""
-    differ = ((user[user != needed], needed[user != needed]) for user, needed in pairs_by_year(groups, nodes))
-    places = (user.astype(np.int64) * groups.count + needed for user, needed in differ)
+    """Which groups depend on which others, as places of a matrix: some node of one depends on some node of the other."""
+    differ = ((user[user != other], other[user != other]) for user, other in pairs_by_year(groups, nodes))
+    places = (user.astype(np.int64) * groups.count + other for user, other in differ)
     return matrix_of(places, groups.count)
 
 
 def joined_pairs(pairs: csr_matrix, component: NDArray[np.int32], count: int) -> csr_matrix:
     """The pairs of groups that are put together, by the number of each among these."""
     found = pairs.tocoo()
-    user, needed = component[found.row].astype(np.int64), component[found.col]
-    return matrix_of([(user * count + needed)[user != needed]], count)
+    user, other = component[found.row].astype(np.int64), component[found.col]
+    return matrix_of([(user * count + other)[user != other]], count)
 
 
 def matrix_of(places: Iterable[NDArray[np.int64]], count: int) -> csr_matrix:
@@ -334,7 +334,7 @@ def pairs_by_year(groups: Groups, nodes: Nodes) -> Iterator[tuple[NDArray, NDArr
     for year, label in enumerate(labels):
         precedences, last = nodes.of_year(year), np.ascontiguousarray(label[:, -1])
         yield label[:, :-1].ravel(), label[:, 1:].ravel()
-        yield np.repeat(last, np.diff(precedences.starts.astype(np.int64))), last[precedences.needed]
+        yield np.repeat(last, np.diff(precedences.starts.astype(np.int64))), last[precedences.predecessors]
         if year + 1 < len(labels):
             yield last, labels[year + 1][: len(label), 0]
 
@@ -349,10 +349,10 @@ def order_rows(pairs: csr_matrix) -> csr_matrix:
     """A row for each pair: the share of the one is at most that of the other."""
     pairs = pairs.tocoo()
     some = pairs.data > 0
-    users, needed = pairs.row[some], pairs.col[some]
+    users, others = pairs.row[some], pairs.col[some]
     row = np.tile(np.arange(len(users)), 2)
     signs = np.repeat([1.0, -1.0], len(users))
-    return coo_matrix((signs, (row, np.concatenate([users, needed]))), shape=(len(users), pairs.shape[0])).tocsr()
+    return coo_matrix((signs, (row, np.concatenate([users, others]))), shape=(len(users), pairs.shape[0])).tocsr()
 
 
 # The bound of all schedules by block: the linear relaxation, solved by rounds of a small programme and a closure.
@@ -526,7 +526,7 @@ def first_groups(nodes: Nodes) -> Groups:
     problem = nodes.problem
     values = upward(problem.values[:, :, 0].max(axis=1)).amounts
     factors = range(1000 // FIRST_PITS, 1001, 1000 // FIRST_PITS)
-    precedences = (problem.precedences.starts, problem.precedences.needed)
+    precedences = (problem.precedences.starts, problem.precedences.predecessors)
     nested = pitshell.shells(np.maximum(values, 0), np.maximum(-values, 0), precedences, factors, millionths=True)
     # All that goes to stockpiles in a year is a group at first.
     place = np.minimum(np.arange(problem.destinations), problem.at_once)
@@ -540,16 +540,16 @@ def worth_mining(problem: BlockProblem, required: Optional[NDArray[np.bool_]] = 
     default all that take from a signed limit.
 
     They are a closed set U such that in no year a closed set gains by what it has besides U, where a block gains what it earns in the year
-    less what it earns in the next one. What adds to a sum that has a least, or is required, is in U, with all that it needs. So a schedule
+    less what it earns in the next one. What adds to a sum that has a least, or is required, is in U, with its predecessors. So a schedule
     without its blocks outside U still keeps every limit: from above since they take from no sum, if all that do are required, and from below
     since they add nothing. And it
     earns no less: what these earn is the sum over years of what they gain with all of them that are mined by then. Where a block earns one
     value times a discount that falls with the years, and nothing is due, U is the ultimate pit.
 
-    Raises pitshell.Refusal where the needs are invalid.
+    Raises pitshell.Refusal where the precedences are invalid.
     """
     gains = by_end(upward(problem.values.max(axis=1)).amounts)
-    precedences = problem.precedences.starts, problem.precedences.needed
+    precedences = problem.precedences.starts, problem.precedences.predecessors
     kept = problem.owing | (problem.easing if required is None else required)
     years_without = 0
     for year in cycle(range(problem.years)):
@@ -563,7 +563,7 @@ def worth_mining(problem: BlockProblem, required: Optional[NDArray[np.bool_]] = 
 
 
 def earliest_years(problem: BlockProblem, ranks: Ranks) -> NDArray[np.int64]:
-    """The first year, from 0, by whose end a block can be mined with all that it needs, as the limits up to then allow; as many as there are
+    """The first year, from 0, by whose end a block can be mined with its predecessors, as the limits up to then allow; as many as there are
     years where none exists. Shape (blocks,). Signed limits show no such year, since other blocks may make room."""
     first, limits = np.zeros(problem.blocks, dtype=np.int64), [limit for limit in problem.limits if not limit.signed]
     if not limits:
@@ -641,7 +641,7 @@ class Growing:
 
     def asked(self, part: Reduced, multipliers: NDArray[np.float64]) -> NDArray[np.bool_]:
         """Returns the blocks besides those of a part that a closure of all blocks has at the multipliers. In it a block that is not in the part is
-        mined in no year before those that it needs."""
+        mined in no year before its predecessors."""
         problem, first = self.problem, np.zeros(self.problem.blocks)
         first[part.kept] = part.nodes.first
         first[self.lost] = problem.years

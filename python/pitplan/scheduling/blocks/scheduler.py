@@ -74,7 +74,7 @@ def solve(problem: BlockProblem, effort: Optional[Effort] = None, progress: Prog
     does, and KeyboardInterrupt where it is interrupted before there is a bound.
     """
     demand_sound(problem)
-    demand_room(problem.blocks, len(problem.precedences.needed))
+    demand_room(problem.blocks, len(problem.precedences.predecessors))
     began = time.monotonic()
     with progress.step(f"removing blocks that no schedule needs, of {problem.blocks:,} blocks"):
         part = reduced(problem, first_required(problem))

@@ -33,7 +33,6 @@ from pitplan.scheduling.certificate import (
     UNIT,
     WHOLE,
     Certificate,
-    Predecessors,
     Shares,
     StatedLimit,
     Term,
@@ -606,12 +605,11 @@ def of_schedule(
     limits = [it for limit, paid in zip(problem.limits, prices / unit) for it in stated(limit, paid)]
     limits += [stated_total(total, paid) for total, paid in zip(problem.totals, prices[count:] / unit)]
     rows, shares = rows_of(limits, shares_of(schedule, problem.years))
-    predecessors = Predecessors(problem.precedences.starts, problem.precedences.needed)
     terms = terms_of(millionths(values / unit))
     if problem.lags is not None:
         again = zip(terms_of(millionths(later / unit)), problem.lags.tolist())
         terms += tuple(replace(term, lag=lag) for term, lag in again if 0 < lag < problem.years)
-    return Certificate(values.shape[1], terms, millionths(discounts), rows, predecessors, shares, unit)
+    return Certificate(values.shape[1], terms, millionths(discounts), rows, problem.precedences, shares, unit)
 
 
 def values_of(problem: BlockProblem, discounts: NDArray[np.float64]) -> tuple[NDArray[np.float64], NDArray[np.float64]]:

@@ -1,8 +1,8 @@
 """A schedule made better by integer programmes: some years at a time, and of their blocks those that the relaxation decides least.
 
 The unknowns of a window are, for each of its free blocks and each of its years, whether the block is mined by the year's end, and in which
-shares it goes to destinations in that year. All other blocks stay as they are: a free block is mined no sooner than what it needs of them and
-no later than what needs it, and what they take of the limits is taken off.
+shares it goes to destinations in that year. All other blocks stay as they are: a free block is mined no sooner than its predecessors among them and
+no later than a block whose predecessor it is, and what they take of the limits is taken off.
 """
 
 from __future__ import annotations
@@ -190,13 +190,13 @@ class Window:
         Also the last year in which it may be mined, since a fixed block depends on it; the number of years if none does.
         """
         problem, year, number = self.problem, self.schedule.year, self.number
-        users, needed = problem.precedences.users, problem.precedences.needed.astype(np.int64)
+        users, others = problem.precedences.users, problem.precedences.predecessors.astype(np.int64)
         soonest, latest = np.full(len(self.blocks), self.first), np.full(len(self.blocks), problem.years)
-        some = (number[users] >= 0) & (number[needed] < 0)
-        np.maximum.at(soonest, number[users[some]], year[needed[some]])
+        some = (number[users] >= 0) & (number[others] < 0)
+        np.maximum.at(soonest, number[users[some]], year[others[some]])
         soonest = np.maximum(soonest, self.first + earliest_years(self.part, ranks_of(self.part.precedences)))
-        some = (number[users] < 0) & (number[needed] >= 0)
-        np.minimum.at(latest, number[needed[some]], year[users[some]])
+        some = (number[users] < 0) & (number[others] >= 0)
+        np.minimum.at(latest, number[others[some]], year[users[some]])
         return soonest, latest
 
     def shares(self) -> Iterator[tuple[csr_matrix, NDArray[np.float64]]]:
@@ -209,8 +209,11 @@ class Window:
         yield -row, np.zeros(row.shape[0])
 
     def order(self) -> tuple[csr_matrix, NDArray[np.float64]]:
-        """No free block is mined before another that it needs."""
-        less, more = self.place[self.part.precedences.users].ravel(), self.place[self.part.precedences.needed].ravel()
+        """No free block is mined before a predecessor."""
+        less, more = (
+            self.place[self.part.precedences.users].ravel(),
+            self.place[self.part.precedences.predecessors].ravel(),
+        )
         row = np.tile(np.arange(len(less)), 2)
         signs = np.repeat([1.0, -1.0], len(less))
         matrix = coo_matrix((signs, (row, np.concatenate([less, more]))), shape=(len(less), self.width))
@@ -263,7 +266,7 @@ class Window:
         return vstack(rows, format="csr"), np.concatenate(left)
 
     def due(self, latest: NDArray[np.int64]) -> tuple[csr_matrix, NDArray[np.float64]]:
-        """What others need is mined by then."""
+        """Predecessors of other blocks are mined by then."""
         some = np.flatnonzero(latest < self.problem.years)
         at = self.place[some, np.minimum(latest[some], self.last - 1) - self.first]
         matrix = csr_matrix((-np.ones(len(some)), (np.arange(len(some)), at)), shape=(len(some), self.width))

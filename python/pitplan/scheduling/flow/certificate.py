@@ -17,17 +17,8 @@ import numpy as np
 from numpy.typing import NDArray
 
 from pitplan.core.tolerances import MILLIONTHS_ERROR, SOLVER_SHARE
-from pitplan.scheduling.certificate import (
-    UNIT,
-    Certificate,
-    Predecessors,
-    Shares,
-    StatedLimit,
-    Term,
-    millionths,
-    money_unit,
-    rows_of,
-)
+from pitplan.scheduling.blocks.problem import BlockPrecedences
+from pitplan.scheduling.certificate import UNIT, Certificate, Shares, StatedLimit, Term, millionths, money_unit, rows_of
 from pitplan.scheduling.limits import ADVANCE, MIN, STOCK, Prices
 
 from .bound import Lagrangian
@@ -284,7 +275,7 @@ class FlowCertificate:
         """The certificate. Raises PlanError if a number is out of range, or if the schedule exceeds a limit by more than rounding."""
         rows, shares = rows_of([self.stated(*key) for key in self.amounts], self.shares)
         discounts = millionths(self.model.discounts)
-        return Certificate(len(self.destinations), self.values, discounts, rows, self.predecessors, shares, self.unit)
+        return Certificate(len(self.destinations), self.values, discounts, rows, self.precedences, shares, self.unit)
 
     @cached_property
     def unit(self) -> int:
@@ -326,7 +317,7 @@ class FlowCertificate:
         return np.lexsort((worth, self.model.ore.bench))
 
     @property
-    def predecessors(self) -> Predecessors:
+    def precedences(self) -> BlockPrecedences:
         benches, ore = self.model.benches, self.model.ore
         count, order = len(benches), self.chain
         bench = ore.bench[order]
@@ -340,7 +331,8 @@ class FlowCertificate:
             *np.ones(len(ore), dtype=int),
             *np.zeros(len(self.model.opening.ore), dtype=int),
         ]
-        return Predecessors(np.append(0, np.cumsum(sizes)).astype(np.int64), np.concatenate([*of_benches, before]))
+        starts, predecessors = np.append(0, np.cumsum(sizes)), np.concatenate([*of_benches, before])
+        return BlockPrecedences(starts.astype(np.uint32), predecessors.astype(np.uint32))
 
     def names(self, toes: NDArray[np.float64], cells: NDArray[np.int64]) -> list[str]:
         """Returns the name of each block of the texts: pushback and toe of a bench, `id` of a block of ore, stockpile of a lot."""

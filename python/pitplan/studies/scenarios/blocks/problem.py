@@ -73,7 +73,7 @@ class ScenarioBlocks:
         """Returns the arrays for a file; the periods are in the record."""
         of = self.minable
         found = {"cells": of.cells, "must_mine": of.must_mine}
-        return found | {"starts": of.precedences.starts, "needed": of.precedences.needed}
+        return found | {"starts": of.precedences.starts, "needed": of.precedences.predecessors}
 
     @staticmethod
     def of_arrays(arrays: dict[str, NDArray[Any]], periods: int) -> ScenarioBlocks:
