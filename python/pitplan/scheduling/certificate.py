@@ -20,7 +20,7 @@ from pitplan.economics.period_costs import of_project
 from pitplan.errors import PlanError, ProgramError
 from pitplan.solver.choice import is_proved
 
-from .blocks.problem import BlockPrecedences
+from .block_precedences import BlockPrecedences
 from .methods import PROVED
 
 # Numbers of the texts are millionths.

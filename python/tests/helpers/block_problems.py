@@ -8,7 +8,8 @@ import pytest
 from scipy.optimize import Bounds, LinearConstraint, linprog, milp
 
 from pitplan.config.schedule import Effort
-from pitplan.scheduling.blocks.problem import BlockLimit, BlockPrecedences, BlockProblem, TotalLimit, nodes_of
+from pitplan.scheduling.block_precedences import BlockPrecedences
+from pitplan.scheduling.blocks.problem import BlockLimit, BlockProblem, TotalLimit, nodes_of
 
 EXACT = Effort(1e-9)
 

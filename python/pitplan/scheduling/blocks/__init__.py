@@ -11,7 +11,9 @@ proved library of pits solves. Schedules follow the order in which the relaxatio
 where they go, and by integer programmes (`window_milp`).
 """
 
-from .problem import Assignment, BlockLimit, BlockPrecedences, BlockProblem
+from pitplan.scheduling.block_precedences import BlockPrecedences
+
+from .problem import Assignment, BlockLimit, BlockProblem
 from .scheduler import Scheduled, solve
 
 __all__ = ["BlockProblem", "Assignment", "BlockLimit", "BlockPrecedences", "Scheduled", "solve"]

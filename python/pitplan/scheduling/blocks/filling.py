@@ -15,8 +15,9 @@ from scipy.sparse import csr_matrix, eye, kron, vstack
 
 import pitshell
 from pitplan.core.tolerances import SOLVER_SHARE, SOLVER_SUM, SUM_ERROR
+from pitplan.scheduling.block_precedences import BlockPrecedences
 
-from .problem import Assignment, BlockLimit, BlockPrecedences, BlockProblem, ShareIndex, nothing, upward
+from .problem import Assignment, BlockLimit, BlockProblem, ShareIndex, nothing, upward
 
 # The bits of a word, and the number of blocks handled at once when the cones that hold them are marked.
 BITS, AT_ONCE = 64, 4096

@@ -9,8 +9,9 @@ import numpy as np
 
 from minelib import precedence, schedule_models
 from minelib.schedule_models import ScheduleModel
+from pitplan.scheduling.block_precedences import BlockPrecedences
 
-from .problem import MOST_NODES, BlockLimit, BlockPrecedences, BlockProblem
+from .problem import MOST_NODES, BlockLimit, BlockProblem
 
 
 def of_minelib(model: Path, prec: Path, second: Optional[str] = None) -> BlockProblem:

@@ -23,6 +23,7 @@ from pitplan.pits.best_worst_case import year_discounts
 from pitplan.plan import MILLION, Plan
 from pitplan.pushbacks.bench_table import CASH, ORE, ROCK
 from pitplan.scheduling.bench_sequencing import costs_of_years
+from pitplan.scheduling.block_precedences import BlockPrecedences
 from pitplan.scheduling.flow.material import content_of, ore_of
 from pitplan.scheduling.limits import (
     DUMP,
@@ -42,7 +43,7 @@ from pitplan.slopes import closure
 from pitplan.slopes.domains import ABSENT, slices
 
 from .filling import greatest_of_predecessors, ranks_of
-from .problem import Assignment, BlockLimit, BlockPrecedences, BlockProblem, TotalLimit, demand_room, upward
+from .problem import Assignment, BlockLimit, BlockProblem, TotalLimit, demand_room, upward
 
 ADDED_COST = "[pushbacks] mining_cost_added"
 # The cash of reclaimed ore among the flows of blocks.

@@ -17,7 +17,7 @@ import numpy as np
 from numpy.typing import NDArray
 
 from pitplan.core.tolerances import MILLIONTHS_ERROR, SOLVER_SHARE
-from pitplan.scheduling.blocks.problem import BlockPrecedences
+from pitplan.scheduling.block_precedences import BlockPrecedences
 from pitplan.scheduling.certificate import UNIT, Certificate, Shares, StatedLimit, Term, millionths, money_unit, rows_of
 from pitplan.scheduling.limits import ADVANCE, MIN, STOCK, Prices
 
