@@ -25,8 +25,8 @@ from planaudit.schedules.certificate_texts import FOLDER, KEY, MONEY, NAME, ROUN
 from planaudit.schedules.discounts import discount
 from planaudit.schedules.dumps import DUMP, DUMPED
 
-# Millionths by which a share may differ, since shares are rounded and then reduced until they keep the limits, each of which a solver may miss by a
-# millionth of the largest amount.
+# Millionths by which a share may differ: shares are rounded, and then reduced until they keep the limits. A solver may miss each limit by a millionth
+# of the largest amount.
 MOVED = 20
 HOLDS = "the certificate has the block values, limits, discount factors, multipliers and years of the run, and its value and bound are those of the schedule"
 
