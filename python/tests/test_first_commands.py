@@ -103,6 +103,13 @@ def test_the_first_block_of_a_page_makes_its_table(name, example):
             assert cell == (due[column] if unit is None else f"{due[column] / unit:,.{places}f}"), (head, row)
 
 
+def test_the_command_of_readme_prints_what_it_shows(example, capsys):
+    command, shown, *_ = blocks((ROOT / "README.md").read_text(encoding="utf-8"))
+    assert command.text.strip() == "pitplan shells examples/plan/project.toml --out build/plan"
+    assert main(["shells", "--out", "build/plan", "--quiet", "--no-figures", "--no-verify"]) == 0
+    assert capsys.readouterr().out.splitlines()[-2:] == shown.text.splitlines()
+
+
 @pytest.mark.parametrize("name", ["pushbacks", "schedules"])
 def test_the_example_has_the_first_block_of_the_page(name):
     project = tomllib.loads((EXAMPLE / "project.toml").read_text(encoding="utf-8"))
