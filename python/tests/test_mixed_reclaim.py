@@ -60,7 +60,7 @@ def test_a_schedule_has_its_npv_at_mean_grade_in_tables_and_notes(stocked):
     notes = json.loads((folder / "plan/schedule/plan.json").read_text())["notes"]
     (grades,) = [note for note in notes if note.startswith("stockpile low: reclaimed grade of copper")]
     (value,) = [note for note in notes if "gives back the mean of what lies there" in note]
-    assert f"{lp['npv_at_mean_grade']:,.0f}" in value and "of the mean of the pile" in grades
+    assert f"{lp['npv_at_mean_grade']:,.0f}" in value and "in brackets the mean of the pile" in grades
 
 
 @pytest.mark.parametrize(

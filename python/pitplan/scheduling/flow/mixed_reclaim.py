@@ -124,7 +124,7 @@ def unlike_mean(table: pd.DataFrame, starts: Mapping[str, Optional[pd.Series]], 
                 first = float(start[f"contained_{metal.name}"]) / float(GRADE_UNITS[metal.unit]) / start["feed_tonnes"]
             lay, taken = np.append(first, rows[f"grade_{metal.name}"])[:-1], rows[f"reclaimed_grade_{metal.name}"]
             apart = np.flatnonzero(np.abs(taken - lay) > APART * np.abs(lay))
-            by_year = [f"{rows['year'].iloc[k]}: {taken.iloc[k]:.4g} of {lay[k]:.4g}" for k in apart]
+            by_year = [f"{rows['year'].iloc[k]}: {taken.iloc[k]:.4g} ({lay[k]:.4g})" for k in apart]
             if by_year:
-                what = f"reclaimed grade of {metal.name} of the mean of the pile, {metal.sign}"
+                what = f"reclaimed grade of {metal.name}, {metal.sign}, and in brackets the mean of the pile"
                 yield f"stockpile {name}: {what}, by {word}: {', '.join(by_year)}"
