@@ -19,7 +19,7 @@ from pitplan import PlanError
 from pitplan.config.schedule import Effort
 from pitplan.scheduling.blocks import solve
 from pitplan.scheduling.blocks.closure import priced
-from pitplan.scheduling.blocks.problem import Assignment, demand_sound as demand_problem
+from pitplan.scheduling.blocks.problem import Assignment, BlockLimit, demand_sound as demand_problem
 from pitplan.scheduling.blocks.relaxation import relaxed
 
 
@@ -197,3 +197,21 @@ def test_a_bound_without_the_costs_is_found(plan_folder):
     methods = pd.read_csv(folder / "tables/methods.csv").assign(upper_bound=bound, optimality_gap=gap)
     methods.to_csv(folder / "tables/methods.csv", index=False)
     assert wrong(folder) == {"upper bound"}
+
+
+def test_ore_that_stays_on_a_stockpile_pays_for_its_room_after_the_last_year_that_runs():
+    """A dump takes the rock over an ore worth 200 for 100, or a stockpile with room for half of it for 1: 200 - 50.5 - 30 in the first year. The room may be
+    paid for in the last year alone, in which the mine does not run."""
+    years = 3
+    values = np.full((2, 3, years), -1000.0)
+    values[0, :, 0], values[1, :, 0] = [-100.0, -1000.0, -1.0], [-1000.0, 200.0, -1000.0]
+    lies = BlockLimit("stock", np.zeros((2, 3)), np.full(years, 5.0), spans=np.array([[0, 0], [0, 0], [0, years - 1]]))
+    lies.amounts[0, 2] = 10.0
+    problem = problem_of(values, [(1, 0)])
+    problem = replace(problem, limits=(lies,), costs=np.full(years, 30.0), lags=np.array([0, 0, years]))
+    schedule = Assignment(np.array([0, 0]), np.array([[0.5, 0.0, 0.5], [0.0, 1.0, 0.0]]))
+    assert demand_sound(problem, schedule) - 30 == schedule.value(problem) == pytest.approx(119.5)
+    for price in (0.0, 9.9, 20.0):
+        bound = priced(without_first(problem), np.array([[0.0, 0.0, price]])).bound
+        assert bound >= 119.5
+    assert priced(without_first(problem), np.array([[0.0, 0.0, 9.9]])).bound == pytest.approx(119.5)

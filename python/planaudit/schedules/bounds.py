@@ -148,7 +148,8 @@ class Bound:
         running, always = -np.array([present_costs(self.answer, year) for year in self.every_year]), 0.0
         for it in self.prices.itertuples(index=False):
             amount = it.price * self.limits[it.limit, it.side, it.year]
-            if it.side == MIN or (it.year == 0 and it.price > 0):
+            # What lies on a stockpile also lies there after the last year that runs.
+            if it.side == MIN or (it.price > 0 and (it.year == 0 or it.limit.startswith(STOCK))):
                 always += amount
             elif it.price > 0:
                 running[it.year - 1] += amount

@@ -124,8 +124,9 @@ def earned_at(nodes: Nodes, prices: NDArray[np.float64]) -> Earned:
 
 def sold(nodes: Nodes, prices: NDArray[np.float64]) -> Fraction:
     """The prices times the limits, those below 0 times the least, exactly; less the costs of running. The mine runs, from the first year, as
-    many years as are best, and of what runs no longer no most is paid for."""
-    problem = nodes.problem
+    many years as are best, and of what runs no longer no most is paid for, except for stockpiles: what lies there also lies there later.
+    """
+    problem, of_stockpiles = nodes.problem, Fraction(0)
     of_minimums = (
         Fraction(float(price)) * Fraction(float(least))
         for limit, by_year in zip(problem.limits, prices)
@@ -135,9 +136,11 @@ def sold(nodes: Nodes, prices: NDArray[np.float64]) -> Fraction:
     running = [-Fraction(float(cost)) for cost in problem.running_costs]
     for limit, by_year in zip(problem.limits, prices):
         for year in np.flatnonzero(by_year > 0).tolist():
-            running[year] += Fraction(float(by_year[year])) * Fraction(float(limit.most[year]))
+            paid = Fraction(float(by_year[year])) * Fraction(float(limit.most[year]))
+            of_stockpiles += paid * limit.holds
+            running[year] += paid * (not limit.holds)
     of_totals = (
         Fraction(float(by_year[0])) * Fraction(total.least if by_year[0] <= 0 else total.most)
         for total, by_year in zip(problem.totals, prices[len(problem.limits) :])
     )
-    return sum(of_minimums, Fraction(0)) + max(accumulate(running)) + sum(of_totals, Fraction(0))
+    return sum(of_minimums, of_stockpiles) + max(accumulate(running)) + sum(of_totals, Fraction(0))
