@@ -140,16 +140,14 @@ def test_rock_without_metal_is_waste(plan_folder):
     assert not blocks.loc[blocks["cu"] == 0, ["share_leach", "share_mill"]].any(axis=None)
 
 
-LAID = "{ reclaim_cost = 1, opening = { tonnes = 5, cu = 1, rock_type = 'A' } }"
+LAID = "{ reclaim_cost = 1, opening = { tonnes = 5, cu = 1, rock_type = 'R' } }"
+SMALLER = "[[periods]]\nstockpiles = { stockpile = { max = 4 } }\n"
 
 
 @pytest.mark.parametrize(
     ("words", "said"),
     [
-        (
-            f"[schedule]\nstockpile = {LAID}",
-            "[schedule] stockpile opening: found 5 tonnes on stockpile at the start, expected",
-        ),
+        (f"[schedule]\nstockpile = {LAID}\n{SMALLER}", "5 tonnes lie there at the start, and year 1 has a max of 4"),
         ("[schedule]\nmining_capacity = 90", "holds 100 of total_tonnes, and a year takes at most 90"),
     ],
 )
@@ -159,10 +157,10 @@ def test_what_is_refused(plan_folder, words, said):
     assert said in str(error.value) and "project.toml" in str(error.value)
 
 
-def test_ore_on_a_stockpile_at_the_start_is_refused_before_the_table_is_read(plan_folder):
-    path = plan_folder(pillars(), f"{YEARLY}[schedule]\nstockpile = {LAID}\n")
+def test_ore_on_a_stockpile_without_room_for_it_is_refused_before_the_table_is_read(plan_folder):
+    path = plan_folder(pillars(), f"{YEARLY}[schedule]\nstockpile = {LAID}\n{SMALLER}")
     (path.parent / "blocks.csv").unlink()
-    with pytest.raises(PlanError, match=r"\[schedule\] stockpile opening: found 5 tonnes"):
+    with pytest.raises(PlanError, match=r"\[schedule\] stockpile stockpile: 5 tonnes lie there at the start"):
         pitplan.write_block_schedule(path, writing=PLAIN)
 
 

@@ -279,8 +279,79 @@ def test_a_rock_type_without_a_cost_is_named(tmp_path):
         pitplan.write_schedule(project, writing=UNVERIFIED)
 
 
-def test_by_block_there_is_none(tmp_path):
+# By block: the block of ore is mined whole in one year, and its stockpile holds all of it.
+OPEN = PILE.replace("capacity = 60, ", "")
+
+
+@pytest.fixture(scope="module")
+def by_block(tmp_path_factory):
+    place = tmp_path_factory.mktemp("opening by block")
+    row = pitplan.write_block_schedule(written_to(place, OPEN), writing=UNVERIFIED).iloc[0]
+    return row, place / "plan/block_schedule"
+
+
+def tables_in(folder, *names):
+    return [pd.read_csv(folder / f"tables/{name}.csv") for name in names]
+
+
+def test_by_block_the_stockpile_is_milled_before_the_pit_by_hand(by_block):
+    """40 t of what lies there are milled in the first year. In the second the block is mined for 200, and 40 t of it earn 22 a tonne: a year later they earn
+    21, and what lies there 29 as before. So its 20 t wait until the third year."""
+    row, folder = by_block
+    value = 40 * 29 / 1.1 + (40 * 22 - 200) / 1.21 + (20 * 29 + 20 * 21) / 1.331 + 40 * 21 / 1.4641
+    assert row["npv"] == pytest.approx(value, abs=0.01) and row["upper_bound"] >= row["npv"] - 0.01
+    assert differences(folder) == []
+
+
+def test_by_block_tables_have_what_lay_there(by_block):
+    stock, reclaims, feed, inventory, cash, blocks = tables_in(
+        by_block[1], "stockpiles", "reclaims", "feed", "inventory", "cash_flow", "blocks"
+    )
+    assert stock["opening_tonnes"].tolist() == [60, 20, 80, 40] and stock["in_tonnes"].tolist() == [0, 60, 0, 0]
+    assert stock["out_tonnes"].tolist() == [40, 0, 40, 40] and stock["closing_tonnes"].tolist() == [20, 80, 40, 0]
+    lots = reclaims[reclaims["id"].isna()]
+    assert lots["year"].tolist() == [1, 3] and lots["share"].tolist() == pytest.approx([2 / 3, 1 / 3])
+    assert set(lots["source"]) == {"stockpile"} and set(lots["destination"]) == {"mill"}
+    assert feed["reclaimed_tonnes"].tolist() == [40, 0, 40, 40] and feed["feed_tonnes"].tolist() == [40] * 4
+    assert feed["head_grade_copper"].tolist() == pytest.approx([1, 0.8, 0.9, 0.8])
+    lay = inventory[inventory["bench"].isna()]
+    assert lay["total_tonnes"].tolist() == [40, 20] and lay["recovered_copper"].tolist() == [0.2, 0.1]
+    assert cash["reclaim_cost"].tolist() == [40, 0, 40, 40] and cash["total_tonnes"].tolist() == [0, 100, 0, 0]
+    assert blocks["share_mill"].tolist() == [1] and blocks["share_stockpile"].tolist() == pytest.approx([0.6])
+
+
+@pytest.mark.parametrize(
+    ("change", "rule"),
+    [
+        (lambda rows: rows.assign(share=rows["share"] * (1 - 0.5 * rows["id"].isna())), "block value"),
+        (lambda rows: rows.assign(share=rows["share"] * (1 + rows["id"].isna())), "material flow"),
+        (lambda rows: rows.assign(year=rows["year"] + 5 * rows["id"].isna()), "block order"),
+    ],
+)
+def test_by_block_the_audit_finds_another_share_of_it(by_block, tmp_path, change, rule):
+    folder = shutil.copytree(by_block[1].parents[1], tmp_path / "mine") / "plan/block_schedule"
+    path = folder / "tables/reclaims.csv"
+    change(pd.read_csv(path).astype({"id": "Int64"})).to_csv(path, index=False)
+    assert rule in {it.name for it in verify(folder) if it.differences}
+
+
+def test_by_block_a_minimum_keeps_what_lies_there(tmp_path):
+    """In the first two years 30 t must remain, so 30 t of it are milled in the first year, 10 t less than the mill takes."""
+    words = OPEN + 2 * "[[periods]]\nstockpiles = { stockpile = { min = 30 } }\n" + "[[periods]]\n"
+    pitplan.write_block_schedule(written_to(tmp_path, words), writing=UNVERIFIED)
+    folder = tmp_path / "plan/block_schedule"
+    stock, limits, prices = tables_in(folder, "stockpiles", "limits", "bound")
+    assert stock["closing_tonnes"].tolist()[:2] >= [30, 30] and differences(folder) == []
+    mine = limits[limits["limit"] == "stockpile_stockpile"]
+    assert mine["minimum"].tolist()[:2] == [30, 30] and mine["used"].tolist() == stock["closing_tonnes"].tolist()
+    paid = prices[prices["limit"] == "stockpile_stockpile"]
+    assert set(paid["side"]) == {"min"} and (paid["price"] <= 0).all() and (paid["price"] < 0).any()
+
+
+@pytest.mark.parametrize(("limit", "said"), [("max = 20", "a max of 20"), ("min = 70", "a min of 70")])
+def test_by_block_limits_that_it_breaks_are_refused(tmp_path, limit, said):
+    words = f"{OPEN}[[periods]]\nstockpiles = {{ stockpile = {{ {limit} }} }}\n"
     with pytest.raises(
-        PlanError, match=r"\[schedule\] stockpile opening: found .* at the start, expected none by block"
+        PlanError, match=rf"\[schedule\] stockpile stockpile: 60 tonnes lie there at the start, and year 1 has {said}"
     ):
-        pitplan.write_block_schedule(written_to(tmp_path, PILE), writing=PLAIN)
+        pitplan.write_block_schedule(written_to(tmp_path, words), writing=PLAIN)

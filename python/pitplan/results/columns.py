@@ -299,8 +299,13 @@ STOCKPILES = TableDeclaration(
 )
 RECLAIMS = TableDeclaration(
     "reclaims.csv",
-    "by block with `[[schedule.stockpiles]]`: a row per block, stockpile, process and year of reclaim",
-    (Column("id", COUNT, "of the block"), YEAR, *MATERIAL_FLOWS.columns[5:7], Column("share", SHARE, "of the block")),
+    "by block with `[[schedule.stockpiles]]`: a row per block, stockpile, process and year of reclaim, and one per opening balance, process and year",
+    (
+        Column("id", COUNT, "of the block; empty for what lay there at the start"),
+        YEAR,
+        *MATERIAL_FLOWS.columns[5:7],
+        Column("share", SHARE, "of the block, or of what lay there"),
+    ),
 )
 DUMPS = TableDeclaration(
     "dumps.csv",

@@ -29,6 +29,10 @@ class BlockPrecedences:
         np.cumsum(np.bincount(number[users[both]], minlength=len(starts) - 1), out=starts[1:], dtype=np.uint32)
         return BlockPrecedences(starts, number[self.predecessors[both]].astype(np.uint32))
 
+    def with_free(self, count: int) -> BlockPrecedences:
+        """The same precedences with more blocks behind the others, which have none."""
+        return BlockPrecedences(np.append(self.starts, np.repeat(self.starts[-1:], count)), self.predecessors)
+
     def in_order(self, order: NDArray[np.int64]) -> BlockPrecedences:
         """The same precedences with the blocks in an order."""
         number = np.empty(len(order), dtype=np.uint32)

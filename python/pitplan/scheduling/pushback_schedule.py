@@ -33,7 +33,6 @@ from pitplan.scheduling import inventory
 from pitplan.scheduling.cash_flow.lines import Operation
 from pitplan.scheduling.cash_flow.tables import Finance, operations, pushback_finances
 from pitplan.scheduling.flow.material import Material, by_choice, by_value, names_of, of_pushbacks
-from pitplan.scheduling.flow.opening import balance_at_start
 from pitplan.scheduling.flow.tables import cutoffs
 
 from .bench_sequencing import Problem, running
@@ -45,7 +44,7 @@ from .flow.flows import Flows
 from .flow.mixed_reclaim import loss_by_mixing, notes_of_mixing
 from .flow.model import FlowModel
 from .flow.multipliers import Multipliers
-from .flow.opening import OpeningLots
+from .flow.opening import OpeningLots, balances_at_start
 from .flow.programme import FlowOptimum, FlowProgramme
 from .flow.tables import stockpile_table
 from .limits import Prices, limits_of, periods_of, with_grades
@@ -440,9 +439,9 @@ class PushbackSchedule(Schedule):
         return stockpile_table(self.material_flows, self.last_years, self.starts, self.plan.project.metals)
 
     @property
-    def starts(self) -> dict[str, pd.Series]:
-        """By stockpile the feed and the metals that lie there at the start."""
-        return {it.name: balance_at_start(self, it.name) for it in self.model.stockpiles}
+    def starts(self) -> dict[str, Optional[pd.Series]]:
+        """By stockpile the feed and the metals that lie there at the start; None: nothing."""
+        return balances_at_start(self.model.stockpiles, self.lots)
 
     @property
     def last_years(self) -> dict[str, int]:

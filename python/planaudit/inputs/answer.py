@@ -329,17 +329,29 @@ class Answer:
         AuditError
             If a row is of no block.
         """
-        columns = ["row", "year", "source", "destination", "share"]
-        if not (self.is_by_block and stockpile_shares_of(self.project)):
-            return pd.DataFrame({name: pd.Series(dtype=object if name in TEXTS else float) for name in columns})
-        said = read_table(self.folder / "tables/reclaims.csv", list(TEXTS))
+        said = self.all_reclaims[self.all_reclaims["id"].notna()]
         numbers = np.ravel_multi_index(self.cells, self.shape)
-        row = pd.Series(np.arange(len(numbers)), index=numbers).reindex(said["id"])
+        row = pd.Series(np.arange(len(numbers)), index=numbers).reindex(pd.to_numeric(said["id"], errors="coerce"))
         if row.isna().any():
             raise AuditError(
                 f"reclaims.csv: found id {said['id'][row.isna().to_numpy()].iloc[0]}, expected those of blocks.csv"
             )
-        return said.assign(row=row.to_numpy(dtype=int))[columns]
+        return said.assign(row=row.to_numpy(dtype=int)).drop(columns="id").reset_index(drop=True)
+
+    @property
+    def opened(self) -> pd.DataFrame:
+        """By block the rows of reclaims.csv without an id: year, stockpile as `source`, process as `destination`, and the share of what lay there at the
+        start."""
+        said = self.all_reclaims
+        return said[said["id"].isna()].drop(columns="id").reset_index(drop=True)
+
+    @cached_property
+    def all_reclaims(self) -> pd.DataFrame:
+        texts = ["id", *TEXTS]
+        if not (self.is_by_block and stockpile_shares_of(self.project)):
+            names = {"id": object, "year": int, **dict.fromkeys(TEXTS, object), "share": float}
+            return pd.DataFrame({name: pd.Series(dtype=kind) for name, kind in names.items()})
+        return read_table(self.folder / "tables/reclaims.csv", texts)
 
     def levels(self, domain: Section) -> int:
         """Returns the precedence benches of an entry of `[[slopes.domains]]`."""

@@ -10,6 +10,7 @@ from typing import Any
 import numpy as np
 import pandas as pd
 
+from planaudit.errors import AuditError
 from planaudit.inputs.answer import Answer
 from planaudit.inputs.matching import own_name
 from planaudit.inputs.tables import TABLES, YEAR, read_prices, read_table
@@ -29,6 +30,7 @@ from planaudit.schedules import (
 from planaudit.schedules.limits import placed_of, shares_of, stocked_of
 from planaudit.schedules.lots import MILL, BlockAmounts
 from planaudit.schedules.material_flow import PIT, WASTE, MaterialFlow
+from planaudit.schedules.opening import OpeningLots
 from planaudit.schedules.pushback_schedule import by_year
 
 CASE = "block"
@@ -80,6 +82,7 @@ def flow_of(answer: Answer) -> MaterialFlow:
     again = answer.reclaims[place[answer.reclaims["row"].astype(int)] >= 0]
     legs = {name: again[name].to_numpy() for name in ("year", "source", "destination")}
     parts.append(rows_of(blocks, place[again["row"].astype(int)], again["share"].to_numpy(), legs))
+    parts += [rows_of_opening(OpeningLots(blocks))] if len(answer.opened) else []
     flow = MaterialFlow(answer, blocks, pd.concat(parts, ignore_index=True).astype({"year": int}), rounded=0.0)
     return replace(flow, rows=flow.rows.assign(**{name: due for name, (due, _) in flow.expected.items()}))
 
@@ -89,6 +92,18 @@ def rows_of(blocks: SingleBlocks, some: np.ndarray, share: np.ndarray, legs: dic
     keys = blocks.keys.iloc[some].reset_index(drop=True)
     found = {"method": CASE, **legs, "total_tonnes": blocks.tonnes[some] * share}
     return pd.concat([keys, pd.DataFrame(found | {"bench": blocks.answer.toes[keys["level"].to_numpy()]})], axis=1)
+
+
+def rows_of_opening(lots: OpeningLots) -> pd.DataFrame:
+    """Returns the rows of what processes take of opening balances. Raises AuditError if a stockpile has none."""
+    taken, number = lots.answer.opened, {it["name"]: place for place, (_, it, _) in enumerate(lots.given)}
+    if not (known := taken["source"].isin(number)).all():
+        raise AuditError(f"reclaims.csv: {taken['source'][~known].iloc[0]} has no opening balance, expected an id")
+    place = taken["source"].map(number).to_numpy(dtype=int)
+    keys = lots.keys.iloc[place].reset_index(drop=True)
+    found = {name: taken[name].to_numpy() for name in ("year", "source", "destination")}
+    tonnes = lots.feed[place] * taken["share"].to_numpy()
+    return pd.concat([keys, pd.DataFrame({"method": CASE, **found, "total_tonnes": tonnes, "bench": np.nan})], axis=1)
 
 
 def checks_of(flow: MaterialFlow, record: dict[str, Any]) -> Checks:
@@ -203,4 +218,5 @@ def recovered_of(flow: MaterialFlow) -> dict[str, np.ndarray]:
 def untaken(flow: MaterialFlow) -> Iterator[str]:
     """Yields blocks that go to a process in which they have no revenue."""
     for row in flow.rows[flow.by_process("not taken") > 0].itertuples():
-        yield f"{flow.answer.called(row.block)}: goes to {row.destination}, where it has no revenue"
+        name = flow.answer.called(row.block) if row.block >= 0 else f"the opening balance of {row.source}"
+        yield f"{name}: goes to {row.destination}, where it has no revenue"

@@ -76,8 +76,10 @@ def verify_order(answer: Answer, told: dict[str, Any]) -> Rule:
     differences += [
         f"{answer.called(int(row))}: reclaimed after year {told['years']}" for row in answer.reclaims["row"][late]
     ]
+    too_late = int((answer.opened["year"] > told["years"]).sum())
+    differences += [f"reclaims.csv: {too_late} rows without id are after year {told['years']}"] if too_late else []
     holds = "no block is mined before all blocks of its slope cone"
-    return rule("block order", holds, differences, found.count + int(wrong.sum()) + int(late.sum()))
+    return rule("block order", holds, differences, found.count + int(wrong.sum()) + int(late.sum()) + too_late)
 
 
 def verify_limits(flow: MaterialFlow, told: dict[str, Any]) -> Rule:

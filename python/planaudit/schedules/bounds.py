@@ -23,7 +23,7 @@ from planaudit.money import ore_costs
 from planaudit.money.period_costs import BY_TERMS, SELLING, differing, mining_factor, premiums
 from planaudit.money.smelter import net
 from planaudit.rules import Rule, rule
-from planaudit.schedules import block_grades, dumps
+from planaudit.schedules import block_grades, dumps, pushback_bounds
 from planaudit.schedules.closure import Closure, maximum_closure
 from planaudit.schedules.discounts import discount, present_costs
 from planaudit.schedules.limit_table import STOCK
@@ -284,12 +284,19 @@ class Bound:
             number = next((k for k in range(len(parts) - 1) if not self.is_nested(parts[k], parts[k + 1])), None)
             if number is None:
                 found = [part for _, _, part in parts]
-                value = self.of_limits + sum(it.value for it in found)
+                value = self.of_limits + self.of_opening + sum(it.value for it in found)
                 # To mine nothing earns nothing, unless a minimum forbids it.
                 is_free = all(side == MAX for _, side, _ in self.limits)
                 return max(value, 0.0) if is_free else value, sum(it.slack for it in found)
             years = parts[number][0], parts[number + 1][1]
             parts[number : number + 2] = [(*years, self.closure(*years))]
+
+    @property
+    def of_opening(self) -> float:
+        """What lies on stockpiles at the start earns at most, less the prices of what it uses, as in a schedule of pushbacks."""
+        prices = self.prices[self.prices["year"] > 0]
+        price = np.where(prices["side"] == MIN, -prices["price"], prices["price"])
+        return pushback_bounds.Bound(self.answer, prices.assign(price=price), self.years, {}).of_opening
 
     def closure(self, first: int, last: int) -> Closure:
         """Returns the best closure of the blocks that can be mined by each of some years, year by year."""

@@ -20,14 +20,20 @@ from planaudit.inputs.matching import SHARE
 from planaudit.inputs.project import Section
 from planaudit.inputs.tables import PERIOD, TABLES, YEAR, read_table
 from planaudit.rules import TOLD, Rule, rule
+from planaudit.schedules import pushback_bounds
 from planaudit.schedules.bounds import MAX, MIN, Bound, lost_by_reclaim
 from planaudit.schedules.certificate_texts import FOLDER, KEY, MONEY, NAME, ROUNDING, UNFIT, UNIT, Texts
 from planaudit.schedules.discounts import discount
 from planaudit.schedules.dumps import DUMP, DUMPED
+from planaudit.schedules.limit_table import STOCK
+from planaudit.schedules.lots import BlockAmounts
+from planaudit.schedules.opening import OpeningLots
 
 # Millionths by which a share may differ: shares are rounded, and then reduced until they keep the limits. A solver may miss each limit by a millionth
 # of the largest amount.
 MOVED = 20
+# How the names of parts of opening balances begin.
+OPENING = "opening "
 HOLDS = "the certificate has the block values, limits, discount factors, multipliers and years of the run, and its value and bound are those of the schedule"
 
 
@@ -39,8 +45,8 @@ def verify(answer: Answer, told: dict[str, Any]) -> list[Rule]:
     if not texts.fit:
         return [rule(NAME, HOLDS, [UNFIT])]
     found = BlockCertificate(answer, texts)
-    parts = (found.unlike_values(), found.unlike_shares(), found.unlike_periods(told), found.unlike_results(told))
-    differences = [it for part in parts for it in part]
+    of_texts = (found.unlike_values(), found.unlike_shares(), found.unlike_parts(), found.unlike_periods(told))
+    differences = [it for part in (*of_texts, found.unlike_results(told)) for it in part]
     return [rule(NAME, HOLDS, differences[:TOLD], len(differences))]
 
 
@@ -55,9 +61,22 @@ class BlockCertificate:
     def written(self) -> pd.DataFrame:
         """The results by block; blocks of air have zeros."""
         blocks = pd.read_csv(self.answer.folder / TABLES / "blocks.csv").rename(columns={PERIOD: YEAR}).set_index("id")
-        words = (self.answer.folder / FOLDER / "schedule.blocks").read_text(encoding="ascii").split()
-        ids = np.array(words, dtype=np.int64)
+        ids = np.array([name for name in self.names if not name.startswith(OPENING)], dtype=np.int64)
         return blocks.select_dtypes("number").reindex(ids, fill_value=0)
+
+    @property
+    def names(self) -> list[str]:
+        """The name of each block of the texts: its id, and behind these `opening STOCKPILE` of each part of an opening balance."""
+        return (self.answer.folder / FOLDER / "schedule.blocks").read_text(encoding="utf-8").splitlines()
+
+    @property
+    def parts(self) -> list[str]:
+        """The stockpile of each part of an opening balance."""
+        return [name.removeprefix(OPENING) for name in self.names[len(self.written) :]]
+
+    @cached_property
+    def lots(self) -> OpeningLots:
+        return OpeningLots(BlockAmounts(self.answer))
 
     @cached_property
     def values(self) -> np.ndarray:
@@ -135,18 +154,52 @@ class BlockCertificate:
             own = np.column_stack([own, np.where(closed, cheapest, -mining - pile["stacking_cost"] * feed)])
             gain = ways[process].to_numpy() - self.of_blocks(lost_by_reclaim(self.answer, process, pile))
             again = np.column_stack([again, np.where(closed | (lag == self.texts.periods), 0.0, gain)])
-        if own.shape != self.values.shape:
+        if own.shape[1] != self.values.shape[1]:
             yield f"values of {self.values.shape[1]} destinations for {own.shape[1]}"
+            return
+        own, again = np.vstack([own, self.values_of_parts]), np.vstack([again, 0 * self.values_of_parts])
+        if own.shape != self.values.shape:
+            yield f"{len(self.values)} blocks for {len(own)}"
             return
         # What a pile refuses and a process gains nothing from is waste at once.
         for said, due in ((self.values, own), (self.reclaimed, again)):
             for block in np.flatnonzero((np.abs(due - said) > self.texts.cent * (1 + len(self.routes))).any(axis=1)):
-                yield f"block {self.written.index[block]}: values {said[block].tolist()} for {due[block].tolist()}"
+                yield f"block {self.names[block]}: values {said[block].tolist()} for {due[block].tolist()}"
+
+    @property
+    def values_of_parts(self) -> np.ndarray:
+        """What each part of an opening balance earns in each destination, shape (parts, destinations)."""
+        lots, parts, first = self.lots, self.parts, len(self.waste)
+        found, bound = np.zeros((len(parts), len(self.destinations))), pushback_bounds.Bound(
+            self.answer, pd.DataFrame(), 0, {}
+        )
+        for place, (_, pile, _) in enumerate(lots.given):
+            mine = [name == pile["name"] for name in parts]
+            for process in range(len(self.processes)):
+                gain = bound.undiscounted(process, pile, lots)[place] * lots.takes[process, place]
+                found[mine, first + process] = gain / max(sum(mine), 1)
+        return found
+
+    def unlike_parts(self) -> Iterator[str]:
+        """Yields the opening balances without parts or whose shares differ from reclaims.csv, and parts that are of none."""
+        given = [pile["name"] for _, pile, _ in self.lots.given]
+        if set(self.parts) != set(given):
+            yield f"parts of {sorted(set(self.parts))} for the opening balances of {sorted(given)}"
+        shares, taken = self.shares[len(self.written) :], self.answer.opened
+        for name in given:
+            mine = np.flatnonzero([it == name for it in self.parts])
+            for process, said in enumerate(shares[mine].mean(axis=0).T[len(self.waste) :] if len(mine) else ()):
+                own, rows = np.zeros(self.texts.periods), taken[taken["source"] == name]
+                if process < len(self.processes):
+                    rows = rows[rows["destination"] == self.processes[process]]
+                    np.add.at(own, rows["year"].to_numpy(int) - 1, rows["share"].to_numpy(float))
+                if (np.abs(own - said) > MOVED * UNIT).any():
+                    yield f"opening balance of {name}: shares {said.tolist()} for {own.tolist()} in reclaims.csv"
 
     def unlike_shares(self) -> Iterator[str]:
         """Yields the blocks whose years or shares differ from blocks.csv."""
-        year = self.written[YEAR].to_numpy()
-        own, said = np.zeros_like(self.shares), self.shares.copy()
+        year, said = self.written[YEAR].to_numpy(), self.shares[: len(self.written)].copy()
+        own = np.zeros_like(said)
         mined = np.flatnonzero(year > 0)
         again = self.answer.reclaims
         block = pd.Index(self.written.index).get_indexer(self.answer.said["id"].to_numpy()[again["row"].astype(int)])
@@ -175,6 +228,11 @@ class BlockCertificate:
         for block in np.flatnonzero((np.abs(own - said) > MOVED * UNIT).any(axis=(1, 2))):
             yield f"block {self.written.index[block]}: shares differ from those of year {year[block]} in blocks.csv"
 
+    @property
+    def lying(self) -> dict[str, float]:
+        """The tonnes of opening balances, by the names of the limits of their stockpiles."""
+        return {f"{STOCK}{pile['name']}": float(lies["tonnes"]) for _, pile, lies in self.lots.given}
+
     def unlike_periods(self, told: dict[str, Any]) -> Iterator[str]:
         """Yields what differs in discount factors, limits, multipliers, and the names of limits and destinations in block_schedule.json."""
         bound = Bound(
@@ -202,7 +260,10 @@ class BlockCertificate:
                 own = np.where(is_last | (side == MAX), sign * bound.limits[name, side, 0], 0.0)
                 own_prices = own_prices * is_last
             else:
-                own = np.array([sign * bound.limits[name, side, year] for year in bound.every_year])
+                lies = self.lying.get(name, 0.0)
+                own = np.array([sign * (bound.limits[name, side, year] - lies) for year in bound.every_year])
+                # A stockpile without a minimum may be emptied.
+                own = np.where((side == MIN) & (lies > 0) & (own == lies), np.inf, own)
             # Without a limit the capacity is what all blocks together use at most, or more.
             own = np.where(np.isinf(own), np.maximum(of_years, self.texts.most_used(number)), own)
             # What the texts have of a minimum or a dump may be off by rounding.

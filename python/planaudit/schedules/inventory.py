@@ -18,6 +18,8 @@ from planaudit.schedules.material_flow import AMOUNT, PIT, WASTE, MaterialFlow
 FILE, CATEGORY = "inventory.csv", "category"
 # The keys of lots besides their codes.
 OF_LOTS = ("pushback", "level", "bin", "block")
+# In place of the elevation of a bench for what lay on stockpiles at the start.
+NO_BENCH = -np.inf
 # The last decimal of grades and of shares.
 GRADE, SHARE = 2e-6, 1e-6
 
@@ -40,10 +42,9 @@ def unlike_rows(flow: MaterialFlow) -> Iterator[str]:
     keys = ["method", "year", *places, "bench", *codes, "source", "destination"]
     texts = ["method", *codes, "source", "destination", CATEGORY]
     said = read_table(flow.answer.folder / "tables" / FILE, texts)
-    # What lay on stockpiles at the start is of pushback 0, and of no bench.
-    said = said.fillna(dict.fromkeys(texts, "") | {"bench": 0.0})
+    said = said.fillna(dict.fromkeys(texts, "") | {"bench": NO_BENCH})
     kinds = [f"{kind}_{metal['name']}" for kind in ("in_situ", "contained", "recovered") for metal in metals]
-    groups = flow.rows.fillna({"bench": 0.0}).groupby(keys)
+    groups = flow.rows.fillna({"bench": NO_BENCH}).groupby(keys)
     sums, count = groups[["total_tonnes", "feed_tonnes", *kinds]].sum(), groups.size()
     if set(map(tuple, said[keys].to_numpy())) != set(sums.index) or len(said) != len(sums):
         yield f"{FILE}: has {len(said):,} rows for {len(sums):,} places of flows.csv, or others"

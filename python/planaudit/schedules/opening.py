@@ -18,7 +18,7 @@ from planaudit.money.feed import by_code, recovered
 from planaudit.money.period_costs import BY_TERMS, PROCESSING, SELLING
 from planaudit.schedules.lots import BlockAmounts
 
-# Lots are of pushback and bin 0. The level of that of the first stockpile is FIRST, and falls.
+# Lots are of pushback and bin 0. Level and block of that of the first stockpile are FIRST, and fall.
 FIRST = -1
 
 
@@ -144,11 +144,11 @@ class OpeningLots:
     @cached_property
     def keys(self) -> pd.DataFrame:
         """The lot of each, as `BlockAmounts.keys` has those of blocks."""
-        found = {"pushback": 0, "level": [FIRST - number for number, _, _ in self.given], "bin": 0}
-        table = self.project.table
+        levels, table = [FIRST - number for number, _, _ in self.given], self.project.table
+        found = {"pushback": 0, "level": levels, "bin": 0, "block": levels}
         codes = [key for key in ("rock_type", "class") if table[key]]
         texts = {own_name(table[key]): [it[key] for _, _, it in self.given] for key in codes}
-        return pd.DataFrame(found | texts)
+        return pd.DataFrame(found | texts)[list(self.blocks.keys)]
 
     @cached_property
     def lots(self) -> pd.DataFrame:

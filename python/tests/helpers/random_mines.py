@@ -405,10 +405,10 @@ def random_mine(seed: int) -> Mine:
 
 
 def random_stockpile_mine(seed: int) -> Mine:
-    """The mine of `random_mine` with one or two stockpiles on which nothing lies at the start."""
+    """The mine of `random_mine` with one or two stockpiles."""
     draws, mine = Draws(seed + 10**6), random_mine(seed)
     names = ["low", "high"][: int(draws.rng.integers(1, 3))]
-    mine = replace(mine, piles={name: replace(draws.pile(), opening=None) for name in names})
+    mine = replace(mine, piles={name: draws.pile() for name in names})
     holds = {
         name: it.holds[:1] * 2 + it.holds[2:] if mine.months[0] == 6 else it.holds for name, it in mine.piles.items()
     }

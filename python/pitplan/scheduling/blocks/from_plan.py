@@ -3,12 +3,13 @@
 from __future__ import annotations
 
 from collections.abc import Callable, Sequence
-from dataclasses import dataclass, replace
+from dataclasses import dataclass, field, replace
 from functools import cached_property
 from itertools import product
 from typing import Any, NamedTuple, Optional
 
 import numpy as np
+import pandas as pd
 from numpy.typing import NDArray
 
 import pitshell
@@ -25,6 +26,7 @@ from pitplan.pushbacks.bench_table import CASH, ORE, ROCK
 from pitplan.scheduling.bench_sequencing import costs_of_years
 from pitplan.scheduling.block_precedences import BlockPrecedences
 from pitplan.scheduling.flow.material import content_of, ore_of
+from pitplan.scheduling.flow.opening import balances_at_start
 from pitplan.scheduling.limits import (
     DUMP,
     DUMPED,
@@ -34,15 +36,18 @@ from pitplan.scheduling.limits import (
     STOCK,
     SUM,
     GradeLimit,
+    Limit,
     Limits,
     grade_limits,
     limits_of,
+    of_places,
     periods_of,
 )
 from pitplan.slopes import closure
 from pitplan.slopes.domains import ABSENT, slices
 
 from .filling import greatest_of_predecessors, ranks_of
+from .opening import OpeningParts, columns
 from .problem import Assignment, BlockLimit, BlockProblem, TotalLimit, demand_room, upward
 
 ADDED_COST = "[pushbacks] mining_cost_added"
@@ -52,10 +57,19 @@ RECLAIMED = "reclaimed_cash_flow"
 
 def demand_of_blocks(project: Project) -> None:
     """Raises PlanError, with the key, if the project asks for what a schedule by block does not have, and without which its value is another."""
-    for it in project.schedule.stockpiles if project.schedule is not None else ():
-        if it.opening:
-            why = f"found {it.opening.tonnes:.10g} tonnes on {it.name} at the start, expected none by block"
-            raise PlanError(f"{project.path}: [schedule] stockpile opening: {why}: remove it, or schedule pushbacks")
+    calendar, rules = project.shells.calendar, project.schedule or ScheduleRules()
+    lying = {f"{STOCK}{it.name}": it.opening.tonnes for it in rules.stockpiles if it.opening}
+    for (name, side), limit in of_places(calendar, rules.stockpiles).items():
+        amounts, lies = limit.of_years(max(1, len(calendar.listed))), lying.get(name, 0.0)
+        beyond = (amounts < lies) if side == MAX else (amounts > lies)
+        if lies and beyond.any():
+            year, word = int(beyond.argmax()), calendar.word
+            why = (
+                f"{lies:.10g} tonnes lie there at the start, and {word} {year + 1} has a {side} of {amounts[year]:.10g}"
+            )
+            raise PlanError(
+                f"{project.path}: [schedule] stockpile {name.removeprefix(STOCK)}: {why}: change one of the two, or schedule pushbacks"
+            )
 
 
 def of_pushbacks(project: Project) -> list[str]:
@@ -101,7 +115,7 @@ class HeadGrade:
     limits : dict of str to GradeLimit
         The limits by name, such as grade_mill_as_ppm_max; one for each value that some period has.
     content, feed : array, shape (cells,)
-        What each cell adds to the content and to the tonnes of the feed.
+        What each cell adds to the content and to the tonnes of the feed; behind the cells may stand lots of opening balances.
     pays : bool array, shape (cells,)
         Whether it recovers metal in the process.
     """
@@ -118,6 +132,12 @@ class HeadGrade:
         limit = self.limits[name]
         found = limit.sign * (self.content - limit.grade * self.feed)
         return np.where(self.pays, found, np.maximum(found, 0.0))
+
+    def with_lots(self, lots: Plan) -> HeadGrade:
+        """Returns the grade with lots behind the cells, by their plan."""
+        content = content_of(lots, next(iter(self.limits.values())), np.arange(lots.grid.count))
+        feed = np.append(self.feed, lots.values.feed)
+        return replace(self, content=np.append(self.content, content), feed=feed)
 
     def of_years(self, fed: Callable[[NDArray[np.float64], int], NDArray[np.float64]]) -> NDArray[np.float64]:
         """Returns the head grade of each year, nan without feed; `fed` returns what a process takes of an amount of cells by year."""
@@ -236,6 +256,8 @@ class BlockAmounts:
         Of flows those that flow when a process takes a block. Others flow when it is mined, or lie on a stockpile.
     lags : int array, shape (destinations,), optional
         The years from mining to process; None without stockpiles.
+    lying : dict of str to float
+        The tonnes that lie on stockpiles at the start, by the names of their limits. Parts of these are blocks too.
     """
 
     flows: Flows
@@ -243,6 +265,7 @@ class BlockAmounts:
     pays: NDArray[np.bool_]
     fed: frozenset[str] = frozenset()
     lags: Optional[NDArray[np.int64]] = None
+    lying: dict[str, float] = field(default_factory=dict)
 
     @staticmethod
     def of_plan(plan: Plan, grades: tuple[HeadGrade, ...]) -> BlockAmounts:
@@ -264,6 +287,16 @@ class BlockAmounts:
         """Returns the amounts with each array changed."""
         flows, excess = ({name: change(it) for name, it in of.items()} for of in (self.flows, self.excess))
         return replace(self, flows=flows, excess=excess, pays=change(self.pays))
+
+    def with_opening(self, parts: OpeningParts, waste: int) -> BlockAmounts:
+        """Returns the amounts with those of parts of lots behind them; `waste` is the number of destinations of waste."""
+
+        def joined(name: str, amounts: NDArray[np.float64]) -> NDArray[np.float64]:
+            return np.concatenate([amounts, columns(parts.flow(name), waste, self.destinations)])
+
+        flows, excess = ({name: joined(name, it) for name, it in of.items()} for of in (self.flows, self.excess))
+        pays = np.concatenate([self.pays, columns(parts.is_taken, waste, self.destinations)])
+        return replace(self, flows=flows, excess=excess, pays=pays, lying=parts.lying)
 
     @property
     def destinations(self) -> int:
@@ -299,9 +332,11 @@ class BlockAmounts:
         """Returns by destination the first and the last year after mining in which blocks use a limit, shape (destinations, 2); None: that year alone."""
         if self.lags is None or not (name in self.fed or name in self.excess or name.startswith(STOCK)):
             return None
-        first = np.zeros_like(self.lags) if name.startswith(STOCK) else self.lags
-        last = np.maximum(self.lags - 1, 0) if name.startswith(STOCK) else self.lags
-        return np.stack([first, last], axis=1)
+        if not name.startswith(STOCK):
+            return np.stack([self.lags, self.lags], axis=1)
+        # A stockpile holds less of its opening balance from the year on in which a process takes it, to the last.
+        taken = int(self.lags.max()) - 1 if self.lying.get(name) else 0
+        return np.stack([np.zeros_like(self.lags), np.where(self.lags > 0, self.lags - 1, taken)], axis=1)
 
     def greatest_cash(self, project: Project) -> NDArray[np.float64]:
         """Returns the most that each block earns in any destination and year, shape (blocks,)."""
@@ -318,10 +353,20 @@ class BlockAmounts:
         limits, flows = limits_of(project, project.schedule or ScheduleRules()), self.flows
         of_places = [it for it in limits.places.values() if it.name in flows and it.in_years(years).any()]
         maxima = [*limits.most.values(), *(it for it in of_places if it.side == MAX)]
-        above = [BlockLimit(it.name, flows[it.name], it.of_years(years), spans=self.spans(it.name)) for it in maxima]
+        above = [
+            BlockLimit(
+                it.name,
+                flows[it.name],
+                it.of_years(years) - self.lying.get(it.name, 0.0),
+                signed=it.name in self.lying,
+                spans=self.spans(it.name),
+            )
+            for it in maxima
+        ]
         # What yields nothing there is not sent to a process for the sake of a least amount.
         owed = {name: np.where(self.pays | (flows[name][:, :1] > 0), flows[name], 0.0) for name in limits.least}
-        least = [*limits.least.values(), *(it for it in of_places if it.side == MIN)]
+        least = [it for it in (*limits.least.values(), *of_places) if it.side == MIN and it.name not in self.lying]
+        left = [self.left(it, years) for it in of_places if it.side == MIN and it.name in self.lying]
         below = [
             BlockLimit(
                 it.name,
@@ -336,7 +381,13 @@ class BlockAmounts:
             BlockLimit(it.name, self.excess[it.name], it.of_years(years), signed=True, spans=self.spans(it.name))
             for it in grade_limits(project)
         ]
-        return (*above, *below, *graded)
+        return (*above, *below, *left, *graded)
+
+    def left(self, limit: Limit, years: int) -> BlockLimit:
+        """Returns the minimum of a stockpile with an opening balance, as a maximum of what leaves it."""
+        due, name = limit.of_years(years), limit.name
+        most = np.where(due > 0, self.lying[name] - due, np.inf)
+        return BlockLimit(name, -self.flows[name], most, signed=True, spans=self.spans(name), turned=True)
 
 
 def priced_flows(project: Project, flows: Flows, years: int) -> NDArray[np.float64]:
@@ -355,8 +406,8 @@ class Minable:
     cells : int array, shape (blocks,)
         The grid's number of each, rising.
     precedences : BlockPrecedences
-        The precedences between them.
-    must_mine : bool array, shape (blocks,)
+        The precedences between them, and behind them parts of opening balances, which have none.
+    must_mine : bool array, shape (blocks and parts,)
         Whether each must be mined.
     """
 
@@ -373,6 +424,10 @@ class Minable:
         is_under_rock = greatest_of_predecessors(precedences, ranks_of(precedences), has_rock) > 0
         cells = cells[is_under_rock]
         return Minable(cells, precedences.within(is_under_rock), np.isin(cells, plan.fixed.must_mine))
+
+    def with_opening(self, parts: OpeningParts) -> Minable:
+        must_mine = np.append(self.must_mine, np.zeros(len(parts), dtype=bool))
+        return replace(self, precedences=self.precedences.with_free(len(parts)), must_mine=must_mine)
 
     def pit(self, amounts: BlockAmounts, project: Project) -> NDArray[np.bool_]:
         """Returns whether each block is in the pit of greatest value that holds the must-mine blocks."""
@@ -420,7 +475,9 @@ class PlannedBlocks:
     goes : int array, shape (blocks, destinations)
         Where each block goes that is sent to each destination.
     grades : tuple of HeadGrade
-        Head grades that are limited.
+        Head grades that are limited, of cells and behind them lots.
+    opening : OpeningParts, optional
+        What lies on stockpiles at the start, in parts that stand behind the blocks; None: nothing.
     """
 
     plan: Plan
@@ -429,11 +486,27 @@ class PlannedBlocks:
     problem: BlockProblem
     goes: NDArray[np.int64]
     grades: tuple[HeadGrade, ...] = ()
+    opening: Optional[OpeningParts] = None
 
     @property
     def cells(self) -> NDArray[np.int64]:
         """The grid's number of each block, rising."""
         return self.minable.cells
+
+    @property
+    def names(self) -> list[str]:
+        """The names in texts: of blocks their number in the grid."""
+        return [*map(str, self.cells.tolist()), *(self.opening.names if self.opening else ())]
+
+    @property
+    def mined(self) -> slice:
+        """Those that are blocks."""
+        return slice(len(self.cells))
+
+    @property
+    def starts(self) -> dict[str, Optional[pd.Series]]:
+        """By stockpile the feed and the metals that lie there at the start; None: nothing."""
+        return balances_at_start(self.destinations.stockpiles, self.opening.lots if self.opening else None)
 
     @cached_property
     def destinations(self) -> Destinations:
@@ -453,7 +526,7 @@ class PlannedBlocks:
             If no dump accepts a block that is mined.
         """
         if self.plan.project.dumps:
-            ore_kinds.accepted(self.plan, self.cells[schedule.year < self.problem.years])
+            ore_kinds.accepted(self.plan, self.cells[schedule.year[self.mined] < self.problem.years])
         return schedule.sent(self.goes)
 
 
@@ -473,14 +546,30 @@ def of_plan(plan: Plan) -> PlannedBlocks:
     demand_small(plan, minable.cells[pit])
     if project.dumps:
         ore_kinds.accepted(plan, minable.cells[pit])
-    years = periods_of(project, project.schedule or ScheduleRules()) or years_of([amounts.held(pit)], project)
+    rules = project.schedule or ScheduleRules()
+    parts = OpeningParts.of_plan(plan, rules)
+    years = periods_of(project, rules) or years_of([held_at_most(amounts, pit, parts)], project)
     to = destinations_of(project, years)
     if to.routes:
         amounts, accepted = with_routes(plan, minable.cells, amounts, to)
         routes = np.where(accepted, np.arange(len(to.names), len(to)), cheapest_waste(plan, minable.cells)[:, None])
         goes = np.concatenate([goes, routes], axis=1)
         amounts = amounts.as_sent(goes)
-    return PlannedBlocks(plan, minable, amounts, minable.problem(amounts, project, years), goes, grades)
+    if parts is not None:
+        amounts, minable = amounts.with_opening(parts, len(to.waste)), minable.with_opening(parts)
+        stays = np.where(amounts.pays[len(goes) :], np.arange(len(to)), 0)
+        goes, grades = np.concatenate([goes, stays]), tuple(it.with_lots(parts.lots.plan) for it in grades)
+        amounts = amounts.as_sent(goes)
+    return PlannedBlocks(plan, minable, amounts, minable.problem(amounts, project, years), goes, grades, parts)
+
+
+def held_at_most(amounts: BlockAmounts, pit: NDArray[np.bool_], parts: Optional[OpeningParts]) -> dict[str, float]:
+    """Returns what the blocks of a pit hold where each earns most, and what lies on stockpiles where it earns most, by name."""
+    found = amounts.held(pit)
+    if parts is None:
+        return found
+    best, lots = parts.flow(CASH).argmax(axis=1), np.arange(len(parts))
+    return {name: it + max(float(parts.flow(name)[lots, best].sum()), 0.0) for name, it in found.items()}
 
 
 def with_routes(

@@ -22,6 +22,7 @@ from pitplan.config.periods import YEAR
 from pitplan.core.tolerances import SUM_ERROR
 from pitplan.errors import PlanError
 from pitplan.scheduling.block_precedences import BlockPrecedences
+from pitplan.scheduling.limits import MAX, MIN
 
 # Money as the whole numbers that the library of pits takes, always rounded upward.
 #
@@ -81,6 +82,7 @@ class BlockLimit:
     most     by year, infinite where there is no limit: shape (years,)
     least    by year; None: 0 in all, or none at all of a signed limit
     signed   whether blocks may also take from the sum, as in that of content less a head grade times feed
+    turned   whether this is a minimum as a maximum, with signs changed
     spans    by destination the first and the last year in which a block uses the limit, from 0 for the year in which it is mined: shape
              (destinations, 2); None: that year alone
     """
@@ -91,6 +93,20 @@ class BlockLimit:
     least: Optional[NDArray[np.float64]] = None
     signed: bool = False
     spans: Optional[NDArray[np.int64]] = None
+    turned: bool = False
+
+    @property
+    def sides(self) -> list[str]:
+        """Whether it is a maximum, a minimum, or both."""
+        if self.turned:
+            return [MIN]
+        found = [MAX] if np.isfinite(self.most).any() else []
+        return found + ([MIN] if not self.signed and (self.floor > 0).any() else [])
+
+    @property
+    def sign(self) -> float:
+        """By which the price of a unit of the maximum is that of a unit of the amount."""
+        return -1.0 if self.turned else 1.0
 
     @property
     def floor(self) -> NDArray[np.float64]:
@@ -454,6 +470,10 @@ class Assignment:
 
     year: NDArray[np.int64]
     share: NDArray[np.float64]
+
+    def within(self, blocks: slice) -> Assignment:
+        """The schedule of these blocks alone."""
+        return Assignment(self.year[blocks], self.share[blocks])
 
     def value(self, problem: BlockProblem) -> float:
         """What it earns, discounted, in money, less what the years cost up to the last in which a block is mined."""

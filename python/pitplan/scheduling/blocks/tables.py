@@ -44,6 +44,7 @@ from pitplan.scheduling.certificate import (
 )
 from pitplan.scheduling.flow.material import column_of
 from pitplan.scheduling.flow.mixed_reclaim import Pile, notes_of_mixing
+from pitplan.scheduling.flow.opening import OpenedLots
 from pitplan.scheduling.flow.tables import (
     LimitUse,
     dump_table,
@@ -133,20 +134,35 @@ class BlockSchedule(Schedule):
         return stockpile_table(self.material_flows, self.last_years, self.starts, self.plan.project.metals)
 
     @property
-    def starts(self) -> dict[str, None]:
-        """By stockpile what lies there at the start: nothing."""
-        return {it.name: None for it in self.planned.destinations.stockpiles}
+    def starts(self) -> dict[str, Optional[pd.Series]]:
+        """By stockpile the feed and the metals that lie there at the start; None: nothing."""
+        return self.planned.starts
+
+    @cached_property
+    def mined(self) -> Assignment:
+        """When blocks are mined, and where they go."""
+        return self.found.schedule.within(self.planned.mined)
+
+    @cached_property
+    def opened(self) -> Optional[OpenedLots]:
+        """What processes take of opening balances; None without these."""
+        if self.planned.opening is None:
+            return None
+        parts, to = slice(len(self.planned.cells), None), self.planned.destinations
+        processes = slice(len(to.waste), len(to.names))
+        return self.planned.opening.opened(self.found.schedule.within(parts), processes, self.planned.problem.years)
 
     @property
     def reclaims(self) -> pd.DataFrame:
-        """A row per block, stockpile and process that takes a share of it from there, with its id and the year."""
-        parts = []
+        """A row per block, stockpile and process that takes a share of it from there, with its id and the year; without an id per process that
+        takes a share of what lay there at the start."""
+        parts = [] if self.opened is None else [self.opened.reclaims]
         for number, route in enumerate(self.planned.destinations.routes, len(self.planned.destinations.names)):
             move = self.moved_over(number, route)
             some = np.flatnonzero(move.moves)
             found = {"id": self.planned.cells[some], "year": move.year[some] + 1, "source": move.source}
             parts.append(pd.DataFrame(found | {"destination": move.destination, "share": move.share[some]}))
-        table = pd.concat(parts, ignore_index=True)
+        table = pd.concat(parts, ignore_index=True).astype({"id": "Int64"})
         return table.sort_values(["id", "year"], kind="stable", ignore_index=True)
 
     @property
@@ -159,9 +175,9 @@ class BlockSchedule(Schedule):
     @property
     def piles(self) -> Iterator[Pile]:
         """What moves to and from each stockpile."""
-        planned, schedule, years = self.planned, self.found.schedule, self.planned.problem.years
+        planned, schedule, years = self.planned, self.mined, self.planned.problem.years
         to, feed = planned.destinations, self.plan.values.feed[planned.cells]
-        blocks = np.arange(planned.problem.blocks)
+        blocks = np.arange(len(planned.cells))
         for number, it in enumerate(to.stockpiles):
             stocked, processes = np.zeros((len(blocks), years + 1)), range(len(to.processes))
             np.add.at(stocked, (blocks, schedule.year), schedule.share[:, to.stacked(number)].sum(axis=1))
@@ -170,9 +186,13 @@ class BlockSchedule(Schedule):
                 routes = np.intersect1d(to.fed(process), to.stacked(number))
                 year = np.minimum(schedule.year[:, None] + to.lags[routes], years)
                 np.add.at(out[process], (blocks[:, None], year), schedule.share[:, routes])
-                pays, cash = planned.amounts.pays[:, routes[0]], self.reclaimed_cash[:, routes[0]]
+                pays, cash = (of[planned.mined, routes[0]] for of in (planned.amounts.pays, self.reclaimed_cash))
                 gain[process, :, :years] = np.where(pays[:, None], cash, -it.reclaim_cost * feed[:, None])
-            yield Pile(feed, stocked[:, :years], out[..., :years], gain[..., :years], np.zeros(len(blocks)))
+            pile = Pile(feed, stocked[:, :years], out[..., :years], gain[..., :years], np.zeros(len(blocks)))
+            if self.opened is not None:
+                of_lots = self.opened.shares, self.opened.gains
+                pile = pile.with_lots(self.opened.ore, *of_lots, number=number, cost=it.reclaim_cost)
+            yield pile
 
     @property
     def last_years(self) -> dict[str, int]:
@@ -195,7 +215,7 @@ class BlockSchedule(Schedule):
         problem, prices = self.planned.problem, self.found.multipliers
         found, discounts = np.zeros(problem.years), year_discounts(self.plan.project.shells, problem.years)
         for limit, by_year in zip(problem.limits, prices):
-            found += by_year * (limit.name in names)
+            found += limit.sign * by_year * (limit.name in names)
         for total, (price, *_) in zip(problem.totals, prices[len(problem.limits) :]):
             found[self.count - 1] += price * (total.name in names)
         return found / discounts
@@ -220,18 +240,20 @@ class BlockSchedule(Schedule):
     @cached_property
     def material_flows(self) -> pd.DataFrame:
         """One row per block with tonnes and destination that takes a share of it, and one per block and process that takes it from a stockpile."""
-        return pd.concat([flows_of(self, move) for move in self.moves], ignore_index=True)
+        rows = [flows_of(self, move) for move in self.moves]
+        rows += [] if self.opened is None else [self.opened.flows.assign(method=BLOCK)]
+        return pd.concat(rows, ignore_index=True)
 
     @property
     def moves(self) -> Iterator[BlockMove]:
         """The flows from the pit to each destination, to each stockpile, and over each route."""
-        planned, schedule, years = self.planned, self.found.schedule, self.planned.problem.years
+        planned, schedule, years = self.planned, self.mined, self.planned.problem.years
         to, cells = planned.destinations, planned.cells
         factors = of_project(self.plan.project).factors(MINING_COST, years)
         mining = self.plan.values.mining[cells] / MILLION * factors[np.minimum(schedule.year, years - 1)]
         for number, name in enumerate(to.names):
             process = number - len(to.waste) if number >= len(to.waste) else None
-            cash = self.cash[:, number] + mining
+            cash = self.cash[planned.mined, number] + mining
             yield BlockMove(PIT, name, schedule.year, schedule.share[:, number], cash, process=process)
         for number, it in enumerate(to.stockpiles):
             share = schedule.share[:, to.stacked(number)].sum(axis=1)
@@ -242,7 +264,7 @@ class BlockSchedule(Schedule):
 
     def moved_over(self, number: int, route: Route) -> BlockMove:
         """Returns the flow that a process takes over a route, by the number of the destination; what no year is left to reclaim stays."""
-        planned, schedule, years = self.planned, self.found.schedule, self.planned.problem.years
+        planned, schedule, years = self.planned, self.mined, self.planned.problem.years
         to, year = planned.destinations, schedule.year + route.lag
         share = np.where(year < years, schedule.share[:, number], 0.0)
         cash = self.reclaimed_cash[np.arange(len(year)), number, np.minimum(year, years - 1)]
@@ -253,7 +275,7 @@ class BlockSchedule(Schedule):
     def grade_tonnage(self) -> pd.DataFrame:
         """Grade-tonnage curves of the model, and of the blocks that are mined as the pit."""
         mined = np.zeros(self.plan.grid.count, dtype=bool)
-        mined[self.planned.cells[self.found.schedule.year < self.planned.problem.years]] = True
+        mined[self.planned.cells[self.mined.year < self.planned.problem.years]] = True
         return grade_tonnage.of_pit(self.plan, mined)
 
     def tables(self) -> dict[str, pd.DataFrame]:
@@ -282,7 +304,7 @@ class BlockSchedule(Schedule):
     def proved(self, stage: Path, program: Optional[Path]) -> BlockSchedule:
         """Writes the texts of the schedule into a folder, and returns it with what the program proves."""
         certificate, problem = self.certificate, self.planned.problem
-        write(certificate, self.planned.cells.tolist(), stage)
+        write(certificate, self.planned.names, stage)
         proved = checked(stage, program, certificate.unit)
         to = self.planned.destinations
         destinations = [("", "" if it == WASTE else it, 0) for it in to.names]
@@ -305,7 +327,7 @@ class BlockSchedule(Schedule):
         """Rows of blocks, by `id`, with the year of each, from 1, 0 where it is not mined; and share_NAME, the share of it that goes to each
         dump, and to each process at once or from a stockpile, share_mill where the project names none, and the share that is placed on each
         stockpile. The rest of it is waste."""
-        problem, schedule = self.planned.problem, self.found.schedule
+        problem, schedule = self.planned.problem, self.mined
         columns: dict[str, NDArray[Any]] = {
             "year": np.where(schedule.year < problem.years, schedule.year + 1, 0).astype(np.int16)
         }
@@ -349,7 +371,7 @@ class BlockSchedule(Schedule):
         """Returns the sum of an amount in each year in which it flows or lies on a stockpile, shape (years,)."""
         amounts, years = self.planned.amounts, self.planned.problem.years
         limit = BlockLimit(name, amounts.flows[name], np.zeros(years), spans=amounts.spans(name))
-        return self.found.schedule.sum(limit, limit.amounts, years)[: self.count]
+        return self.found.schedule.sum(limit, limit.amounts, years)[: self.count] + amounts.lying.get(name, 0.0)
 
     @property
     def earned(self) -> NDArray[np.float64]:
@@ -394,9 +416,9 @@ class BlockSchedule(Schedule):
         if not prices.size:
             return pd.DataFrame(columns=["limit", "side", "year", "price"])
         rows = [
-            (limit.name, "max" if limit.signed or np.isfinite(limit.most).any() else "min", year, price)
+            (limit.name, *limit.sides[:1], year, price)
             for limit, by_year in zip(problem.limits, prices)
-            for year, price in enumerate(by_year, 1)
+            for year, price in enumerate(limit.sign * by_year, 1)
         ]
         of_totals = zip(problem.totals, prices[len(problem.limits) :])
         rows += [(*name_and_side(total), 0, by_year[0]) for total, by_year in of_totals]
@@ -636,19 +658,13 @@ def values_of(problem: BlockProblem, discounts: NDArray[np.float64]) -> tuple[ND
 
 def sides_of(problem: BlockProblem) -> tuple[tuple[str, str], ...]:
     """Returns name and side of the limits of the texts, in their order."""
-    of_years = [(limit.name, side) for limit in problem.limits for side in sides(limit)]
+    of_years = [(limit.name, side) for limit in problem.limits for side in limit.sides]
     return (*of_years, *map(name_and_side, problem.totals))
 
 
 def name_and_side(total: TotalLimit) -> tuple[str, str]:
     """Returns what bound.csv calls a total, and its side."""
     return (MUST_MINE, "min") if total.least else (total.name, "max")
-
-
-def sides(limit: BlockLimit) -> list[str]:
-    """Returns whether a limit is a maximum, a minimum, or both."""
-    found = ["max"] if np.isfinite(limit.most).any() else []
-    return found + (["min"] if not limit.signed and (limit.floor > 0).any() else [])
 
 
 def terms_of(amounts: NDArray[np.int64]) -> tuple[Term, ...]:
@@ -671,8 +687,8 @@ def stated(limit: BlockLimit, prices: NDArray[np.float64]) -> list[StatedLimit]:
     """Returns a limit as one on the most, and one with turned signs on the least, as far as there are such. Amounts are rounded down, so that no schedule
     of the project exceeds a limit by rounding."""
     found = []
-    for side in sides(limit):
-        sign, bound = (1.0, limit.most) if side == "max" else (-1.0, limit.floor)
+    for side in limit.sides:
+        sign, bound = (1.0, limit.most) if side == MAX or limit.turned else (-1.0, limit.floor)
         used = {it.destination: it for it in used_terms(millionths(sign * limit.amounts, down=True))}
         lags = ((number, lag) for numbers, lags in limit.windows for number in numbers.tolist() for lag in lags)
         terms = tuple(replace(used[number], lag=lag) for number, lag in lags if number in used and lag < len(bound))

@@ -23,7 +23,7 @@ from pitplan.economics.weighing import DEPTH, HAULAGE, MILLIONTHS, MINING
 from pitplan.pits.shells import ratio
 from pitplan.plan import Plan
 from pitplan.scheduling.flow.material import column_of, names_of
-from pitplan.scheduling.flow.opening import OpeningLots, contained
+from pitplan.scheduling.flow.opening import OpeningLots
 
 # Amounts of periods, each of shape (periods,).
 Amounts = NDArray[np.float64]
@@ -67,7 +67,7 @@ class CellAmounts:
             * float(GRADE_UNITS[metal.unit])
             for metal in self.plan.project.metals
         }
-        lying = {} if self.lots is None else contained(self.lots)
+        lying = {} if self.lots is None else self.lots.contained
         return {name: np.append(values, lying.get(name, np.zeros(0))) for name, values in found.items()}
 
 

@@ -166,7 +166,8 @@ class BlockOperation(Operation):
 
     @cached_property
     def amounts(self) -> CellAmounts:
-        return CellAmounts(self.blocks.planned.plan)
+        opening = self.blocks.planned.opening
+        return CellAmounts(self.blocks.planned.plan, opening.lots if opening else None)
 
     @property
     def years(self) -> int:
@@ -179,11 +180,11 @@ class BlockOperation(Operation):
     @property
     def share(self) -> NDArray[np.float64]:
         """The share of each block that goes to each process and over each stockpile, shape (blocks, processes and routes)."""
-        return self.blocks.found.schedule.share[:, len(self.destinations.waste) :]
+        return self.blocks.mined.share[:, len(self.destinations.waste) :]
 
     def by_year(self, values: NDArray[np.float64]) -> Amounts:
         """Returns the sums of values of blocks that may be mined by the period in which they are."""
-        year = self.blocks.found.schedule.year
+        year = self.blocks.mined.year
         return np.asarray(np.bincount(year, values, minlength=self.years)[: self.years], dtype=float)
 
     def mined(self, values: NDArray[np.float64]) -> Amounts:
@@ -193,11 +194,17 @@ class BlockOperation(Operation):
         return self.by_year(values[self.blocks.planned.cells] * self.share.sum(axis=1))
 
     def fed(self, values: NDArray[np.float64], process: int) -> Amounts:
-        return self.taken(values, self.destinations.fed(process))
+        found = self.taken(values, self.destinations.fed(process))
+        return found + self.opened(values[self.plan.grid.count :], process)
+
+    def opened(self, lots: NDArray[np.float64], process: int) -> Amounts:
+        """Returns what a process takes of opening balances, from amounts of lots."""
+        opened = self.blocks.opened
+        return np.zeros(self.years) if opened is None else (lots @ opened.shares[process])[: self.years]
 
     def taken(self, values: NDArray[np.float64], destinations: NDArray[np.int64]) -> Amounts:
         """Returns what is taken of blocks that go to some destinations, by the period in which it is."""
-        schedule, years = self.blocks.found.schedule, self.blocks.planned.problem.years
+        schedule, years = self.blocks.mined, self.blocks.planned.problem.years
         year = np.minimum(schedule.year[:, None] + self.destinations.lags[destinations], years)
         weights = values[self.blocks.planned.cells, None] * schedule.share[:, destinations]
         return np.asarray(np.bincount(year.ravel(), weights.ravel(), minlength=years + 1)[: self.years], dtype=float)
@@ -210,6 +217,8 @@ class BlockOperation(Operation):
             for number, it in enumerate(self.destinations.stockpiles):
                 routes = np.intersect1d(fed, self.destinations.stacked(number))
                 direct = direct + it.recovery.get(metal, 1.0) * self.taken(way.metal[metal], routes)
+            if self.blocks.opened is not None:
+                direct = direct + self.opened(self.blocks.opened.ore.ore.of(f"recovered_{metal}")[process], process)
             found.append(direct)
         return np.stack(found)
 
@@ -220,14 +229,18 @@ class BlockOperation(Operation):
         found = {"stacking_cost": np.zeros(self.years), "reclaim_cost": np.zeros(self.years)}
         for number, it in piles:
             routes = self.destinations.stacked(number)
-            share = self.blocks.found.schedule.share[:, routes].sum(axis=1)
+            share = self.blocks.mined.share[:, routes].sum(axis=1)
             found["stacking_cost"] += it.stacking_cost * self.by_year(placed * share)
             found["reclaim_cost"] += it.reclaim_cost * self.taken(feed, routes)
+            if self.blocks.opened is not None:
+                lots = self.blocks.opened.ore.on(number)
+                opened = [self.opened(lots, process) for process in range(len(self.names))]
+                found["reclaim_cost"] += it.reclaim_cost * np.sum(opened, axis=0)
         return found if self.destinations.stockpiles else {}
 
     def placed(self, values: NDArray[np.float64], dump: int) -> Amounts:
         """Returns what a dump takes, by its number."""
-        return self.by_year(values[self.blocks.planned.cells] * self.blocks.found.schedule.share[:, dump])
+        return self.by_year(values[self.blocks.planned.cells] * self.blocks.mined.share[:, dump])
 
     @property
     def dump_costs(self) -> Lines:

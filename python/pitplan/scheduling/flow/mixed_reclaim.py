@@ -20,6 +20,7 @@ from pitplan.errors import WARNING
 
 from .flows import Flows
 from .material import FEED
+from .model import OpeningOre
 
 Floats = NDArray[np.float64]
 # A note names the years in which the reclaimed grade differs by more than this share from the mean of the pile.
@@ -50,6 +51,30 @@ class Pile:
     gain: Floats
     lies: Floats
 
+    def with_lots(self, lots: OpeningOre, shares: Floats, gains: Floats, *, number: int, cost: float) -> Pile:
+        """Returns the pile with the lots that lie on it at the start.
+
+        Parameters
+        ----------
+        lots : OpeningOre
+        shares, gains : array, shape (processes, lots, years)
+            The shares that the schedule takes, and what whole lots earn, not discounted.
+        number : int
+            That of the stockpile.
+        cost : float
+            Of reclaiming a tonne.
+        """
+        here, feed = lots.stockpile == number, lots.ore.feed
+        pays = (lots.ore.of(FEED) > 0)[:, here, None]
+        gain = np.where(pays, gains[:, here], -cost * feed[here][:, None])
+        return Pile(
+            np.append(self.feed, feed[here]),
+            np.concatenate([self.stocked, np.zeros((int(here.sum()), self.stocked.shape[1]))]),
+            np.concatenate([self.out, shares[:, here]], axis=1),
+            np.concatenate([self.gain, gain], axis=1),
+            np.append(self.lies, np.ones(int(here.sum()))),
+        )
+
     @property
     def lost(self) -> Floats:
         """What the mean of the pile earns less than the parcels that the schedule reclaims, by year, not discounted."""
@@ -62,28 +87,15 @@ class Pile:
         return found
 
 
-def piles_of(flows: Flows) -> list[Pile]:
-    model, years, found = flows.model, flows.years, []
-    ore, lots = model.ore, model.opening
+def piles_of(flows: Flows) -> Iterator[Pile]:
+    """Yields what moves to and from each stockpile."""
+    model, years, ore = flows.model, flows.years, flows.model.ore
     for number, it in enumerate(model.stockpiles):
-        here = lots.stockpile == number
-        parts = (ore.of(FEED), model.reclaim_gains[number][..., :years]), (
-            lots.ore.of(FEED),
-            model.opening_gains[..., :years],
-        )
-        of_parcels, of_lots = (
-            np.where(feed[:, :, None] > 0, gains, -it.reclaim_cost * feed.max(axis=0, initial=0.0)[:, None])
-            for feed, gains in parts
-        )
-        pile = Pile(
-            np.append(ore.feed, lots.ore.feed[here]),
-            np.concatenate([flows.stocked[number], np.zeros((int(here.sum()), years))]),
-            np.concatenate([flows.reclaimed[number], flows.opened[:, here]], axis=1),
-            np.concatenate([of_parcels, of_lots[:, here]], axis=1),
-            np.append(np.zeros(len(ore)), np.ones(int(here.sum()))),
-        )
-        found.append(pile)
-    return found
+        gains = model.reclaim_gains[number][..., :years]
+        gains = np.where(ore.of(FEED)[:, :, None] > 0, gains, -it.reclaim_cost * ore.feed[:, None])
+        pile = Pile(ore.feed, flows.stocked[number], flows.reclaimed[number], gains, np.zeros(len(ore)))
+        of_lots = flows.opened, model.opening_gains[..., :years]
+        yield pile.with_lots(model.opening, *of_lots, number=number, cost=it.reclaim_cost)
 
 
 def loss_by_mixing(flows: Flows) -> float:

@@ -2,9 +2,10 @@
 
 from __future__ import annotations
 
+from collections.abc import Sequence
 from dataclasses import dataclass, replace
 from decimal import Decimal
-from typing import TYPE_CHECKING, Any, Optional
+from typing import Any, Optional
 
 import numpy as np
 import pandas as pd
@@ -12,20 +13,15 @@ from numpy.typing import NDArray
 
 from pitplan.blockmodel.grid import Grid
 from pitplan.config.economics import GRADE_UNITS
-from pitplan.config.material import MILL, Opening
+from pitplan.config.material import MILL, Opening, Stockpile
 from pitplan.config.project import Project
 from pitplan.config.schedule import ScheduleRules
 from pitplan.economics import block_values
 from pitplan.economics.period_costs import YearlyMoney
 from pitplan.plan import Plan, shown_name
 
-from .flows import Flows
-from .material import joined, ore_of
+from .material import joined, names_of, ore_of
 from .model import OpeningOre
-
-if TYPE_CHECKING:
-    from pitplan.scheduling.pushback_schedule import PushbackSchedule
-
 
 SOURCE = "[schedule.stockpiles] opening"
 
@@ -47,6 +43,21 @@ class OpeningLots:
 
     def __len__(self) -> int:
         return len(self.stockpile)
+
+    @property
+    def contained(self) -> dict[str, NDArray[np.float64]]:
+        """The metal in each lot, in tonnes or grams, by metal, shape (lots,)."""
+        table, tonnes = self.plan.table, self.plan.values.tonnes
+        return {
+            metal.name: table[metal.column].to_numpy(dtype=float) * float(GRADE_UNITS[metal.unit]) * tonnes
+            for metal in self.plan.project.metals
+        }
+
+    def balance(self, stockpile: int) -> pd.Series:
+        """Returns feed_tonnes and contained_METAL on a stockpile, by its number."""
+        mine, amounts = self.stockpile == stockpile, {"feed_tonnes": self.plan.values.tonnes}
+        amounts |= {f"contained_{metal}": values for metal, values in self.contained.items()}
+        return pd.Series({name: float(values[mine].sum()) for name, values in amounts.items()})
 
     def ore(self, rules: ScheduleRules, money: YearlyMoney) -> OpeningOre:
         """Returns the lots as their stockpiles give them back."""
@@ -97,46 +108,61 @@ def row_of(opening: Opening, project: Project) -> dict[str, Any]:
     return named | limited | opening.grades | {table.tonnes: opening.tonnes}
 
 
-def contained(lots: OpeningLots) -> dict[str, NDArray[np.float64]]:
-    """Returns the metal in each lot, in tonnes or grams, by metal, shape (lots,)."""
-    table, tonnes = lots.plan.table, lots.plan.values.tonnes
+def balances_at_start(stockpiles: Sequence[Stockpile], lots: Optional[OpeningLots]) -> dict[str, Optional[pd.Series]]:
+    """Returns by stockpile feed_tonnes and contained_METAL of what lies there at the start; None: nothing."""
     return {
-        metal.name: table[metal.column].to_numpy(dtype=float) * float(GRADE_UNITS[metal.unit]) * tonnes
-        for metal in lots.plan.project.metals
+        it.name: lots.balance(number) if lots is not None and (lots.stockpile == number).any() else None
+        for number, it in enumerate(stockpiles)
     }
 
 
-def of_opening(schedule: PushbackSchedule, flows: Flows) -> pd.DataFrame:
-    """Returns the rows of flows.csv of a method: one per year, lot and process that takes some of it; they have no bench."""
-    lots, names = schedule.lots, schedule.names
-    if lots is None or not flows.opened.any():
-        return pd.DataFrame()
-    process, lot, year = np.nonzero(flows.opened)
-    share, project = flows.opened[process, lot, year], lots.plan.project
-    piles = np.array([it.name for it in flows.model.stockpiles], dtype=object)
-    found: dict[str, object] = {"year": year + 1, "pushback": 0, "bench": np.nan, "bin": 0}
-    for column in (project.table.rock_type, project.table.resource_class):
-        found |= {shown_name(column): lots.plan.table[column].to_numpy()[lot]} if column else {}
-    found |= {"source": piles[lots.stockpile[lot]], "destination": np.array([name or MILL for name in names])[process]}
-    tonnes, metal = lots.plan.values.tonnes[lot] * share, contained(lots)
-    found["total_tonnes"] = tonnes
-    found |= {f"in_situ_{name}": amounts[lot] * share for name, amounts in metal.items()}
-    found["feed_tonnes"] = tonnes
-    found |= {f"contained_{name}": amounts[lot] * share for name, amounts in metal.items()}
-    for name in metal:
-        found[f"recovered_{name}"] = flows.from_opening(f"recovered_{name}")[process, lot, year]
-    found["cash_flow"] = flows.model.opening_gains[process, lot, year] * share
-    return pd.DataFrame(found)
+@dataclass(frozen=True)
+class OpenedLots:
+    """What a schedule takes of the lots that lie on stockpiles at the start.
 
+    Attributes
+    ----------
+    lots : OpeningLots
+    ore : OpeningOre
+        Whole lots, as their stockpiles give them back.
+    shares : array, shape (processes, lots, years)
+        The share of each lot that each process takes in each year.
+    gains : array, shape (processes, lots, years)
+        What whole lots earn, in the currency of the year.
+    stockpiles : tuple of Stockpile
+    """
 
-def balance_at_start(schedule: PushbackSchedule, name: str) -> pd.Series:
-    """Returns feed_tonnes and contained_METAL on a stockpile at the start."""
-    lots = schedule.lots
-    number = [it.name for it in schedule.model.stockpiles].index(name)
-    mine = np.zeros(0, dtype=bool) if lots is None else lots.stockpile == number
-    metals = schedule.pushbacks.plan.project.metals
-    amounts = {"feed_tonnes": 0.0, **{f"contained_{metal.name}": 0.0 for metal in metals}}
-    if lots is not None and mine.any():
-        amounts["feed_tonnes"] = float(lots.plan.values.tonnes[mine].sum())
-        amounts |= {f"contained_{metal}": float(values[mine].sum()) for metal, values in contained(lots).items()}
-    return pd.Series(amounts)
+    lots: OpeningLots
+    ore: OpeningOre
+    shares: NDArray[np.float64]
+    gains: NDArray[np.float64]
+    stockpiles: tuple[Stockpile, ...]
+
+    @property
+    def reclaims(self) -> pd.DataFrame:
+        """The rows of reclaims.csv, without an id: one per process that takes some of a lot in a year."""
+        flows, rows = self.flows, np.nonzero(self.shares)
+        found = flows[["year", "source", "destination"]].assign(share=self.shares[rows])
+        found.insert(0, "id", pd.Series(pd.NA, index=found.index, dtype="Int64"))
+        return found
+
+    @property
+    def flows(self) -> pd.DataFrame:
+        """The rows of flows.csv: one per year, lot and process that takes some of it. They are of no bench."""
+        process, lot, year = np.nonzero(self.shares)
+        share, project = self.shares[process, lot, year], self.lots.plan.project
+        piles = np.array([it.name for it in self.stockpiles], dtype=object)
+        found: dict[str, object] = {"year": year + 1, "bench": np.full(len(lot), np.nan)}
+        for column in (project.table.rock_type, project.table.resource_class):
+            found |= {shown_name(column): self.lots.plan.table[column].to_numpy()[lot]} if column else {}
+        names = np.array([name or MILL for name in names_of(self.lots.plan)], dtype=object)
+        found |= {"source": piles[self.lots.stockpile[lot]], "destination": names[process]}
+        tonnes, metal = self.lots.plan.values.tonnes[lot] * share, self.lots.contained
+        found["total_tonnes"] = tonnes
+        found |= {f"in_situ_{name}": amounts[lot] * share for name, amounts in metal.items()}
+        found["feed_tonnes"] = tonnes
+        found |= {f"contained_{name}": amounts[lot] * share for name, amounts in metal.items()}
+        for name in metal:
+            found[f"recovered_{name}"] = self.ore.ore.of(f"recovered_{name}")[process, lot] * share
+        found["cash_flow"] = self.gains[process, lot, year] * share
+        return pd.DataFrame(found)

@@ -36,7 +36,7 @@ from pitplan.scheduling.limits import (
 
 from .flows import Flows
 from .material import FEED, SET, column_of
-from .opening import of_opening
+from .opening import OpenedLots
 
 if TYPE_CHECKING:
     from pitplan.scheduling.pushback_schedule import PushbackSchedule
@@ -177,6 +177,15 @@ def of_method(schedule: PushbackSchedule, method: str, lots: BlockLots) -> pd.Da
     table = table.sort_values(order, ascending=[True, True, False, *[True] * (len(order) - 3)], kind="stable")
     table.insert(0, "method", method)
     return table.reset_index(drop=True)
+
+
+def of_opening(schedule: PushbackSchedule, flows: Flows) -> pd.DataFrame:
+    """Returns the rows of what is taken of the lots that lie on stockpiles at the start: of pushback and bin 0."""
+    if schedule.lots is None or not flows.opened.any():
+        return pd.DataFrame()
+    model = flows.model
+    opened = OpenedLots(schedule.lots, model.opening, flows.opened, model.opening_gains, model.stockpiles)
+    return opened.flows.assign(pushback=0, bin=0)
 
 
 def of_waste(flows: Flows, lots: BlockLots) -> Iterator[pd.DataFrame]:
