@@ -8,6 +8,9 @@ result.
 
 from __future__ import annotations
 
+from dataclasses import dataclass
+from functools import lru_cache
+
 import numpy as np
 
 from pitplan.blockmodel.grid import Grid
@@ -28,11 +31,11 @@ def mark_predecessors(used: np.ndarray, level: int, grid: Grid, domains: SlopeDo
     """Marks the predecessors of the marked cells of a level, in a boolean array of shape (levels, rows, columns)."""
     list_of = grid.cube(domains.list_of)[level]
     for number in np.flatnonzero(np.bincount(list_of[used[level]])):
-        mine = used[level] & (list_of == number)
+        mine = Box.of(used[level] & (list_of == number))
         # A step without an arc is a precedence too, which others imply.
         for east, north, up in domains.lists[number].steps:
             if up <= level:
-                mark(used[level - up], mine, east, north)
+                mine.mark(used[level - up], east, north)
 
 
 def users_of(grid: Grid, domains: SlopeDomains, needed: np.ndarray) -> np.ndarray:
@@ -46,21 +49,44 @@ def users_of(grid: Grid, domains: SlopeDomains, needed: np.ndarray) -> np.ndarra
 def users_at(found: np.ndarray, level: int, grid: Grid, domains: SlopeDomains) -> np.ndarray:
     """Returns the cells of a level that depend on a marked cell above it, a boolean mask of shape (rows, columns)."""
     list_of = grid.cube(domains.list_of)[level]
-    result = np.zeros_like(found[level])
+    result, above = np.zeros_like(found[level]), lru_cache(None)(lambda up: Box.of(found[level - up]))
     for number in np.flatnonzero(np.bincount(list_of.ravel())):
         users = np.zeros_like(result)
         for east, north, up in domains.lists[number].steps:
             if up <= level:
-                mark(users, found[level - up], -east, -north)
+                above(up).mark(users, -east, -north)
         result |= users & (list_of == number)
     return result
 
 
-def mark(above: np.ndarray, blocks: np.ndarray, east: int, north: int) -> None:
-    """Marks in another level the blocks at an offset east and north of the given ones."""
-    rows, columns = blocks.shape
-    if abs(north) >= rows or abs(east) >= columns:
-        return
-    to = (slice(max(0, north), rows + min(0, north)), slice(max(0, east), columns + min(0, east)))
-    of = (slice(max(0, -north), rows + min(0, -north)), slice(max(0, -east), columns + min(0, -east)))
-    above[to] |= blocks[of]
+@dataclass(frozen=True)
+class Box:
+    """The marked cells of a level, in the rows and columns that have some: most closures are of a few cells, and a model has hundreds of steps.
+
+    Attributes
+    ----------
+    row, column : int
+        The first of each.
+    cells : bool array, shape (rows, columns)
+    """
+
+    row: int
+    column: int
+    cells: np.ndarray
+
+    @staticmethod
+    def of(level: np.ndarray) -> Box:
+        rows, columns = (np.flatnonzero(level.any(axis=axis)) for axis in (1, 0))
+        if not len(rows):
+            return Box(0, 0, level[:0, :0])
+        part = level[rows[0] : rows[-1] + 1, columns[0] : columns[-1] + 1]
+        return Box(int(rows[0]), int(columns[0]), part)
+
+    def mark(self, level: np.ndarray, east: int, north: int) -> None:
+        """Marks in another level the cells at an offset east and north of these."""
+        south, west = self.row + north, self.column + east
+        rows = max(0, south), min(level.shape[0], south + self.cells.shape[0])
+        columns = max(0, west), min(level.shape[1], west + self.cells.shape[1])
+        if rows[0] < rows[1] and columns[0] < columns[1]:
+            part = self.cells[rows[0] - south : rows[1] - south, columns[0] - west : columns[1] - west]
+            level[rows[0] : rows[1], columns[0] : columns[1]] |= part
