@@ -8,6 +8,7 @@ all       each suite in turn on one build, which is what runs if none is named; 
 table     modes and shells, next to the strongest of other people's maximum flows
 peers     other people's maximum flows, all that there are
 irregular the strongest of them on mines of sheets, pipes, noise and values near zero
+seeds     the strongest of them on mines of five seeds
 fixed     runs with blocks forced in or barred next to the plain run
 greatest  the greatest pit next to the least
 shells    lists of revenue factors next to one factor
@@ -26,7 +27,7 @@ import importlib
 import pathlib
 import sys
 
-SUITES = ("table", "peers", "irregular", "fixed", "greatest", "shells", "shared", "shapes", "malice", "library", "layer")
+SUITES = ("table", "peers", "irregular", "seeds", "fixed", "greatest", "shells", "shared", "shapes", "malice", "library", "layer")
 
 
 def run_all(words: list[str]) -> None:

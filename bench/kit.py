@@ -32,15 +32,26 @@ class Mine(NamedTuple):
     broken: pathlib.Path
 
 
-def mine_of(blocks: int, slopes: str, ore: str = BODIES) -> Mine:
-    """The mine of about `blocks` blocks with a kind of ore (tools/make_mine.py, seed 1), made if it is missing."""
+# That of the mines of most suites.
+SEED = 1
+
+
+def mine_of(blocks: int, slopes: str, ore: str = BODIES, seed: int = SEED) -> Mine:
+    """The mine of about `blocks` blocks with a kind of ore (tools/make_mine.py), made if it is missing."""
     WORK.mkdir(exist_ok=True)
-    prefix = WORK / f"mine_{blocks}_{slopes.replace(':', '_')}{f'_{ore}' * (ore != BODIES)}"
+    name = f"mine_{blocks}_{slopes.replace(':', '_')}{f'_{ore}' * (ore != BODIES)}{f'_seed{seed}' * (seed != SEED)}"
+    prefix = WORK / name
     mine = Mine(*(prefix.with_suffix(end) for end in (".upit", ".blocks", ".prec", ".broken.prec")))
     if not mine.broken.exists():
-        write_mine(str(prefix), blocks, slopes, 1, ore)
+        write_mine(str(prefix), blocks, slopes, seed, ore)
         mine.broken.write_text(mine.prec.read_text() + "0 0\n")
     return mine
+
+
+def removed(mine: Mine) -> None:
+    """Removes the files of a mine."""
+    for file in mine:
+        file.unlink()
 
 
 def count_of(mine: Mine) -> int:

@@ -29,6 +29,7 @@ def build() -> tuple[pathlib.Path, list[str]]:
     """The program with the peers whose headers are there, and their words."""
     if shutil.which("c++") is None:
         raise SystemExit("there is no C++ compiler (Debian: g++); tools/setup.sh bench installs what the bench needs")
+    WORK.mkdir(exist_ok=True)
     target = WORK / "peers"
     words = ["c++", "-O2", "-std=c++17", "-I", KOLMOGOROV, "-o", target, ROOT / "bench" / "peers.cpp"]
     subprocess.run(words + ["-ligraph"] * IGRAPH.exists(), check=True)

@@ -85,14 +85,14 @@ def pairs_of(prec: pathlib.Path) -> int:
         return sum(int(line.split(maxsplit=2)[1]) for line in file)
 
 
-def made(blocks: int, slopes: str, ore: str) -> kit.Mine:
+def made(blocks: int, slopes: str, ore: str = kit.BODIES, seed: int = kit.SEED) -> kit.Mine:
     """The mine, made in a process of its own: what a process holds when it starts another counts for the other's peak."""
-    maker = multiprocessing.get_context("spawn").Process(target=kit.mine_of, args=(blocks, slopes, ore))
+    maker = multiprocessing.get_context("spawn").Process(target=kit.mine_of, args=(blocks, slopes, ore, seed))
     maker.start()
     maker.join()
     if maker.exitcode != 0:
         raise SystemExit(f"the mine of {blocks} blocks with slopes {slopes} could not be made in {kit.WORK}")
-    return kit.mine_of(blocks, slopes, ore)
+    return kit.mine_of(blocks, slopes, ore, seed)
 
 
 class Bench:

@@ -10,7 +10,11 @@ from conftest import PROGRAM, TOP
 
 sys.path.insert(0, str(TOP / "tools"))
 
+sys.path.insert(0, str(TOP / "bench"))
+
 import bench_tables  # noqa: E402
+import seeds  # noqa: E402
+from timing import Run  # noqa: E402
 
 
 def test_the_tables_are_made_from_the_results() -> None:
@@ -39,6 +43,13 @@ def test_the_ratios_on_irregular_mines() -> None:
     section += "| 1:5, pipes | 1,000 | 7 | 0.10 | 0.05 | 13 | 0.40 | 0.30 | 20 | Boykov |\n| 1:5, noise | 1,000 | 7 | 0.20 | 0.1 | 13 | more than 20 | | | all |\n"
     found = bench_tables.irregular(section)[1:]
     assert found == [["1:5, pipes", "1,000", "0.10", "13", "0.40", "20", "0.25"], ["1:5, noise", "1,000", "0.20", "13", "more than 20", "", ""]]
+
+
+def test_the_ratios_of_seeds() -> None:
+    """The median of those that have a ratio, and the most memory, mergers and relabels of all."""
+    mines = [(0.2, 0.5, 0.3, 4.0), (0.4, 0.1, 0.2, 1.0), (0.3, None, 0.1, 5.0), (0.6, 0.2, 0.4, 2.0)]
+    found = [seeds.Timed(Run(seconds, 1.0, 10 + seconds, "", ""), *rest) for seconds, *rest in mines]
+    assert seeds.row("1:5", 1000, found) == "| 1:5 | 1,000 | 3 of 4 | 0.20 | 0.10 | 0.50 | 0.35 | 11 | 0.40 | 5.00 |"
 
 
 def test_the_ratios_of_peers() -> None:

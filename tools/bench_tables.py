@@ -104,6 +104,7 @@ MADE: dict[str, tuple[str, Callable[[str], Rows]]] = {
     "clock": ("table", clock),
     "peers": ("peers", peers),
     "irregular": ("irregular", irregular),
+    "seeds": ("seeds", first),
     "shared": ("shared", shared),
     "fixed": ("fixed", first),
     "greatest": ("greatest", first),
