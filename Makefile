@@ -7,14 +7,9 @@ PREFIX = /usr/local
 
 all: build demo
 
-# A first answer in a minute or two. Nothing is proved: the sources are compiled and run as they are.
+# A first answer in two or three minutes. Nothing is proved: the sources are compiled and run as they are.
 try:
-	@echo "unproved run on $(SMALL_MINE):"
-	@mkdir -p build
-	@cd crates/pitshell && rt try --data mine.upit=../../$(SMALL_MINE)/mine.upit --data mine.prec=../../$(SMALL_MINE)/mine.prec \
-	  -- solve --model mine.upit --prec mine.prec > ../../build/unproved.txt 2> ../../build/try.log || (cat ../../build/try.log && false)
-	@head -n 8 build/unproved.txt
-	@cmp build/unproved.txt $(SMALL_MINE)/pit.txt && echo "the same as $(SMALL_MINE)/pit.txt, unproved; make proves and builds"
+	tools/first_run.py
 
 # Proves the program and all below it, side by side, with a line for each crate, and links it; where nothing changed since, that is all.
 build:

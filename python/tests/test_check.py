@@ -31,7 +31,8 @@ def test_the_command_line(mine, capsys):
     assert said.out == f"{mine}: no errors\n"
     assert said.err.startswith("reading ") and said.err.count("blocks lie on a grid") == 1
     assert main(["check", str(mine), "--quiet"]) == 0
-    assert capsys.readouterr().err.splitlines() == pitplan.check(mine)
+    warnings = [note for note in pitplan.check(mine) if note.startswith("WARNING: ")]
+    assert capsys.readouterr().err.splitlines() == warnings
 
 
 @pytest.mark.parametrize(
@@ -77,7 +78,7 @@ def test_a_schedule_without_pushbacks_is_noted(mine, capsys):
     """As `pitplan schedule` refuses it."""
     mine.write_text(mine.read_text() + SCHEDULE)
     assert pitplan.check(mine)[-1] == NOTE
-    assert main(["check", str(mine), "--quiet"]) == 0
+    assert main(["check", str(mine)]) == 0
     assert capsys.readouterr().err.splitlines()[-1] == NOTE
     assert main(["schedule", str(mine), "--quiet", "--no-figures"]) == 1
     assert "[pushbacks] is missing: set its count, tonnes or revenue_factors" in capsys.readouterr().err

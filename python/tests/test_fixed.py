@@ -286,7 +286,7 @@ def test_shells_with_fixed_blocks_are_the_best_of_all_closed_sets_that_keep_to_t
 
 def test_shells_keep_to_fixed_blocks_and_are_compared_with_the_pit_of_the_program(plan_folder, capsys):
     path = plan_folder(ores_and_fixed(), with_section(FIXED_SECTION))
-    assert main(["shells", str(path), "--quiet", "--no-figures"]) == 0
+    assert main(["shells", str(path), "--no-figures"]) == 0
     blocks = pd.read_csv(path.parent / "plan" / "tables/blocks.csv", dtype={"planner_id": str})
     assert (blocks.loc[blocks["must"] == 1, "revenue_factor"] == 0.5).all()
     assert (blocks.loc[blocks["never"] == 1, "revenue_factor"] == 0).all()

@@ -335,6 +335,14 @@ def test_by_block_the_audit_finds_another_share_of_it(by_block, tmp_path, change
     assert rule in {it.name for it in verify(folder) if it.differences}
 
 
+def test_by_block_what_earns_nothing_stays(tmp_path):
+    """At a tenth of the price neither ore nor what lies there pays for its processing."""
+    text = SMALL.replace("price = 8000", "price = 800")
+    row = pitplan.write_block_schedule(written_to(tmp_path, OPEN, text), writing=UNVERIFIED).iloc[0]
+    assert row[["npv", "tonnes", "feed_tonnes"]].tolist() == [0, 0, 0]
+    assert differences(tmp_path / "plan/block_schedule") == []
+
+
 def test_by_block_a_minimum_keeps_what_lies_there(tmp_path):
     """In the first two years 30 t must remain, so 30 t of it are milled in the first year, 10 t less than the mill takes."""
     words = OPEN + 2 * "[[periods]]\nstockpiles = { stockpile = { min = 30 } }\n" + "[[periods]]\n"

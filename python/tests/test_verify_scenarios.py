@@ -74,7 +74,7 @@ def test_what_is_right_is_told_rule_by_rule(copied, capsys):
 
 def test_a_run_may_leave_it_out_and_says_so(copied, capsys):
     (copied / "tables/probability.csv").unlink()
-    assert main(["gather", str(copied), "--quiet", "--no-verify", "--no-figures"]) == 0
+    assert main(["gather", str(copied), "--no-verify", "--no-figures"]) == 0
     assert f"the results were not verified: run pitplan verify {copied}\n" in capsys.readouterr().err
     assert json.loads((copied / "gathered.json").read_text())["verified"] == []
     assert wrong(copied) == set()

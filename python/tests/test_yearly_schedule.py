@@ -128,7 +128,7 @@ def test_without_pushbacks_nothing_is_scheduled(plan_folder):
 
 def test_the_command_line_tells_the_ways(plan_folder, capsys):
     path = plan_folder(pillars(), PUSHBACKS)
-    assert main(["schedule", str(path), "--quiet", "--no-figures"]) == 0
+    assert main(["schedule", str(path), "--no-figures"]) == 0
     said = capsys.readouterr()
     lines = [line.split() for line in said.out.splitlines()]
     assert lines[0][:2] == ["method", "NPV"] and [line[:2] for line in lines[2:4]] == [

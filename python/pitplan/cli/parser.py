@@ -113,7 +113,7 @@ SET = argument(
     metavar="KEY=VALUE",
     help="set a key of the project for this run, such as economics.mining_cost=2.6 or metals.copper.price=9000 (may be repeated)",
 )
-QUIET = flag("--quiet", "print no progress to standard error")
+QUIET = flag("--quiet", "print warnings and errors alone to standard error")
 WRITING = (QUIET, flag("--no-verify", "skip the independent recalculation of the results; the report says so"))
 NO_FIGURES = flag("--no-figures", "draw no figures, and remove those of an earlier run from the folder")
 JSON = flag("--json", "print the main table as JSON, unrounded, with the path of the report or table")

@@ -63,7 +63,7 @@ def draw_block_model(model: GuessedModel, path: Path) -> None:
     write_block_model(model, path)
 
 
-def print_answer(table: DataFrame, columns: Columns, folder: Path, as_json: bool, of_shells: bool = False) -> None:
+def print_answer(table: DataFrame, columns: Columns, folder: Path, options: Namespace, of_shells: bool = False) -> None:
     """Prints an answer's table and the path of its report, and its notes on standard error; of shells also the selected one."""
     from pitplan.report.columns import cells_of, selected_line
     from pitplan.results.folder import read_record
@@ -71,10 +71,10 @@ def print_answer(table: DataFrame, columns: Columns, folder: Path, as_json: bool
 
     record = read_record(folder)
     selected = record["shells"]["selected"] if of_shells else None
-    if not as_json:
+    if not options.json:
         print_table([heading for _, heading, _, _ in columns], cells_of(table, columns))
-    print_notes(record["notes"])
-    if as_json:
+    print_notes(record["notes"], options)
+    if options.json:
         print_json(table, folder / REPORT, **({"selected": selected} if of_shells else {}))
         return
     if selected is not None:
@@ -97,16 +97,16 @@ def plain_of(value: Any) -> Any:
     return None if isinstance(value, float) and not math.isfinite(value) else value
 
 
-def print_path(path: NotedPath) -> None:
+def print_path(path: NotedPath, options: Namespace) -> None:
     """Prints a path, and the notes on it on standard error."""
-    print_notes(list(path.notes))
+    print_notes(list(path.notes), options)
     print(path)
 
 
-def print_notes(notes: list[str]) -> None:
-    """Prints notes on standard error, and after an empty line all warnings."""
+def print_notes(notes: list[str], options: Namespace) -> None:
+    """Prints notes on standard error, and after an empty line all warnings; with --quiet warnings alone."""
     warnings = [note for note in notes if note.startswith(WARNING)]
-    plain = [note for note in notes if note not in warnings]
+    plain = [] if getattr(options, "quiet", False) else [note for note in notes if note not in warnings]
     for note in [*plain, *([""] if plain and warnings else []), *warnings]:
         tell(note)
 
@@ -147,7 +147,7 @@ def init(options: Namespace) -> None:
     project_file = options.out or options.table.parent / "project.toml"
     draw, roles = draw_block_model if options.figures else None, roles_of_words(options.role)
     written = wizard.write_project(options.table, project_file, draw, roles=roles, replaces=options.replace)
-    print_notes(written.lines)
+    print_notes(written.lines, options)
     print(json.dumps(written.as_json, indent=2, ensure_ascii=False) if options.json else project_file)
 
 
@@ -167,7 +167,7 @@ def check(options: Namespace) -> None:
     from pitplan.commands.plans import check as check_project
 
     project = project_of(options)
-    print_notes(check_project(project, progress_of(options)))
+    print_notes(check_project(project, progress_of(options)), options)
     print(f"{project.path}: no errors")
 
 
@@ -176,7 +176,7 @@ def prepare(options: Namespace) -> None:
 
     project = project_of(options)
     folder = options.out or project.folder
-    print_notes(write_plan(project, folder, progress_of(options))["notes"])
+    print_notes(write_plan(project, folder, progress_of(options))["notes"], options)
     print(folder)
 
 
@@ -189,7 +189,7 @@ def answered(
     project = project_of(options)
     folder = options.out or project.folder / name
     table = write(project, folder, writing_of(options))
-    print_answer(table, columns.of(table, project), folder, options.json, of_shells)
+    print_answer(table, columns.of(table, project), folder, options, of_shells)
     return folder
 
 
@@ -210,7 +210,7 @@ def pit(options: Namespace) -> None:
     project = project_of(options)
     folder = options.out or project.folder / "pit"
     table = write_pit(project, options.revenue_factor, folder, writing_of(options))
-    print_notes(read_record(folder)["notes"])
+    print_notes(read_record(folder)["notes"], options)
     if options.json:
         print_json(table, folder / names.PITS)
         return
@@ -258,7 +258,7 @@ def sensitivity(options: Namespace) -> None:
     folder = options.out or project.folder / "sensitivity"
     where = Where(options.on, options.workers) if options.on else None
     cases = write_sensitivity(project, folder, where, writing_of(options))
-    print_notes(read_json(folder / RECORD)["notes"])
+    print_notes(read_json(folder / RECORD)["notes"], options)
     if options.json:
         print_json(cases, folder / TABLE)
         return
@@ -288,7 +288,7 @@ def scenarios(options: Namespace) -> None:
     from ..commands.scenarios import write_scenarios
 
     request = Request(options.on, options.workers, options.revenue_factor, options.partial, options.by)
-    print_scenarios(write_scenarios(project_of(options), options.out, request, writing_of(options)))
+    print_scenarios(write_scenarios(project_of(options), options.out, request, writing_of(options)), options)
 
 
 def gather(options: Namespace) -> None:
@@ -297,13 +297,12 @@ def gather(options: Namespace) -> None:
     from ..commands.scenarios import gather as gather_answers
 
     request = Request(revenue_factor=options.revenue_factor, partial=options.partial)
-    print_scenarios(gather_answers(options.folder, request, writing_of(options)))
+    print_scenarios(gather_answers(options.folder, request, writing_of(options)), options)
 
 
-def print_scenarios(result: ScenarioResult) -> None:
+def print_scenarios(result: ScenarioResult, options: Namespace) -> None:
     """Prints the notes, and the folder or the script to start."""
-
-    print_notes(list(result.notes))
+    print_notes(list(result.notes), options)
     print(result.start or result.folder)
 
 
@@ -333,13 +332,13 @@ def export(options: Namespace) -> None:
     from pitplan.results.pit_states import Shape
 
     shape = Shape(options.of, options.surface, options.smooth, options.revenue_factor)
-    print_path(write_export(options.folder, options.to, shape, progress_of(options), out=options.out))
+    print_path(write_export(options.folder, options.to, shape, progress_of(options), out=options.out), options)
 
 
 def audit(options: Namespace) -> None:
     from pitplan.commands.outputs import audit as write_audit
 
-    print_path(write_audit(options.folder, options.revenue_factor, progress_of(options), options.out))
+    print_path(write_audit(options.folder, options.revenue_factor, progress_of(options), options.out), options)
 
 
 def verify(options: Namespace) -> None:

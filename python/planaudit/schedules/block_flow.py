@@ -36,6 +36,8 @@ from planaudit.schedules.pushback_schedule import by_year
 CASE = "block"
 # A share that the tolerance of a solver alone may leave.
 SLIGHT = 1e-9
+# The types of columns of flows, which have none if nothing flows.
+KINDS = {"year": int, "total_tonnes": float, "bench": float}
 # The last decimals of all shares of a block.
 SHARE = 1e-6
 # The columns with texts of the tables of feed and limits.
@@ -83,8 +85,8 @@ def flow_of(answer: Answer) -> MaterialFlow:
     legs = {name: again[name].to_numpy() for name in ("year", "source", "destination")}
     parts.append(rows_of(blocks, place[again["row"].astype(int)], again["share"].to_numpy(), legs))
     parts += [rows_of_opening(OpeningLots(blocks))] if len(answer.opened) else []
-    flow = MaterialFlow(answer, blocks, pd.concat(parts, ignore_index=True).astype({"year": int}), rounded=0.0)
-    return replace(flow, rows=flow.rows.assign(**{name: due for name, (due, _) in flow.expected.items()}))
+    flow = MaterialFlow(answer, blocks, pd.concat(parts, ignore_index=True).astype(KINDS), rounded=0.0)
+    return replace(flow, rows=flow.rows.assign(**{name: due.astype(float) for name, (due, _) in flow.expected.items()}))
 
 
 def rows_of(blocks: SingleBlocks, some: np.ndarray, share: np.ndarray, legs: dict[str, Any]) -> pd.DataFrame:
