@@ -335,6 +335,14 @@ def test_by_block_the_audit_finds_another_share_of_it(by_block, tmp_path, change
     assert rule in {it.name for it in verify(folder) if it.differences}
 
 
+def test_by_block_the_sheet_of_reserves_names_it(tmp_path):
+    pitplan.write_block_schedule(written_to(tmp_path, OPEN), writing=WITH_WORKBOOK)
+    book = office.recalculated(tmp_path / "plan/block_schedule/tables/schedule.xlsx", tmp_path)
+    cells = [list(row) for row in book["reserves"].iter_rows(values_only=True)]
+    assert "Mill feed includes 60 t of opening stock, which lay on stockpiles at the start" in cells[1][0]
+    assert cells[4][:2] == ["all", "ore"] and cells[4][3] == pytest.approx(160)
+
+
 def test_by_block_what_earns_nothing_stays(tmp_path):
     """At a tenth of the price neither ore nor what lies there pays for its processing."""
     text = SMALL.replace("price = 8000", "price = 800")

@@ -473,6 +473,15 @@ class ReserveSheet:
         fit_to_page(sheet)
 
     @property
+    def opening(self) -> str:
+        """Where the sheet counts what lay on stockpiles at the start; empty without it."""
+        tonnes = float(self.inventory.loc[self.inventory["bench"].isna(), "feed_tonnes"].sum())
+        if 0 in self.pushbacks:
+            return f" {OPENING.capitalize()} lay on stockpiles at the start: pushback 0 of the sheet inventory."
+        where = "which lay on stockpiles at the start: rows of the sheet inventory without a bench."
+        return f" Mill feed includes {tonnes:,.0f} t of {OPENING}, {where}" if tonnes else ""
+
+    @property
     def heads(self) -> list[str]:
         """The headers of amounts, each with its unit."""
         found = ["in situ (t)", "mill feed (t)"]
@@ -492,10 +501,7 @@ class ReserveSheet:
 
     def rows(self) -> Iterator[Cells]:
         yield [f"{self.project.title}: mill feed of the schedule, {methods.NAMES.get(self.method, 'by block')}"]
-        lay = f" {OPENING.capitalize()} lay on stockpiles at the start: pushback 0 of the sheet inventory."
-        has_any = 0 in self.pushbacks
-        said = "Sums over the sheet inventory. Ore excludes mill feed of inferred and unclassified material."
-        yield [said + lay if has_any else said]
+        yield [f"Sums over the sheet inventory. Ore excludes mill feed of inferred and unclassified material.{self.opening}"]
         row = 3
         for category, title in ((ORE, "Ore"), (NOT_RESERVE, "Not reserves: inferred and unclassified feed")):
             if self.classes(category):
