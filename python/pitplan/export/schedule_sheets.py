@@ -501,7 +501,9 @@ class ReserveSheet:
 
     def rows(self) -> Iterator[Cells]:
         yield [f"{self.project.title}: mill feed of the schedule, {methods.NAMES.get(self.method, 'by block')}"]
-        yield [f"Sums over the sheet inventory. Ore excludes mill feed of inferred and unclassified material.{self.opening}"]
+        yield [
+            f"Sums over the sheet inventory. Ore excludes mill feed of inferred and unclassified material.{self.opening}"
+        ]
         row = 3
         for category, title in ((ORE, "Ore"), (NOT_RESERVE, "Not reserves: inferred and unclassified feed")):
             if self.classes(category):

@@ -17,9 +17,8 @@ from pitplan.core.tolerances import ROOT_ERROR
 from pitplan.economics import period_costs
 from pitplan.pits.best_worst_case import Rate, year_discounts
 from pitplan.pits.shells import ratio
-from pitplan.plan import Plan
-from pitplan.pushbacks.bench_table import benches_of_cells
 from pitplan.scheduling.flow.flows import Flows
+from pitplan.scheduling.flow.tables import ScheduledCells
 from pitplan.scheduling.methods import BLOCK
 
 from .lines import Amounts, CellAmounts, Lines, Operation, Statement, is_rounded, statement, units_of_price
@@ -256,31 +255,12 @@ def block_finances(blocks: BlockSchedule) -> list[Finance]:
 
 
 @dataclass(frozen=True)
-class ScheduledMaterial:
-    """The blocks of a schedule, by bench and parcel.
-
-    Attributes
-    ----------
-    schedule : PushbackSchedule
-    """
-
-    schedule: PushbackSchedule
-
-    @property
-    def plan(self) -> Plan:
-        return self.schedule.pushbacks.plan
+class ScheduledMaterial(ScheduledCells):
+    """The blocks of a schedule, by bench and parcel."""
 
     @cached_property
     def amounts(self) -> CellAmounts:
         return CellAmounts(self.plan, self.schedule.lots)
-
-    @cached_property
-    def cells(self) -> NDArray[np.int64]:
-        return np.flatnonzero((self.schedule.pushbacks.pushback > 0) & (self.plan.values.tonnes > 0))
-
-    @cached_property
-    def bench(self) -> NDArray[np.int64]:
-        return np.asarray(benches_of_cells(self.schedule.pushbacks, self.schedule.benches, self.cells))
 
     def of_benches(self, values: NDArray[np.float64]) -> NDArray[np.float64]:
         return np.asarray(

@@ -92,8 +92,8 @@ def of_shares(flows: Flows, shares: NDArray[np.float64], sets: NDArray[np.int64]
 
 
 @dataclass(frozen=True)
-class BlockLots:
-    """The blocks of pushbacks by bench, value bin, and the codes of rock type and resource class.
+class ScheduledCells:
+    """The cells of pushbacks with tonnes.
 
     Attributes
     ----------
@@ -111,6 +111,16 @@ class BlockLots:
         return np.flatnonzero((self.schedule.pushbacks.pushback > 0) & (self.plan.values.tonnes > 0))
 
     @cached_property
+    def bench(self) -> NDArray[np.int64]:
+        """The bench of each."""
+        return np.asarray(benches_of_cells(self.schedule.pushbacks, self.schedule.material.benches, self.cells))
+
+
+@dataclass(frozen=True)
+class BlockLots(ScheduledCells):
+    """The blocks of pushbacks by bench, value bin, and the codes of rock type and resource class."""
+
+    @cached_property
     def keys(self) -> pd.DataFrame:
         """The key of each block: bench, parcel (-1: no ore), bin (of no ore, with its sign changed, the number of its set of dumps), and codes."""
         plan, cells, material = self.plan, self.cells, self.schedule.material
@@ -118,7 +128,7 @@ class BlockLots:
         parcel[material.cells] = material.parcel
         of_waste = np.zeros(len(cells), dtype=np.int64) if material.sets is None else -material.sets.of_cell[cells]
         found = {
-            "bench": benches_of_cells(self.schedule.pushbacks, material.benches, cells),
+            "bench": self.bench,
             "parcel": parcel[cells],
             "bin": np.where(parcel[cells] < 0, of_waste, np.append(material.parcels.bin, 0)[parcel[cells]]),
         }
