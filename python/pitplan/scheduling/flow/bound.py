@@ -14,14 +14,13 @@ from functools import cached_property
 
 import numpy as np
 from numpy.typing import NDArray
-from scipy.optimize import linprog
 
-from pitplan.scheduling.highs_process import demand_solved
 from pitplan.scheduling.limits import ADVANCE, MAX, MIN, RUNNING, STOCK, Prices
 
+from .closures import best_shares
 from .material import FEED, Ore
 from .model import FlowModel, by_end
-from .programme import FlowProgramme
+from .programme import FlowProgramme, incidence
 
 
 @dataclass(frozen=True)
@@ -132,8 +131,7 @@ class Lagrangian:
             f"{ADVANCE}{number}": (benches.pushback == number).astype(float) for number in np.unique(benches.pushback)
         }
         found = self.priced(amounts, model.mining_cash) - model.waste.rock @ self.dumping
-        np.add.at(found, model.ore.bench, self.worths)
-        return found
+        return np.asarray(found + incidence(model.ore.bench, len(benches)) @ self.worths)
 
     @property
     def of_limits(self) -> float:
@@ -159,11 +157,9 @@ class Lagrangian:
     def by_end(self) -> NDArray[np.float64]:
         """The shares of benches by the end of each year that are worth most if they are mined in order, each by each year no further, and no faster,
         than the limits of mining alone allow, shape (benches, years)."""
-        gain, matrix = by_end(self.earned).ravel(), self.programme.in_order
-        unit = float(np.abs(gain).max(initial=0.0)) or 1.0
-        bounds = np.column_stack([np.zeros(len(gain)), self.programme.reachable.ravel()])
-        found = linprog(-gain / unit, A_ub=matrix, b_ub=np.zeros(matrix.shape[0]), bounds=bounds, method="highs-ds")
-        return np.asarray(demand_solved(found, "upper bound").x.reshape(-1, self.model.years))
+        reachable = self.programme.reachable.ravel()
+        found = best_shares(by_end(self.earned).ravel(), self.programme.precedences, reachable)
+        return found.reshape(-1, self.model.years)
 
     @cached_property
     def earned_by_lots(self) -> NDArray[np.float64]:
@@ -176,12 +172,16 @@ class Lagrangian:
             earned = earned + lots.on(number)[:, None] * rent
         return earned
 
+    @cached_property
+    def of_flows(self) -> float:
+        """What benches and lots earn at the prices."""
+        of_benches = float((by_end(self.earned) * self.by_end).sum())
+        return of_benches + float(np.maximum(self.earned_by_lots.max(axis=(0, 2), initial=0.0), 0.0).sum())
+
     @property
     def value(self) -> float:
         """The bound. To mine nothing earns nothing, unless a minimum forbids it."""
-        of_benches = float((by_end(self.earned) * self.by_end).sum())
-        of_lots = float(np.maximum(self.earned_by_lots.max(axis=(0, 2), initial=0.0), 0.0).sum())
-        found = self.of_limits + float(self.earned_by_running.max(initial=-np.inf)) + of_benches + of_lots
+        found = self.of_limits + float(self.earned_by_running.max(initial=-np.inf)) + self.of_flows
         return found if self.model.asks_least else max(found, 0.0)
 
 

@@ -8,7 +8,6 @@ from typing import Optional
 
 import numpy as np
 from numpy.typing import NDArray
-from scipy.optimize import linprog
 from scipy.sparse import coo_matrix, csr_matrix, vstack
 
 from pitplan.config.material import Dump, Stockpile
@@ -16,9 +15,9 @@ from pitplan.core.tolerances import SUM_ERROR
 from pitplan.pits.best_worst_case import year_discounts
 from pitplan.pushbacks.bench_table import ROCK, PushbackBenches
 from pitplan.scheduling.bench_sequencing import Problem
-from pitplan.scheduling.highs_process import demand_solved
 from pitplan.scheduling.limits import ADVANCE, DUMP, DUMPED, MAX, MIN, STOCK, Limit, Limits
 
+from .closures import best_shares, precedences_of
 from .material import FEED, SET, Ore, Waste
 
 # Over this many years a limit of mining keeps a bench behind another one.
@@ -143,12 +142,8 @@ def left_over(takes: NDArray[np.float64], before: NDArray[np.bool_], most: NDArr
 
 
 def paying(earned: NDArray[np.float64], benches: PushbackBenches) -> NDArray[np.bool_]:
-    """Returns a mask of the benches whose closed set, with all that they wait for, earns most. As the rows are those of a closure, the linear
-    programme has whole numbers."""
-    unit = float(np.abs(earned).max(initial=0.0)) or 1.0
-    matrix, most = order_rows(benches, 1)
-    found = linprog(-earned / unit, A_ub=matrix, b_ub=most, bounds=(0, 1), method="highs-ds")
-    return np.asarray(demand_solved(found, "closure of benches that pay").x > 0.5)
+    """Returns a mask of the benches whose closed set, with all that they wait for, earns most."""
+    return best_shares(earned, precedences_of(order_rows(benches, 1)[0]), np.ones(len(earned))) > 0.5
 
 
 @dataclass(frozen=True)

@@ -22,6 +22,7 @@ from pitplan.scheduling.highs import Programme
 from pitplan.scheduling.highs_process import solve
 from pitplan.scheduling.limits import ADVANCE, DUMP, DUMPED, MAX, MIN, OF_PLACES, RUNNING, STOCK, Prices
 
+from .closures import precedences_of
 from .model import FlowModel, by_end, furthest, order_rows
 
 
@@ -353,6 +354,11 @@ class FlowProgramme:
     def in_order(self) -> csr_matrix:
         """The rows of mining alone, each at most 0: of the order of benches, and of their pace unless these are left out."""
         return self.model.ordered if self.paced else order_rows(self.model.benches, self.years)[0]
+
+    @cached_property
+    def precedences(self) -> csr_matrix:
+        """The same rows as a matrix: True where the share of one bench and year, by row, is at most that of another, by column."""
+        return precedences_of(self.in_order)
 
     def order_rows(self) -> tuple[csr_matrix, NDArray[np.float64]]:
         parts, sides = [self.in_order], [np.zeros(self.in_order.shape[0])]
