@@ -19,6 +19,7 @@ from pitplan.pushbacks.bench_table import ORE, PushbackBenches
 from pitplan.scheduling.bench_sequencing import BenchSequence, Problem, by_lead, leads, mine_in_order
 from pitplan.scheduling.highs import Programme
 from pitplan.scheduling.highs_process import at_a_time, solve
+from pitplan.scheduling.limits import Prices
 
 from .flows import Flows, best, richest_first
 from .material import FAR
@@ -210,8 +211,9 @@ def around(
 MOST_PACING = 3
 # The flows are optimised for this number of the best orders; of large programmes for fewer, and with minimums, which any order may miss, for more.
 TRIED, TRIED_OF_LARGE, TRIED_WITH_MINIMUMS = 4, 2, 40
-# Orders are compared with about MOST_KINDS kinds of ore at most, and COMPARED times as many of the best as are tried again with all bins.
-MOST_KINDS, COMPARED = 48, 2
+# Orders are compared with about MOST_KINDS kinds of ore at most, and COMPARED times as many of the best as are tried again with all bins, or of a large
+# programme with FINE_KINDS.
+MOST_KINDS, FINE_KINDS, COMPARED = 48, 96, 2
 # How often an order is mined more slowly because its waste finds no room.
 SLOWER = 15
 # The shares of benches by year at a pace.
@@ -277,6 +279,11 @@ def padded(shares: NDArray[np.float64], years: int) -> NDArray[np.float64]:
     return np.pad(shares, ((0, 0), (0, max(0, years - shares.shape[1]))))
 
 
+def pacing_of(model: FlowModel, prices: Optional[Prices] = None) -> Pacing:
+    """Returns the pacing of a model with all bins, or of a large programme with as many kinds of ore as their moves take no long time to weigh."""
+    return Pacing(model, prices or {}, FINE_KINDS if FlowProgramme(model).is_large else None)
+
+
 def by_rule(model: FlowModel, pace: Pace, years: Optional[int]) -> tuple[Flows, int]:
     """Returns the schedule by rule with the highest NPV, and its lead.
 
@@ -286,7 +293,7 @@ def by_rule(model: FlowModel, pace: Pace, years: Optional[int]) -> tuple[Flows, 
     found = list(pace.schedules(years))
     longest = max(shares.shape[1] for *_, shares in found)
     model = replace(model, years=longest, stockpiles=(), lots=None)
-    pacing = Pacing(model)
+    pacing = pacing_of(model)
     lead, problem, shares = max(found, key=lambda it: pacing.value(padded(it[-1], longest)))
 
     def mine_at(pace: NDArray[np.float64]) -> NDArray[np.float64]:
@@ -373,7 +380,7 @@ def deepened(flows: Flows) -> Flows:
 def orders_of(model: FlowModel, optimum: FlowOptimum, compared: int) -> list[Ordered]:
     """Returns orders of benches, the best first: by leads, and as the optimum of the linear programme is expected to mine them. This many of the best
     are compared again with all bins."""
-    exact, pacing = Pacing(model, optimum.prices), Pacing(model, optimum.prices, MOST_KINDS)
+    exact, pacing = pacing_of(model, optimum.prices), Pacing(model, optimum.prices, MOST_KINDS)
     found = by_one_lead(pacing)
     found.append(improved_order(pacing, found[0]))
     seen = {tuple(it.order) for it in found}
@@ -399,7 +406,7 @@ def cases_of_order(
     def mine_at(pace: NDArray[np.float64]) -> NDArray[np.float64]:
         return padded(mine_in_order(mining, BenchSequence(order, pace=pace), model.years), model.years)
 
-    paces = [Pacing(model, optimum.prices).best(order).tonnes]
+    paces = [pacing_of(model, optimum.prices).best(order).tonnes]
     paces += [model.rock @ optimum.cumulative] if model.asks_ore or model.stockpiles or model.waste.is_limited else []
     for pace in paces:
         yield mine_at(pace), mine_at
