@@ -85,7 +85,7 @@ MORE_YEARS = 0.2
 # Parcels are made finer while the bound is above their optimum by more than this share, so often at most.
 FINE, REFINEMENTS = 0.002, 3
 # Value bins of each process, and parts by limited grades, of the first of these programmes.
-FEW_BINS, FEW_PARTS = 4, 2
+FEW_BINS, FEW_PARTS = 8, 4
 # The search for the prices of large programmes ends when less than this share is promised: of the first programme, and of finer ones.
 ROUGH, CLOSE = 3e-3, 3e-4
 # The integer programme of so few benches times years, and unknowns in all, is solved unasked for some seconds, if the gap exceeds this share.

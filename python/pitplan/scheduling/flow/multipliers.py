@@ -8,7 +8,7 @@ planes are weights with which the optima add up to flows that nearly keep the li
 
 from __future__ import annotations
 
-from dataclasses import dataclass
+from dataclasses import dataclass, replace
 from functools import cached_property
 
 import numpy as np
@@ -26,8 +26,11 @@ from .programme import FlowOptimum, FlowProgramme
 
 # The first half width of the box, as a share of the value, and its changes: after a plane that is lower by the share EXPECTED of what the box promised,
 # after MISSES planes in turn that are not lower, and when no prices in the box promise more.
-WIDTH, WIDER, NARROWER, AGAIN = 2e-3, 2.0, 0.5, 4.0
-EXPECTED, MISSES = 0.3, 2
+WIDTH, WIDER, NARROWER, AGAIN = 2e-3, 2.0, 0.7, 4.0
+EXPECTED, MISSES = 0.2, 2
+# A half width is wider by BY_PRICE for a price of the whole value, and after a lower plane by LONGER if the price goes on, or by SHORTER if it turns. In
+# multiples of the value it is at most FARTHEST, since larger prices lose the digits of the bound.
+BY_PRICE, LONGER, SHORTER, STRETCHES, FARTHEST = 10.0, 1.5, 0.6, (0.05, 50.0), 100.0
 # The greatest number of planes, and of times that the box is made wider at the end.
 MOST_PLANES, MOST_AGAIN = 150, 12
 
@@ -111,29 +114,42 @@ class RelaxedFlows:
         return np.concatenate([*(part.ravel() for part in parts), running])
 
 
+def row_of(values: NDArray[np.float64]) -> csr_matrix:
+    """Returns a row of few values that are not 0, which scipy finds more slowly in an array of two dimensions."""
+    places = np.flatnonzero(values)
+    return csr_matrix((values[places], places, [0, len(places)]), shape=(1, len(values)))
+
+
 @dataclass(frozen=True)
 class Plane:
-    """The relaxation at prices, and the plane below its value that touches it there.
+    """The relaxation at prices, and the plane below what its benches and lots earn that touches it there.
 
     Attributes
     ----------
     prices : array, shape (limits * years,)
         In the currency per whole limit.
     value : float
+    earned : float
+        What benches and lots earn at the prices: the value without the limits and the running of years.
+    used : array, shape (limits * years,)
+        What they use of each limit, as a share of it; below 0 of a minimum.
     slope : array, shape (limits * years,)
+        What they, and the years in which the mine runs, leave of each limit: how fast the value changes with the prices.
     unknowns : csr matrix, shape (1, unknowns)
         The optimum of the relaxation as unknowns of the linear programme.
     """
 
     prices: NDArray[np.float64]
     value: float
+    earned: float
+    used: NDArray[np.float64]
     slope: NDArray[np.float64]
     unknowns: csr_matrix
 
 
 @dataclass(frozen=True)
 class Lowest:
-    """The lowest point of the highest plane in a box.
+    """The prices in a box at which the relaxation is lowest if benches and lots earn what the highest plane says. What limits and years earn is exact.
 
     Attributes
     ----------
@@ -142,29 +158,45 @@ class Lowest:
         No prices in the box give a lower value of the relaxation.
     weights : array, shape (planes,)
         The dual values of the planes, which add up to 1.
-    is_inside : bool
-        Whether no side of the box holds the point.
+    side : array, shape (limits * years,)
+        1 where a price is at the upper side of the box, -1 at the lower one, otherwise 0.
     """
 
     prices: NDArray[np.float64]
     value: float
     weights: NDArray[np.float64]
-    is_inside: bool
+    side: NDArray[np.float64]
 
-    @staticmethod
-    def of(planes: list[Plane], lower: NDArray[np.float64], upper: NDArray[np.float64], unit: float) -> Lowest:
-        """Returns the lowest point between the lower and the upper prices. Values are in the currency; the programme counts in `unit`."""
-        slopes = np.array([it.slope for it in planes])
-        most = np.array([it.slope @ it.prices - it.value for it in planes]) / unit
-        sides = np.column_stack([np.append(lower, -np.inf), np.append(upper, np.inf)])
-        gain = np.append(np.zeros(len(lower)), 1.0)
-        rows = np.column_stack([slopes, np.full(len(planes), -1.0)])
-        bounds = sides / unit
-        found = demand_solved(linprog(gain, A_ub=rows, b_ub=most, bounds=bounds, method="highs-ds"), "prices of limits")
-        prices, weights = np.clip(found.x[:-1] * unit, lower, upper), np.maximum(-found.ineqlin.marginals, 0.0)
-        near = SUM_ERROR * unit
-        is_at_side = (prices >= upper - near) & (upper > 0) | (prices <= lower + near) & (lower > 0)
-        return Lowest(prices, float(found.fun) * unit, weights / weights.sum(), not is_at_side.any())
+
+@dataclass(frozen=True)
+class Box:
+    """The prices within a half width of the best ones, for each price its own.
+
+    Attributes
+    ----------
+    width : float
+        The half width of a price of 0 that is not stretched.
+    stretch : array, shape (limits * years,)
+    side : array, shape (limits * years,)
+        On which side each price was when a plane was lower; see `Lowest.side`.
+    """
+
+    width: float
+    stretch: NDArray[np.float64]
+    side: NDArray[np.float64]
+
+    def around(self, prices: NDArray[np.float64], unit: float) -> NDArray[np.float64]:
+        """Returns the half widths around prices of a relaxation whose value is about `unit`."""
+        half = self.width * self.stretch * (1 + BY_PRICE * np.minimum(prices / unit, 1.0))
+        return np.minimum(half, FARTHEST * unit)
+
+    def times(self, factor: float) -> Box:
+        return replace(self, width=factor * self.width)
+
+    def following(self, side: NDArray[np.float64]) -> Box:
+        """Returns the box longer in the directions in which prices go on, and shorter where they turn."""
+        turns = np.where(side * self.side > 0, LONGER, np.where(side * self.side < 0, SHORTER, 1.0))
+        return replace(self, stretch=np.clip(self.stretch * turns, *STRETCHES), side=side)
 
 
 @dataclass(frozen=True)
@@ -219,14 +251,57 @@ class Multipliers:
         found = [prices.get(key, nothing) * scale for key, scale in zip(self.keys, self.scales)]
         return np.array(found).reshape(len(found) * self.years)
 
+    def scaled(self, amounts: list[NDArray[np.float64]]) -> NDArray[np.float64]:
+        """Returns amounts of all limits by year as shares of these, 0 where there is no limit."""
+        shares = np.array(amounts).reshape(len(amounts), self.years) / self.scales[:, None]
+        return np.where(self.holds, shares.ravel(), 0.0)
+
+    @cached_property
+    def of_limits(self) -> NDArray[np.float64]:
+        """The limits themselves, and 0 of those that show whether the mine runs, shape (limits * years,)."""
+        shown = [np.zeros(self.years) for _ in self.programme.bounding if self.has_costs]
+        return self.scaled([it.sign * it.finite for it in self.programme.limits] + shown)
+
+    @cached_property
+    def running(self) -> NDArray[np.float64]:
+        """What of each limit years show that run up to the end of each year, shape (years, limits * years)."""
+        others = [np.zeros(self.years) for _ in self.programme.limits]
+        shown = [it.amount for it in self.programme.bounding if self.has_costs]
+        by_year = self.scaled(others + shown).reshape(-1, self.years)
+        until = np.tril(np.ones((self.years, self.years)))
+        return (until[:, None] * by_year).reshape(self.years, -1)
+
     def plane(self, prices: NDArray[np.float64]) -> Plane:
         relaxation = Lagrangian(self.programme, self.priced(prices))
         unknowns, size = RelaxedFlows(relaxation).unknowns, sum(self.programme.sizes)
-        flows, running = unknowns[:size], unknowns[size:]
-        left = [it.sign * (it.finite - it.used @ flows) for it in self.programme.limits]
-        left += [it.amount * running - it.used @ flows for it in self.programme.bounding if self.has_costs]
-        slope = np.array(left).reshape(len(left), self.years) / self.scales[:, None]
-        return Plane(prices, relaxation.value, np.where(self.holds, slope.ravel(), 0.0), csr_matrix(unknowns))
+        flows, years = unknowns[:size], relaxation.running
+        amounts = [it.sign * (it.used @ flows) for it in self.programme.limits]
+        used = self.scaled(amounts + [it.used @ flows for it in self.programme.bounding if self.has_costs])
+        slope = self.of_limits + self.running[int(years.sum()) - 1] - used
+        return Plane(prices, relaxation.value, relaxation.of_flows, used, slope, row_of(unknowns))
+
+    def lowest(self, planes: list[Plane], lower: NDArray[np.float64], upper: NDArray[np.float64]) -> Lowest:
+        """Returns the lowest point between the lower and the upper prices, by a linear programme of the prices, what benches and lots earn, and what the
+        years earn in which the mine runs."""
+        unit, count = abs(planes[0].value) or 1.0, len(lower)
+        of_planes = np.pad(-np.array([it.used for it in planes]), ((0, 0), (0, 2)))
+        of_planes[:, count] = -1.0
+        of_years = np.column_stack([self.running, np.zeros(self.years), -np.ones(self.years)])
+        earned = np.array([it.earned + it.used @ it.prices for it in planes])
+        sides = np.column_stack([np.append(lower, [-np.inf] * 2), np.append(upper, [np.inf] * 2)]) / unit
+        answer = linprog(
+            np.append(self.of_limits, [1.0, 1.0]),
+            A_ub=np.vstack([of_planes, of_years]),
+            b_ub=np.concatenate([-earned, self.programme.costs.cumsum()]) / unit,
+            bounds=sides,
+            method="highs-ds",
+        )
+        found = demand_solved(answer, "prices of limits")
+        prices, near = np.clip(found.x[:count] * unit, lower, upper), SUM_ERROR * unit
+        weights = np.maximum(-found.ineqlin.marginals[: len(planes)], 0.0)
+        is_upper, is_lower = (prices >= upper - near) & (upper > 0), (prices <= lower + near) & (lower > 0)
+        side = np.where(is_upper, 1.0, np.where(is_lower, -1.0, 0.0))
+        return Lowest(prices, float(found.fun) * unit, weights / weights.sum(), side)
 
     def found(self, start: Prices, share: float) -> FlowOptimum:
         """Returns nearly the optimum of the linear programme. Its value is a bound on that of the optimum, by about `share` above it.
@@ -239,28 +314,30 @@ class Multipliers:
             The search ends when the planes promise less than this share of the value within the box.
         """
         planes = [self.plane(self.start(start))]
-        best, unit = planes[0], abs(planes[0].value) or 1.0
-        width, misses, again = WIDTH * unit, 0, 0
+        best, unit, misses, again = planes[0], abs(planes[0].value) or 1.0, 0, 0
+        box = Box(WIDTH * unit, np.ones(len(best.prices)), np.zeros(len(best.prices)))
         while True:
-            lower, upper = np.maximum(best.prices - width, 0.0), np.where(self.holds, best.prices + width, 0.0)
-            lowest = Lowest.of(planes, lower, upper, unit)
+            half = box.around(best.prices, unit)
+            lower, upper = np.maximum(best.prices - half, 0.0), np.where(self.holds, best.prices + half, 0.0)
+            lowest = self.lowest(planes, lower, upper)
             promised = best.value - lowest.value
             if promised <= share * abs(best.value):
-                if lowest.is_inside or again == MOST_AGAIN:
+                if not lowest.side.any() or again == MOST_AGAIN:
                     break
-                width, again = AGAIN * width, again + 1
+                box, again = box.times(AGAIN), again + 1
                 continue
             if len(planes) == MOST_PLANES:
                 break
-            plane = self.plane(lowest.prices)
+            # Halfway, since the planes promise too much far from the prices that they know.
+            plane = self.plane((best.prices + lowest.prices) / 2)
             planes.append(plane)
             gained = best.value - plane.value
             misses = 0 if gained > 0 else misses + 1
             if gained > 0:
-                best = plane
+                best, box = plane, box.following(lowest.side)
             if gained > EXPECTED * promised:
-                width *= WIDER
+                box = box.times(WIDER)
             elif misses == MISSES:
-                width, misses = NARROWER * width, 0
+                box, misses = box.times(NARROWER), 0
         mean = sum(weight * it.unknowns for weight, it in zip(lowest.weights, planes) if weight > 0)
         return self.programme.optimum(mean.toarray()[0], best.value, self.priced(best.prices))
