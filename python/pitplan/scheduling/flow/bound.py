@@ -87,6 +87,32 @@ class Lagrangian:
             best = np.maximum(best, other)
         return best, place
 
+    def near_best(self, share: float) -> NDArray[np.bool_]:
+        """Returns the flows that earn nearly as much at the prices as the best flow of their parcel in the year, and all other unknowns of the programme,
+        shape (unknowns,). A tonne may earn less by this share of what a tonne of ore earns on average in its best process without prices.
+        """
+        model, ore = self.model, self.model.ore
+        per_tonne = float(np.maximum(ore.gain.max(axis=0), 0.0).sum()) / max(float(ore.feed.sum()), 1.0)
+        slack = share * per_tonne * ore.feed[:, None] * model.discounts
+        saved, least = model.waste.ore.T @ self.dumping, self.choices[0] - slack
+        direct = taken(ore, self.priced(ore.amounts, model.gains * model.discounts)) + saved >= least
+        shape = (len(model.stockpiles), len(ore), model.years)
+        stocked = np.array([it.value + saved >= least for it in self.waiting], dtype=bool).reshape(shape)
+        reclaimed = [
+            taken(it, self.priced(it.amounts, gains * model.discounts))
+            for it, gains in zip(model.reclaims, model.reclaim_gains)
+        ]
+        again = np.array(reclaimed).reshape(len(model.stockpiles), ore.processes, *shape[1:])
+        # What a tonne may earn in any later year.
+        later = np.maximum.accumulate(again.max(axis=1, initial=-np.inf)[..., ::-1], axis=2)[..., ::-1]
+        placed = np.maximum.accumulate(stocked, axis=2)
+        is_late = (again >= later[:, None] - slack) & (again >= -slack)
+        uses = (model.direct, model.stocked, model.stocked, model.reclaimed)
+        parts = [mask[it.index] for it, mask in zip(uses, (direct, stocked, placed, is_late))]
+        first, *_, opened, wasted = self.programme.sizes
+        ones = np.ones(first, dtype=bool), np.ones(opened + wasted, dtype=bool)
+        return np.concatenate([ones[0], *(part.ravel() for part in parts), ones[1]])
+
     @cached_property
     def dumping(self) -> NDArray[np.float64]:
         """What a tonne of waste of each set of dumps costs at least in each year, with the prices of their limits, shape (sets, years)."""

@@ -14,7 +14,7 @@ from pitplan.pushbacks.bench_table import CASH
 from pitplan.scheduling.limits import Prices
 
 from .model import FlowModel
-from .programme import FlowProgramme
+from .programme import FlowOptimum, FlowProgramme
 
 PARTS = ("mined", "direct", "stocked", "reclaimed", "opened", "dumped")
 
@@ -157,6 +157,17 @@ class Flows:
         return float(self.earned.sum() + opened - self.model.problem.costs(self.moved).sum())
 
     @property
+    def best_end(self) -> int:
+        """The number of years after which the flows are worth most if nothing moves later, the last of several."""
+        cash = self.model.benches.names.index(CASH)
+        by_year = self.of_benches[:, :, cash].sum(axis=0) + self.of_opening[:, cash]
+        moves = self.moved.any(axis=0)
+        earned = by_year * self.model.discounts[: self.years] - self.model.problem.costs_of_years(self.years)
+        # Years after the last one that moves cost nothing.
+        until = np.append(0.0, earned.cumsum())[: int(np.flatnonzero(moves).max(initial=-1)) + 2]
+        return int(len(until) - 1 - until[::-1].argmax())
+
+    @property
     def moved(self) -> NDArray[np.float64]:
         """What is mined and fed by year, in rows: shape (rows, years)."""
         fed = [it.reshape(np.prod(it.shape[:2], dtype=int), self.years) for it in (self.fed, self.opened)]
@@ -201,9 +212,11 @@ def best(model: FlowModel, mined: NDArray[np.float64], fed_until: Optional[int] 
         If the run is interrupted.
     """
     programme = FlowProgramme(model, mined, fed_until=fed_until)
-    if not len(programme.gain):
-        return none_of(model, mined)
-    found = programme.solved()
+    return flows_of(model, mined, programme.solved()) if len(programme.gain) else none_of(model, mined)
+
+
+def flows_of(model: FlowModel, mined: NDArray[np.float64], found: FlowOptimum) -> Flows:
+    """Returns the flows of an optimum of what is mined."""
     empty = none_of(model, mined)
     empty.direct[model.direct.index] = found.direct
     empty.reclaimed[model.reclaimed.index] = found.reclaimed

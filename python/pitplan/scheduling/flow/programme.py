@@ -133,13 +133,15 @@ class FlowOptimum:
 class FlowProgramme:
     """The programme of a model; with `mined`, shape (benches, years), of what is mined already, so that only its flows are chosen. Without `paced` it
     has no rows that only schedules of whole benches must keep. With `between`, two arrays of shape (benches, years), at least and at most these shares
-    are mined by the end of each year. With `fed_until` processes take nothing after this year, from 1."""
+    are mined by the end of each year. With `fed_until` processes take nothing after this year, from 1. With `kept`, shape (unknowns,), the other unknowns
+    are 0."""
 
     model: FlowModel
     mined: Optional[NDArray[np.float64]] = None
     paced: bool = True
     between: Optional[tuple[NDArray[np.float64], NDArray[np.float64]]] = None
     fed_until: Optional[int] = None
+    kept: Optional[NDArray[np.bool_]] = None
 
     @property
     def years(self) -> int:
@@ -328,7 +330,7 @@ class FlowProgramme:
         found = self.able_to_flow
         if self.sizes[3] and not self.keeps_stock:
             found[sum(self.sizes[:3]) : sum(self.sizes[:4])].reshape(-1, self.years)[:, -1] = 0.0
-        return found
+        return found if self.kept is None else np.where(self.kept, found, 0.0)
 
     @property
     def able_to_flow(self) -> NDArray[np.float64]:
@@ -412,6 +414,12 @@ class FlowProgramme:
         whole, prices = np.zeros(len(unknowns)), np.zeros(len(rows))
         whole[unknowns], prices[rows] = found.unknowns, found.prices
         return self.optimum(whole, value, self.prices(prices))
+
+    def holding(self, optimum: FlowOptimum) -> NDArray[np.bool_]:
+        """Returns the flows that an optimum has, shape (unknowns,)."""
+        parts = [np.zeros(self.sizes[0]), optimum.direct, optimum.stocked, np.zeros(self.sizes[3])]
+        parts += [optimum.reclaimed, optimum.opened, optimum.dumped]
+        return np.concatenate([part.ravel() > 0 for part in parts])
 
     @property
     def first_limit(self) -> int:

@@ -4,7 +4,8 @@ from __future__ import annotations
 
 from collections.abc import Callable, Iterator
 from dataclasses import dataclass, replace
-from itertools import combinations
+from functools import cached_property
+from itertools import combinations, product
 from typing import Optional
 
 import numpy as np
@@ -21,6 +22,7 @@ from pitplan.scheduling.highs import Programme
 from pitplan.scheduling.highs_process import at_a_time, solve
 from pitplan.scheduling.limits import Prices
 
+from .bound import Lagrangian
 from .flows import Flows, best, richest_first
 from .material import FAR
 from .model import FlowModel, paying, started_rows
@@ -35,6 +37,8 @@ from .programme import FlowOptimum, FlowProgramme
 
 # Changes of one pushback's lead that are tried, the largest first; and how often in all.
 STEPS, MOST_TRIALS = (4, 2, 1), 80
+# Leads of all pushbacks that are tried over a grid, at most, if an order takes no long time to weigh.
+MOST_LEADS = 200
 # Shares of a bench that date it: it counts as mined in the year that completes the share. The expected year is another date.
 PARTS = (0.1, 0.5, 0.9)
 # A bench that the optimum mines less than this share is left.
@@ -50,13 +54,55 @@ class Ordered:
     leads: tuple[int, ...] = ()
 
 
+@dataclass(frozen=True)
+class OptimumPace:
+    """Orders of a large programme, mined at the pace of the optimum of the linear programme. They are worth what they earn at its prices of limits, which
+    none exceeds."""
+
+    model: FlowModel
+    optimum: FlowOptimum
+
+    @cached_property
+    def relaxation(self) -> Lagrangian:
+        return Lagrangian(FlowProgramme(self.model), self.optimum.prices)
+
+    @cached_property
+    def tonnes(self) -> NDArray[np.float64]:
+        """Total material by the end of each year, shape (years,)."""
+        return np.asarray(self.model.rock @ self.optimum.cumulative)
+
+    def mined(self, order: NDArray[np.int64]) -> NDArray[np.float64]:
+        return mined_at(self.model, order, self.tonnes)
+
+    def coarse(self, order: NDArray[np.int64]) -> Course:
+        return Course(float((self.relaxation.earned * self.mined(order)).sum()), self.tonnes)
+
+    @property
+    def different(self) -> list[NDArray[np.float64]]:
+        """Shares of benches by year of different orders, the best first: those of `orders_at`, and of leads over a grid."""
+        benches = self.model.benches
+        gaps = int(benches.pushback.max(initial=1)) - 1
+        count = int(MOST_LEADS ** (1 / max(gaps, 1)))
+        some = np.unique(np.linspace(leads(benches)[0], leads(benches)[-1], count).round().astype(np.int64)).tolist()
+        found = orders_at(self, self.optimum) + [ordered(self, it) for it in product(some, repeat=gaps)]
+        found.sort(key=lambda it: it.course.value, reverse=True)
+        shares = (self.mined(it.order) for it in found)
+        return list({np.round(it, 6).tobytes(): it for it in shares}.values())
+
+
+def mined_at(model: FlowModel, order: NDArray[np.int64], pace: NDArray[np.float64]) -> NDArray[np.float64]:
+    """Returns the shares of benches by year of an order at a pace, within the limits of mining."""
+    mining = Problem(model.benches, model.of_mining, model.problem.settings, model.problem.money)
+    return padded(mine_in_order(mining, BenchSequence(order, pace=pace), model.years), model.years)
+
+
 def order_by(benches: PushbackBenches, leads_of: tuple[int, ...]) -> NDArray[np.int64]:
     """Returns all benches, each pushback behind the one before by its own lead, in benches."""
     behind = np.append(0, np.cumsum(leads_of)).astype(np.int64)
     return np.lexsort((benches.pushback, benches.level + behind[benches.pushback - 1]))
 
 
-def by_one_lead(pacing: Pacing) -> list[Ordered]:
+def by_one_lead(pacing: Pacing | OptimumPace) -> list[Ordered]:
     """Returns the order of each lead that all pushbacks share, the best first."""
     benches = pacing.model.benches
     gaps = int(benches.pushback.max(initial=1)) - 1
@@ -64,12 +110,12 @@ def by_one_lead(pacing: Pacing) -> list[Ordered]:
     return sorted(found, key=lambda it: it.course.value, reverse=True)
 
 
-def ordered(pacing: Pacing, leads_of: tuple[int, ...]) -> Ordered:
+def ordered(pacing: Pacing | OptimumPace, leads_of: tuple[int, ...]) -> Ordered:
     order = order_by(pacing.model.benches, leads_of)
     return Ordered(order, pacing.coarse(order), leads_of)
 
 
-def improved_order(pacing: Pacing, start: Ordered) -> Ordered:
+def improved_order(pacing: Pacing | OptimumPace, start: Ordered) -> Ordered:
     """Returns the best order found by changing one lead at a time."""
     best, tried = start, {start.leads}
     for step in STEPS:
@@ -145,6 +191,9 @@ def whole_shares(cumulative: NDArray[np.float64], slight: float) -> NDArray[np.f
 
 # This many programmes are solved at most. They end when two in turn gain less than this share.
 PROGRAMMES, GAINED = 24, 1e-4
+# After the first of these large programmes, the others have the flows that earn at its prices nearly as much as the best ones of a parcel: less by this
+# share of what a tonne of ore earns.
+NEARLY = 0.05
 
 
 def improved_depths(model: FlowModel, mined: NDArray[np.float64], value: float) -> Optional[NDArray[np.float64]]:
@@ -158,13 +207,16 @@ def improved_depths(model: FlowModel, mined: NDArray[np.float64], value: float) 
     value : float
         The net present value of the schedule.
     """
-    found, idle = None, 0
+    found, idle, kept = None, 0, None
     for number in range(PROGRAMMES):
         least, most = around(model.benches, mined.cumsum(axis=1), deeper=number % 2 == 0)
+        programme = FlowProgramme(model, between=(least, most), kept=kept)
         try:
-            optimum = FlowProgramme(model, between=(least, most)).solved()
+            optimum = programme.solved()
         except PlanError:
             break
+        if programme.is_large:
+            kept = Lagrangian(programme, optimum.prices).near_best(NEARLY) | programme.holding(optimum)
         shares = whole_shares(np.clip(optimum.cumulative, least, most), SOLVER_SHARE)
         gained = optimum.value - value
         idle = 0 if gained > GAINED * abs(value) else idle + 1
@@ -210,7 +262,7 @@ def around(
 # Of more processes than these the mine is paced by each one alone or by all.
 MOST_PACING = 3
 # The flows are optimised for this number of the best orders; of large programmes for fewer, and with minimums, which any order may miss, for more.
-TRIED, TRIED_OF_LARGE, TRIED_WITH_MINIMUMS = 4, 2, 40
+TRIED, TRIED_OF_LARGE, TRIED_WITH_MINIMUMS = 4, 3, 40
 # Orders are compared with about MOST_KINDS kinds of ore at most, and COMPARED times as many of the best as are tried again with all bins, or of a large
 # programme with FINE_KINDS.
 MOST_KINDS, FINE_KINDS, COMPARED = 48, 96, 2
@@ -303,6 +355,12 @@ def by_rule(model: FlowModel, pace: Pace, years: Optional[int]) -> tuple[Flows, 
     return flows.cut(flows.last), lead
 
 
+def by_rule_with(rule: Flows, model: FlowModel) -> Flows:
+    """Returns the flows of the same mining for the parcels of a model without dumps."""
+    found = richest_first(replace(rule.model, ore=model.ore), padded(rule.mined, rule.model.years))
+    return found.cut(found.last)
+
+
 def dumped_by_rule(model: FlowModel, mined: NDArray[np.float64], mine_at: MineAt) -> Flows:
     """Returns the flows of what is mined with the richest ore first and waste on the cheapest dumps with room. Where none exists, less is mined;
     after SLOWER trials waste may still find none."""
@@ -355,6 +413,9 @@ def from_optimum(model: FlowModel, optimum: FlowOptimum, rule: Optional[Flows] =
 
 def made_of_orders(model: FlowModel, optimum: FlowOptimum) -> list[Flows]:
     """Returns the schedules of the best orders. Their programmes run at the same time, unless any order may miss minimums."""
+    if FlowProgramme(model).is_large and not model.asks_least and not model.waste.is_limited:
+        different = OptimumPace(model, optimum).different
+        return at_a_time(lambda shares: best(model, shares), different[:TRIED_OF_LARGE])
     tries = TRIED_OF_LARGE if FlowProgramme(model).is_large else TRIED
     found = orders_of(model, optimum, COMPARED * tries)
     if not model.asks_least:
@@ -380,19 +441,24 @@ def deepened(flows: Flows) -> Flows:
 def orders_of(model: FlowModel, optimum: FlowOptimum, compared: int) -> list[Ordered]:
     """Returns orders of benches, the best first: by leads, and as the optimum of the linear programme is expected to mine them. This many of the best
     are compared again with all bins."""
-    exact, pacing = pacing_of(model, optimum.prices), Pacing(model, optimum.prices, MOST_KINDS)
-    found = by_one_lead(pacing)
-    found.append(improved_order(pacing, found[0]))
-    seen = {tuple(it.order) for it in found}
-    for order in of_optimum(optimum.cumulative, model.benches):
-        if tuple(order) not in seen:
-            seen.add(tuple(order))
-            found.append(Ordered(order, pacing.coarse(order)))
-    found.sort(key=lambda it: it.course.value, reverse=True)
+    pacing = Pacing(model, optimum.prices, MOST_KINDS)
+    found, exact = orders_at(pacing, optimum), pacing_of(model, optimum.prices)
     if pacing.kinds == exact.kinds:
         return found
     again = [replace(it, course=exact.coarse(it.order)) for it in found[:compared]]
     return sorted(again, key=lambda it: it.course.value, reverse=True) + found[compared:]
+
+
+def orders_at(pacing: Pacing | OptimumPace, optimum: FlowOptimum) -> list[Ordered]:
+    """Returns orders of benches, the best first."""
+    found = by_one_lead(pacing)
+    found.append(improved_order(pacing, found[0]))
+    seen = {tuple(it.order) for it in found}
+    for order in of_optimum(optimum.cumulative, pacing.model.benches):
+        if tuple(order) not in seen:
+            seen.add(tuple(order))
+            found.append(Ordered(order, pacing.coarse(order)))
+    return sorted(found, key=lambda it: it.course.value, reverse=True)
 
 
 def cases_of_order(
@@ -401,10 +467,9 @@ def cases_of_order(
     """Yields the shares of benches by year of an order at its best pace, at the prices of the optimum; with minimums, stockpiles, dumps or blends, which
     this pace does not know, also at the pace of the optimum. With them it yields how the order is mined at another pace.
     """
-    mining = Problem(model.benches, model.of_mining, model.problem.settings, model.problem.money)
 
     def mine_at(pace: NDArray[np.float64]) -> NDArray[np.float64]:
-        return padded(mine_in_order(mining, BenchSequence(order, pace=pace), model.years), model.years)
+        return mined_at(model, order, pace)
 
     paces = [pacing_of(model, optimum.prices).best(order).tonnes]
     paces += [model.rock @ optimum.cumulative] if model.asks_ore or model.stockpiles or model.waste.is_limited else []
@@ -468,17 +533,20 @@ def ended(flows: Flows) -> Flows:
     """Returns the schedule up to the year with whose end it is worth most: the last, unless years cost more than they earn."""
     model = flows.model
     if model.problem.costs_of_years(model.years).any():
-        ends = [] if model.asks_least else [flows.until(year) for year in range(model.years, -1, -1)]
+        ends = [] if model.asks_least else [flows.until(flows.best_end)]
         flows = max([flows, *ends, *fed_sooner(flows)], key=lambda it: it.value)
     return flows.cut(flows.last)
 
 
 def fed_sooner(flows: Flows) -> list[Flows]:
     """Returns the best flows of the same mining that end in each year from the last on in which something is mined: ore that would be
-    reclaimed later leaves the stockpiles by then, or does not go there."""
+    reclaimed later leaves the stockpiles by then, or does not go there. Of a large programme only the best end of these flows is tried.
+    """
     model, mined = flows.model, padded(flows.mined, flows.model.years)
     last = int(np.flatnonzero(mined.any(axis=0)).max(initial=-1)) + 1
-    years = range(max(last, 1), flows.last) if model.stockpiles else ()
+    years = list(range(max(last, 1), flows.last)) if model.stockpiles else []
+    if FlowProgramme(model).is_large:
+        years = [year for year in years if year == flows.best_end]
     return [it for it in (feasible(model, mined, year) for year in years) if it is not None]
 
 
