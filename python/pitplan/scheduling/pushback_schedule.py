@@ -686,8 +686,11 @@ def in_finer_bins(schedule: PushbackSchedule, optimum: FlowOptimum, rules: Sched
 def with_material(schedule: PushbackSchedule, material: Material, rules: ScheduleRules) -> PushbackSchedule:
     """Returns the schedule with other parcels, and the rule's flows of these."""
     model = replace(schedule.model, ore=material.parcels)
-    most = periods_of(schedule.pushbacks.plan.project, rules)
-    flows = kept(scheduler.by_rule(model, pace_of(schedule), most)[0]) if schedule.flows else {}
+    most, flows = periods_of(schedule.pushbacks.plan.project, rules), dict[str, Flows]()
+    if RULE in schedule.flows and FlowProgramme(model).is_large and not model.waste.sets:
+        flows = {RULE: scheduler.by_rule_with(schedule.flows[RULE], model)}
+    elif schedule.flows:
+        flows = kept(scheduler.by_rule(model, pace_of(schedule), most)[0])
     return replace(schedule, material=material, model=model, flows=flows)
 
 

@@ -32,7 +32,7 @@ EXPECTED, MISSES = 0.2, 2
 # multiples of the value it is at most FARTHEST, since larger prices lose the digits of the bound.
 BY_PRICE, LONGER, SHORTER, STRETCHES, FARTHEST = 10.0, 1.5, 0.6, (0.05, 50.0), 100.0
 # The greatest number of planes, and of times that the box is made wider at the end.
-MOST_PLANES, MOST_AGAIN = 150, 12
+MOST_PLANES, MOST_AGAIN = 90, 12
 
 
 @dataclass(frozen=True)
