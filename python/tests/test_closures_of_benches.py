@@ -28,7 +28,10 @@ def test_shares_by_hand():
 def test_the_closures_of_all_levels_are_the_optimum_of_the_linear_programme(seed):
     draw = np.random.default_rng(seed)
     count = int(draw.integers(1, 30))
-    pairs = [(low, high) for low in range(count) for high in range(low) if draw.random() < 0.2]
+    # A year without mining capacity makes two shares at most each other.
+    equal = {(low, low - 1) for low in range(1, count) if draw.random() < 0.1}
+    pairs = [(low, high) for low in range(count) for high in range(low) if (low, high) in equal or draw.random() < 0.2]
+    pairs += [(high, low) for low, high in equal]
     precedences = precedences_of(rows_of(pairs, count))
     gain, most = draw.normal(0.2, 1, count) * 1e8, draw.choice([0.0, 0.25, 0.4, 1.0], count)
     found, programme = best_shares(gain, precedences, most), by_programme(gain / 1e8, precedences, most)

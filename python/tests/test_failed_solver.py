@@ -8,7 +8,7 @@ from helpers.benches import benches_of
 
 from pitplan import PlanError
 from pitplan.config.material import Dump
-from pitplan.scheduling.flow import material, model
+from pitplan.scheduling.flow import closures, material, model
 
 FAILED = SimpleNamespace(status=4, message="Numerical difficulties encountered.", x=None, fun=None)
 
@@ -25,6 +25,8 @@ def test_waste_without_a_solution_is_an_error_with_the_status(monkeypatch):
 
 
 def test_benches_without_a_closure_are_an_error_with_the_status(monkeypatch):
-    monkeypatch.setattr(model, "linprog", lambda *args, **options: FAILED)
-    with pytest.raises(PlanError, match="HiGHS found no closure of benches that pay: status 4: Numerical"):
+    """Without the library HiGHS finds closures."""
+    monkeypatch.setattr(closures, "linprog", lambda *args, **options: FAILED)
+    monkeypatch.setattr(closures.library, "package", lambda: None)
+    with pytest.raises(PlanError, match="HiGHS found no closure of benches: status 4: Numerical"):
         model.paying(np.array([1.0, -1.0]), benches_of((1, 0, 100, 0, 1), (1, 1, 100, 0, -1)))

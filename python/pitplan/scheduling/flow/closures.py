@@ -6,6 +6,7 @@ import numpy as np
 from numpy.typing import NDArray
 from scipy.optimize import linprog
 from scipy.sparse import csr_matrix, eye
+from scipy.sparse.csgraph import connected_components
 
 from pitplan.core.tolerances import SUM_ERROR
 from pitplan.scheduling.highs_process import demand_solved
@@ -37,6 +38,9 @@ def best_shares(gain: NDArray[np.float64], precedences: csr_matrix, most: NDArra
         See `precedences_of`.
     most : array, shape (unknowns,)
     """
+    count, part = connected_components(precedences, connection="strong")
+    if count < len(gain):
+        return in_parts(gain, precedences, most, part)[part]
     unit = float(np.abs(gain).max(initial=0.0)) or 1.0
     pitshell = library.package()
     if pitshell is None:
@@ -49,6 +53,20 @@ def best_shares(gain: NDArray[np.float64], precedences: csr_matrix, most: NDArra
         result += (level - below) * closure.in_pit
         below = level
     return result
+
+
+def in_parts(
+    gain: NDArray[np.float64], precedences: csr_matrix, most: NDArray[np.float64], part: NDArray[np.int64]
+) -> NDArray[np.float64]:
+    """Returns the shares of parts, shape (parts,); `part` has that of each unknown. Unknowns that are at most each other, as in a year without mining
+    capacity, are one part: they are equal."""
+    of_parts, pairs = np.full(int(part.max()) + 1, np.inf), precedences.tocoo()
+    np.minimum.at(of_parts, part, most)
+    row, column = part[pairs.row], part[pairs.col]
+    apart = row != column
+    places = row[apart], column[apart]
+    between = csr_matrix((np.ones(int(apart.sum()), dtype=bool), places), shape=(len(of_parts), len(of_parts)))
+    return best_shares(np.bincount(part, gain), between, of_parts)
 
 
 def by_programme(gain: NDArray[np.float64], precedences: csr_matrix, most: NDArray[np.float64]) -> NDArray[np.float64]:
