@@ -66,7 +66,7 @@ def in_parts(
     apart = row != column
     places = row[apart], column[apart]
     between = csr_matrix((np.ones(int(apart.sum()), dtype=bool), places), shape=(len(of_parts), len(of_parts)))
-    return best_shares(np.bincount(part, gain), between, of_parts)
+    return best_shares(np.bincount(part, gain).astype(np.float64), between, of_parts)
 
 
 def by_programme(gain: NDArray[np.float64], precedences: csr_matrix, most: NDArray[np.float64]) -> NDArray[np.float64]:
