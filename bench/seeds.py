@@ -33,8 +33,8 @@ def counted(program: Path, mine: kit.Mine) -> list[float]:
     """How many mergers and relabels the program makes for each block."""
     stats = kit.WORK / "stats.txt"
     timed([program, "solve", "--model", mine.model, "--prec", mine.prec, "--stats", stats])
-    told = dict(line.split(": ", 1) for line in stats.read_text().splitlines() if ": " in line)
-    return [int(told[word]) / kit.count_of(mine) for word in ("MERGERS", "RELABELS")]
+    counts = dict(line.split(": ", 1) for line in stats.read_text().splitlines() if ": " in line)
+    return [int(counts[word]) / kit.count_of(mine) for word in ("MERGERS", "RELABELS")]
 
 
 def measured(program: Path, other: Path, mine: kit.Mine, limit: int) -> Timed:

@@ -32,8 +32,8 @@ def compiled_and_run() -> None:
     pit, log = OUT / "pit.txt", OUT / "try.log"
     print("compiling the program without proofs: two or three minutes", flush=True)
     began, waited = time.monotonic(), 0
-    with open(pit, "wb") as writes, open(log, "wb") as tells:
-        process = subprocess.Popen(command, cwd=TOP / "crates/pitshell", stdout=writes, stderr=tells)
+    with open(pit, "wb") as writes, open(log, "wb") as errors:
+        process = subprocess.Popen(command, cwd=TOP / "crates/pitshell", stdout=writes, stderr=errors)
         while process.poll() is None:
             time.sleep(0.2)
             if time.monotonic() - began > waited + PAUSE:
@@ -49,8 +49,8 @@ def compiled_and_run() -> None:
 
 def summary(text: str) -> str:
     """Returns the size and the value of a pit, from its text."""
-    told = dict(line.split(": ", 1) for line in text.splitlines() if ": " in line)
-    return f"a pit of {int(told['IN']):,} blocks of {int(told['BLOCKS']):,}, worth {told['WORTH']}"
+    fields = dict(line.split(": ", 1) for line in text.splitlines() if ": " in line)
+    return f"a pit of {int(fields['IN']):,} blocks of {int(fields['BLOCKS']):,}, worth {fields['WORTH']}"
 
 
 def solvers() -> Iterator[str]:
